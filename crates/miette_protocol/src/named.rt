@@ -5,7 +5,7 @@ ghost use Rattle.std.specs.Prelude.{◌≡◌, Some, None, IfOk, if◌then◌els
 use crate::contents::MietteSpanContents;
 use crate::protocol::SourceSpan;
 use crate::source_code::{ReadResult, SourceCode};
-use miette_source_lines::near::KnownLine;
+use miette_source_lines::near::KnownLines;
 use std::alloc::{AllocError, Global};
 
 /// A source with a name, and with a language where one is given. All else is the inner source's, its
@@ -117,7 +117,7 @@ impl<S: SourceCode> SourceCode for NamedSource<S> {
 
     fn read_span_near(
         &self,
-        known: KnownLine,
+        known: KnownLines,
         span: &SourceSpan,
         before: usize,
         after: usize,

@@ -58,7 +58,8 @@ fn ends_in_block(bytes: &[u8], from: usize) -> u8
 pub(crate) fn ends_between(bytes: &[u8], from: usize, to: usize) -> usize
     requires order { from ≤ to }
     requires within { to ≤ length bytes.now }
-    ensures { line_of bytes.now from + result ≡ line_of bytes.now to }
+    ensures count { line_of bytes.now from + result ≡ line_of bytes.now to }
+    ensures few { result ≤ to - from }
 {
     let mut ends = 0;
     let mut at = from;
@@ -132,7 +133,8 @@ pub fn start_before(bytes: &[u8], offset: usize, lines: usize) -> (usize, usize)
     (0, passed)
 }
 
-/// Where the line ends that stands `lines` after an offset's line, and the number of that end's line.
+/// Where the line ends that stands `lines` after an offset's line, and the number of that end's line. No more lines are
+/// left than bytes: of as many or more all are counted in blocks.
 #[tactic(auto, using(crate::proofs::Places::scan_steps))]
 pub(crate) fn end_after(bytes: &[u8], offset: usize, line: usize, lines: usize) -> (usize, usize)
     requires within { offset ≤ length bytes.now }
@@ -140,6 +142,10 @@ pub(crate) fn end_after(bytes: &[u8], offset: usize, line: usize, lines: usize) 
     ensures end { result.0 ≡ line_end bytes.now (line + lines) }
     ensures line { result.1 ≡ line_of bytes.now result.0 }
 {
+    if lines >= bytes.len() - offset {
+        let ends = ends_between(bytes, offset, bytes.len());
+        return (bytes.len(), line + ends);
+    }
     let mut line = line;
     let mut left = lines;
     let mut from = offset;

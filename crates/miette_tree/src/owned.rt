@@ -6,7 +6,7 @@ ghost use Rattle.miette_protocol.specs.rules.Outcome.{Answers};
 ghost use Rattle.miette_source_lines.specs.views.Known.{IsKnown};
 
 use miette_protocol::protocol::SourceSpan;
-use miette_protocol::source::{IndexedSource, KnownLine, NamedSource, ReadResult, SourceCode};
+use miette_protocol::source::{IndexedSource, KnownLines, NamedSource, ReadResult, SourceCode};
 use std::alloc::{AllocError, Global};
 use std::rc::Rc;
 
@@ -89,7 +89,7 @@ impl SourceCode for OwnedSource {
 
     fn read_span_near(
         &self,
-        known: KnownLine,
+        known: KnownLines,
         span: &SourceSpan,
         before: usize,
         after: usize,
@@ -137,15 +137,16 @@ impl<'a, S: SourceCode> SourceRef<'a, S> {
         }
     }
 
-    /// The same, where the line of an offset is known.
+    /// The same, where the lines of two offsets are known.
     pub fn read_span_near(
         self,
-        known: KnownLine,
+        known: KnownLines,
         span: &SourceSpan,
         before: usize,
         after: usize,
     ) -> ReadResult<'a>
-        requires { IsKnown (shown_source S.source self.entry).bytes known }
+        requires first { IsKnown (shown_source S.source self.entry).bytes known.first }
+        requires last { IsKnown (shown_source S.source self.entry).bytes known.last }
         ensures { Answers (shown_source S.source self.entry) span.now before after result }
     {
         match self.place {
@@ -167,7 +168,7 @@ impl<'a, S: SourceCode> SourceCode for SourceRef<'a, S> {
 
     fn read_span_near(
         &self,
-        known: KnownLine,
+        known: KnownLines,
         span: &SourceSpan,
         before: usize,
         after: usize,
