@@ -78,10 +78,10 @@ impl<S> NamedSource<S> {
     ghost use Rattle.miette_protocol.specs.views.Named.{name_of, given_language};
 
     // Contents of the source inside, with the name and the language of this one.
-    fn named<'a>(&'a self, inner: MietteSpanContents<'a>) -> MietteSpanContents<'a>
-        ensures { result ≡ record inner {
+    fn named<'a>(&'a self, inner: &MietteSpanContents<'a>) -> MietteSpanContents<'a>
+        ensures { result ≡ record inner.now {
           name = Some (name_of self.now);
-          language = if is_some (given_language self.now) then given_language self.now else inner.language;
+          language = if is_some (given_language self.now) then given_language self.now else inner.now.language;
         } }
     {
         let named = MietteSpanContents::new_named(
@@ -112,7 +112,7 @@ impl<S: SourceCode> SourceCode for NamedSource<S> {
 
     fn read_span(&self, span: &SourceSpan, before: usize, after: usize) -> ReadResult<'_> {
         let contents = self.source.read_span(span, before, after)?;
-        Ok(self.named(contents))
+        Ok(self.named(&contents))
     }
 
     fn read_span_near(
@@ -123,6 +123,6 @@ impl<S: SourceCode> SourceCode for NamedSource<S> {
         after: usize,
     ) -> ReadResult<'_> {
         let contents = self.source.read_span_near(known, span, before, after)?;
-        Ok(self.named(contents))
+        Ok(self.named(&contents))
     }
 }

@@ -33,8 +33,8 @@ pub trait SourceCode: Drop {
     fn read_span(&self, span: &SourceSpan, before: usize, after: usize) -> ReadResult<'_>
         ensures { Answers (source self.now) span.now before after result };
 
-    /// The same, where the lines of two offsets are known: a source without an index counts lines from these on or back,
-    /// and not from its start. Contents tell where they begin, for the next read.
+    /// The same, where the lines of two offsets are known: a source without an index counts lines from these on or
+    /// back, and not from its start. Contents tell where they begin, for the next read.
     ///
     /// # Errors
     /// As those of `read_span`.
