@@ -103,10 +103,8 @@ impl FindLines for Near<'_> {
     #[tactic(auto, using(crate::proofs::Places::scan_steps))]
     fn start_before(&self, offset: usize, lines: usize) -> (usize, usize) {
         let (start, passed) = start_before(self.bytes, offset, lines);
-        (
-            start,
-            line_near(self.bytes, self.known.first, start) + passed,
-        )
+        let line = line_near(self.bytes, self.known.first, start);
+        (start, line + passed)
     }
 
     fn end_after(&self, offset: usize, line: usize, lines: usize) -> (usize, usize) {
