@@ -1,6 +1,7 @@
 //! Lines of bytes, found by scans.
 
-ghost use Rattle.std.specs.Prelude.{◌≡◌, ◌+◌, ◌-◌, ◌<◌, ◌≤◌, IsNone, IfSome, length, slice_index};
+ghost use Rattle.std.specs.Prelude.{◌≡◌, ◌+◌, ◌-◌, ◌<◌, ◌≤◌, ◌==◌, IsNone, IfSome, length, slice_index};
+ghost use Rattle.std.specs.Prelude.{if◌then◌else◌};
 ghost use Rattle.miette_source_lines.specs.rules.Lines.{ends_line, line_of, line_start, line_end};
 
 use crate::find::FindLines;
@@ -53,7 +54,58 @@ fn ends_in_block(bytes: &[u8], from: usize) -> u8
     ends
 }
 
-/// How many terminators end between two offsets.
+/// 1 for a byte that is sought, 0 for others.
+#[inline(always)]
+fn count_if(byte: u8, sought: u8) -> u8
+    ensures { result ≡ (if byte == sought then 1 else 0) }
+{
+    if byte == sought { 1 } else { 0 }
+}
+
+/// How many terminators end in a block of bytes, which is not the last of the bytes, where these are LF alone; none
+/// where there is a CR. No byte is compared with the one behind it.
+fn feeds_in_block(bytes: &[u8], from: usize) -> Option<u8>
+    requires { from + 224 < length bytes.now }
+    ensures count { IfSome result (λ feeds. line_of bytes.now from + feeds ≡ line_of bytes.now (from + 224)) }
+    ensures few { IfSome result (λ feeds. feeds ≤ 224) }
+{
+    let mut feeds = 0u8;
+    let mut returns = 0u8;
+    for at in from..from + BLOCK {
+        let feed = count_if(bytes[at], b'\n');
+        let back = count_if(bytes[at], b'\r');
+        feeds += feed;
+        returns += back;
+    }
+    if returns > 0 {
+        return None;
+    }
+    Some(feeds)
+}
+
+/// How far blocks without CR go between two offsets, and how many terminators end in them.
+#[tactic(auto, using(crate::proofs::Places::scan_steps))]
+fn pass_feeds(bytes: &[u8], from: usize, to: usize) -> (usize, usize)
+    requires order { from ≤ to }
+    requires within { to ≤ length bytes.now }
+    ensures behind { from ≤ result.0 }
+    ensures before { result.0 ≤ to }
+    ensures count { line_of bytes.now from + result.1 ≡ line_of bytes.now result.0 }
+    ensures few { result.1 ≤ result.0 - from }
+{
+    let mut ends = 0;
+    let mut at = from;
+    while to - at > BLOCK {
+        let Some(feeds) = feeds_in_block(bytes, at) else {
+            return (at, ends);
+        };
+        ends += usize::from(feeds);
+        at += BLOCK;
+    }
+    (at, ends)
+}
+
+/// How many terminators end between two offsets. Behind the first block with a CR, each may have one.
 #[tactic(auto, using(crate::proofs::Places::scan_steps))]
 pub(crate) fn ends_between(bytes: &[u8], from: usize, to: usize) -> usize
     requires order { from ≤ to }
@@ -61,8 +113,9 @@ pub(crate) fn ends_between(bytes: &[u8], from: usize, to: usize) -> usize
     ensures count { line_of bytes.now from + result ≡ line_of bytes.now to }
     ensures few { result ≤ to - from }
 {
-    let mut ends = 0;
-    let mut at = from;
+    let (passed, feeds) = pass_feeds(bytes, from, to);
+    let mut ends = feeds;
+    let mut at = passed;
     while to - at > BLOCK {
         ends += usize::from(ends_in_block(bytes, at));
         at += BLOCK;
