@@ -1,15 +1,16 @@
 //! The source of a description, with an index of its lines where reads are many.
 
-ghost use Rattle.std.specs.Prelude.{◌≡◌, Some, None, IfOk, is_some, option_map};
+ghost use Rattle.std.specs.Prelude.{◌≡◌, Some, None, IfOk, is_some, nat_lt, option_map};
 ghost use Rattle.std.specs.Option.{option_copied};
+ghost use Rattle.serde_json.specs.Find.{as_array};
 ghost use Rattle.miette_protocol.specs.rules.Reading.{plain_source, named_source};
 ghost use Rattle.miette_tree.specs.views.Owned.{owned_source};
 ghost use Rattle.miette_description.specs.rules.Members.{at_key, optional_value, source_of};
-ghost use Rattle.miette_description.specs.steps.OftenRead.{is_read_often};
+ghost use Rattle.miette_description.specs.steps.OftenRead.{is_read_often, items_at, items_in};
 ghost use Rattle.miette_description.specs.steps.ParsedValues.{value_data};
 
 use crate::error::{BuildError, Built};
-use crate::json_values::member_at;
+use crate::json_values::{list_in, member_at};
 use crate::members::{needed_text_at, text_at};
 use crate::parts::described;
 use json::Value;
@@ -26,12 +27,45 @@ fn has(value: &Value<'_>, key: &str) -> bool
     }
 }
 
-/// Whether the source of a description is read for more than its labels: for related reports, a cause, or fixes, which
-/// may lie anywhere in it.
-fn is_read_often(value: &Value<'_>) -> bool
+/// How many items something has, if it is a list.
+fn items_in(found: &Value<'_>) -> usize
+    ensures { result ≡ items_in (as_array (value_data found.now)) }
+{
+    match list_in(found) {
+        Some(list) => list.len(),
+        None => 0,
+    }
+}
+
+/// How many items the list has that stands at a key.
+fn items_at(value: &Value<'_>, key: &str) -> usize
+    ensures { result ≡ items_at (at_key key.now (value_data value.now)) }
+{
+    match member_at(value, key) {
+        Some(found) => items_in(found),
+        None => 0,
+    }
+}
+
+/// Whether a list of more than so many items stands at a key.
+fn has_more(value: &Value<'_>, key: &str, few: usize) -> bool
+    ensures { result ≡ nat_lt few (items_at (at_key key.now (value_data value.now))) }
+{
+    items_at(value, key) > few
+}
+
+/// Labels that are read without an index: each looks at its own lines, and all at those before once.
+const FEW: usize = 4;
+
+/// Whether the source of a description is read often: for many labels, which may share a long line, and for related
+/// reports, a cause, or fixes, which may lie anywhere in it.
+pub(crate) fn is_read_often(value: &Value<'_>) -> bool
     ensures { result ≡ is_read_often (value_data value.now) }
 {
-    has(value, "related") || has(value, "cause") || has(value, "fixes")
+    has_more(value, "labels", FEW)
+        || has_more(value, "related", 0)
+        || has(value, "cause")
+        || has_more(value, "fixes", 0)
 }
 
 /// Bytes without a name as a source.

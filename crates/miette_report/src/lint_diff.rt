@@ -15,7 +15,7 @@ ghost use Rattle.miette_devices.specs.views.Endings.{IsFailure, IsFound};
 ghost use Rattle.miette_report.specs.views.LintReports.{warning, IsClean, IsDiffed, LintDiffs, LintDiffsText};
 
 use crate::lint::{LintForm, LintWords, diagnostic, is_clean};
-use crate::picture::{draw, indexed_report};
+use crate::picture::{draw, report};
 use miette::error::RenderError;
 use miette::protocol::{Diagnostic, LabeledSpan};
 use miette::report::Report;
@@ -55,7 +55,7 @@ fn report_with_fix<D: Diagnostic, S: SourceCode>(
 {
     let fix = joint_proposal(alloc, input.as_slice(), found.len())?;
     let diagnostic = diagnostic(alloc, found)?;
-    indexed_report(alloc, name, diagnostic, input)?.with_fix(alloc, fix)
+    report(alloc, name, diagnostic, input)?.with_fix(alloc, fix)
 }
 
 // The picture for what is found in the input, with one fix of all that is proposed: nothing where nothing is found.

@@ -24,22 +24,8 @@ use std::alloc::{AllocError, Global};
 // How many columns a row may have.
 const WIDTH: usize = 80;
 
-// The report of a diagnostic over the input under its name.
-fn report<D: Diagnostic, S: SourceCode>(
-    alloc: Global,
-    name: &str,
-    diagnostic: MietteDiagnostic,
-    input: Vec<u8>,
-) -> Result<Report<D, S>, AllocError>
-    ensures { IfOk result (λ it. tree_of D.meaning S.source it
-        ≡ over_input name.now (meaning_of diagnostic) input.items) }
-{
-    let source = OwnedSource::named(alloc, name, None, input)?;
-    Ok(Report::built(diagnostic).with_owned_source(source))
-}
-
-/// The same, with an index of the lines: for more than the reads of its labels.
-pub(crate) fn indexed_report<D: Diagnostic, S: SourceCode>(
+/// The report of a diagnostic over the input under its name, with an index of the lines.
+pub(crate) fn report<D: Diagnostic, S: SourceCode>(
     alloc: Global,
     name: &str,
     diagnostic: MietteDiagnostic,

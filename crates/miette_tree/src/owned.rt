@@ -52,8 +52,9 @@ enum Held {
 
 /// A source that owns its bytes. What it keeps lies in a place of its own, so that a report that holds it, or none, is
 /// small, and that reports over one file can share it. It always reads. Without an index it counts lines for each read:
-/// the labels of one report by one pass up to the last of them. An index (`indexed`) is one pass over all bytes, and
-/// finds any line: it pays where many reports lie over a source.
+/// the labels of one report by one pass up to the last of them, where each goes through its own lines. An index
+/// (`indexed`) is one pass over all bytes, and finds any line: it pays where several reports lie over a source, or one
+/// has fixes or many labels.
 #[derive(Drop)]
 pub struct OwnedSource {
     held: Rc<Held>,
