@@ -57,21 +57,25 @@ fn ends_in_block(bytes: &[u8], from: usize) -> u8
 /// 1 for a byte that is sought, 0 for others.
 #[inline(always)]
 fn count_if(byte: u8, sought: u8) -> u8
-    ensures { result ≡ (if byte == sought then 1 else 0) }
+    ensures count { result ≡ (if byte == sought then 1 else 0) }
+    ensures few { result ≤ 1 }
 {
     if byte == sought { 1 } else { 0 }
 }
 
-/// How many terminators end in a block of bytes, which is not the last of the bytes, where these are LF alone; none
-/// where there is a CR. No byte is compared with the one behind it.
-fn feeds_in_block(bytes: &[u8], from: usize) -> Option<u8>
-    requires { from + 224 < length bytes.now }
-    ensures count { IfSome result (λ feeds. line_of bytes.now from + feeds ≡ line_of bytes.now (from + 224)) }
-    ensures few { IfSome result (λ feeds. feeds ≤ 224) }
+/// How many terminators end between two offsets of a block, where these are LF alone; none where there is a CR. No byte
+/// is compared with the one behind it.
+#[inline(always)]
+fn feeds_between(bytes: &[u8], from: usize, to: usize) -> Option<u8>
+    requires order { from ≤ to }
+    requires within { to ≤ length bytes.now }
+    requires block { to - from ≤ 224 }
+    ensures count { IfSome result (λ feeds. line_of bytes.now from + feeds ≡ line_of bytes.now to) }
+    ensures few { IfSome result (λ feeds. feeds ≤ to - from) }
 {
     let mut feeds = 0u8;
     let mut returns = 0u8;
-    for at in from..from + BLOCK {
+    for at in from..to {
         let feed = count_if(bytes[at], b'\n');
         let back = count_if(bytes[at], b'\r');
         feeds += feed;
@@ -83,7 +87,7 @@ fn feeds_in_block(bytes: &[u8], from: usize) -> Option<u8>
     Some(feeds)
 }
 
-/// How far blocks without CR go between two offsets, and how many terminators end in them.
+/// How far bytes without CR go between two offsets, in blocks, and how many terminators end in them.
 #[tactic(auto, using(crate::proofs::Places::scan_steps))]
 fn pass_feeds(bytes: &[u8], from: usize, to: usize) -> (usize, usize)
     requires order { from ≤ to }
@@ -96,13 +100,16 @@ fn pass_feeds(bytes: &[u8], from: usize, to: usize) -> (usize, usize)
     let mut ends = 0;
     let mut at = from;
     while to - at > BLOCK {
-        let Some(feeds) = feeds_in_block(bytes, at) else {
+        let Some(feeds) = feeds_between(bytes, at, at + BLOCK) else {
             return (at, ends);
         };
         ends += usize::from(feeds);
         at += BLOCK;
     }
-    (at, ends)
+    match feeds_between(bytes, at, to) {
+        Some(feeds) => (to, ends + usize::from(feeds)),
+        None => (at, ends),
+    }
 }
 
 /// How many terminators end between two offsets. Behind the first block with a CR, each may have one.
