@@ -11,8 +11,12 @@ pub record HasFeeds (bytes : List ℕ) (from at feeds returns : ℕ) : Type 0 wh
   pub few : feeds ≤ at - from
   pub fewer : returns ≤ at - from
 
-pub none_yet : (bytes : List ℕ) (from : ℕ) → HasFeeds bytes from from 0 0
-none_yet bytes from = record { count = λ e. omega arith; few = omega arith; fewer = omega arith }
+pub none_yet : (bytes : List ℕ) (from at : ℕ) → at ≡ from → HasFeeds bytes from at 0 0
+none_yet bytes from at e = record {
+  count = λ none. omega (arith, ap (line_of bytes) e);
+  few = omega arith;
+  fewer = omega arith;
+}
 
 feed_ends : (b next : ℕ) → b ≡ 10 → ends_line b next ≡ true
 unfolding ends_line
@@ -44,14 +48,14 @@ step bytes at feed back f b none =
           omega (arith, zero, same))
     ]
 
-pub one_more : (bytes : List ℕ) (from at feeds returns feed back : ℕ) → from ≤ at
+pub one_more : (bytes : List ℕ) (from at next feeds returns feed back : ℕ) → next ≡ at + 1 → from ≤ at
     → HasFeeds bytes from at feeds returns → feed ≡ cond (slice_index bytes at == 10) 1 0
-    → back ≡ cond (slice_index bytes at == 13) 1 0 → HasFeeds bytes from (at + 1) (feeds + feed) (returns + back)
-one_more bytes from at feeds returns feed back le h f b = record {
+    → back ≡ cond (slice_index bytes at == 13) 1 0 → HasFeeds bytes from next (feeds + feed) (returns + back)
+one_more bytes from at next feeds returns feed back is le h f b = record {
   count = λ (e : returns + back ≡ 0).
       let was : line_of bytes from + feeds ≡ line_of bytes at = h.count (omega (arith, e)) in
       let now : line_of bytes (at + 1) ≡ line_of bytes at + feed = step bytes at feed back f b (omega (arith, e)) in
-      omega (arith, was, now);
-  few = omega (arith, h.few, le, most (slice_index bytes at == 10) feed f);
-  fewer = omega (arith, h.fewer, le, most (slice_index bytes at == 13) back b);
+      omega (arith, was, now, ap (line_of bytes) is);
+  few = omega (arith, h.few, le, is, most (slice_index bytes at == 10) feed f);
+  fewer = omega (arith, h.fewer, le, is, most (slice_index bytes at == 13) back b);
 }

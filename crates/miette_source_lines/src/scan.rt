@@ -64,7 +64,7 @@ fn count_if(byte: u8, sought: u8) -> u8
 }
 
 /// How many terminators end between two offsets of a block, where these are LF alone; none where there is a CR. No byte
-/// is compared with the one behind it.
+/// is compared with the one behind it. Of a whole block the compiler sees how many bytes there are.
 #[inline(always)]
 fn feeds_between(bytes: &[u8], from: usize, to: usize) -> Option<u8>
     requires order { from ≤ to }
@@ -75,9 +75,9 @@ fn feeds_between(bytes: &[u8], from: usize, to: usize) -> Option<u8>
 {
     let mut feeds = 0u8;
     let mut returns = 0u8;
-    for at in from..to {
-        let feed = count_if(bytes[at], b'\n');
-        let back = count_if(bytes[at], b'\r');
+    for i in 0..to - from {
+        let feed = count_if(bytes[from + i], b'\n');
+        let back = count_if(bytes[from + i], b'\r');
         feeds += feed;
         returns += back;
     }
