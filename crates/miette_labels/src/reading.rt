@@ -106,7 +106,7 @@ pub fn read_labels<'a, S: SourceCode>(
         let lines = lines_around(context, own, label);
         match source.read_span_near(known, label.inner(), lines, lines) {
             Ok(contents) => {
-                known = contents.begin();
+                known = contents.known();
                 reads.push(ReadLabel {
                     index: turn.index,
                     span: *label.inner(),

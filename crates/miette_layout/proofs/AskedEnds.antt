@@ -151,12 +151,12 @@ asked n labels =
       | inl lt ↦ and_left _ _ (and_right (ltb 0 n) _ (ne_eqb last n (λ e. omega (arith, e, lt))))
           ∙ sym (and_right (some_shows_end 1 n labels) _ (ap not (any_beyond n labels ∙ lt-ltb n last lt)))
       | inr le ↦ elim (cases_lt last n) [
-          | inl lt ↦ and_left _ _ (and_right (ltb 0 n) _ (ne_eqb last n (λ e. omega (arith, e, lt))))
-              ∙ sym (and_left _ _ (none_at n (λ l. ltb 0 (lines_around 1 labels l)) labels lt))
-          | inr ge ↦ asked_here n last labels (omega (arith, le, ge))
-              ∙ sym (ap (λ b. some_shows_end 1 n labels && not b) (any_beyond n labels ∙ le-ltb n last le)
-              ∙ and_true (some_shows_end 1 n labels))
-        ]
+        | inl lt ↦ and_left _ _ (and_right (ltb 0 n) _ (ne_eqb last n (λ e. omega (arith, e, lt))))
+            ∙ sym (and_left _ _ (none_at n (λ l. ltb 0 (lines_around 1 labels l)) labels lt))
+        | inr ge ↦ asked_here n last labels (omega (arith, le, ge))
+            ∙ sym (ap (λ b. some_shows_end 1 n labels && not b) (any_beyond n labels ∙ le-ltb n last le)
+            ∙ and_true (some_shows_end 1 n labels))
+      ]
     ]
 
 under : (fails x y z : Bool) → (x && y) ≡ z → ((not fails && x) && y) ≡ (not fails && z)

@@ -5,7 +5,7 @@ ghost use Rattle.std.specs.Option.{option_copied};
 ghost use Rattle.miette_protocol.specs.rules.Reading.{Contents};
 
 use crate::protocol::SourceSpan;
-use miette_source_lines::near::KnownLine;
+use miette_source_lines::near::{KnownLine, KnownLines};
 use std::alloc::AllocError;
 use std::marker::Model;
 
@@ -159,6 +159,19 @@ impl<'a> MietteSpanContents<'a> {
         KnownLine {
             offset: self.span.offset(),
             line: self.line,
+        }
+    }
+
+    /// The same, for a read near them.
+    pub fn known(&self) -> KnownLines
+        ensures offset { result.first.offset ≡ self.now.span.offset }
+        ensures line { result.first.line ≡ self.now.line }
+        ensures last { result.last ≡ result.first }
+    {
+        let begin = self.begin();
+        KnownLines {
+            first: begin,
+            last: begin,
         }
     }
 

@@ -5,7 +5,7 @@ ghost use Rattle.std.specs.Prelude.{◌≡◌, Some, None, IfOk, if◌then◌els
 use crate::contents::MietteSpanContents;
 use crate::protocol::SourceSpan;
 use crate::source_code::{ReadResult, SourceCode};
-use miette_source_lines::near::KnownLine;
+use miette_source_lines::near::KnownLines;
 use std::alloc::{AllocError, Global};
 
 /// A source with a name, and with a language where one is given. All else is the inner source's, its
@@ -78,10 +78,10 @@ impl<S> NamedSource<S> {
     ghost use Rattle.miette_protocol.specs.views.Named.{name_of, given_language};
 
     // Contents of the source inside, with the name and the language of this one.
-    fn named<'a>(&'a self, inner: MietteSpanContents<'a>) -> MietteSpanContents<'a>
-        ensures { result ≡ record inner {
+    fn named<'a>(&'a self, inner: &MietteSpanContents<'a>) -> MietteSpanContents<'a>
+        ensures { result ≡ record inner.now {
           name = Some (name_of self.now);
-          language = if is_some (given_language self.now) then given_language self.now else inner.language;
+          language = if is_some (given_language self.now) then given_language self.now else inner.now.language;
         } }
     {
         let named = MietteSpanContents::new_named(
@@ -112,17 +112,17 @@ impl<S: SourceCode> SourceCode for NamedSource<S> {
 
     fn read_span(&self, span: &SourceSpan, before: usize, after: usize) -> ReadResult<'_> {
         let contents = self.source.read_span(span, before, after)?;
-        Ok(self.named(contents))
+        Ok(self.named(&contents))
     }
 
     fn read_span_near(
         &self,
-        known: KnownLine,
+        known: KnownLines,
         span: &SourceSpan,
         before: usize,
         after: usize,
     ) -> ReadResult<'_> {
         let contents = self.source.read_span_near(known, span, before, after)?;
-        Ok(self.named(contents))
+        Ok(self.named(&contents))
     }
 }

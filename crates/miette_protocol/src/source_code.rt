@@ -10,7 +10,7 @@ use crate::error::MietteError;
 use crate::find;
 use crate::protocol::SourceSpan;
 use miette_source_lines::indexed::IndexedSource;
-use miette_source_lines::near::{KnownLine, Near, START};
+use miette_source_lines::near::{KnownLines, Near, START};
 
 /// What a read of a span answers.
 pub type ReadResult<'a> = Result<MietteSpanContents<'a>, MietteError>;
@@ -33,19 +33,20 @@ pub trait SourceCode: Drop {
     fn read_span(&self, span: &SourceSpan, before: usize, after: usize) -> ReadResult<'_>
         ensures { Answers (source self.now) span.now before after result };
 
-    /// The same, where the line of an offset is known: a source without an index counts lines on from there, or back.
-    /// Contents tell where they begin, so that a read near another one can be told.
+    /// The same, where the lines of two offsets are known: a source without an index counts lines from these on or
+    /// back, and not from its start. Contents tell where they begin, for the next read.
     ///
     /// # Errors
     /// As those of `read_span`.
     fn read_span_near(
         &self,
-        known: KnownLine,
+        known: KnownLines,
         span: &SourceSpan,
         before: usize,
         after: usize,
     ) -> ReadResult<'_>
-        requires { IsKnown (source self.now).bytes known }
+        requires first { IsKnown (source self.now).bytes known.first }
+        requires last { IsKnown (source self.now).bytes known.last }
         ensures { Answers (source self.now) span.now before after result }
     {
         let _known = known;
@@ -53,15 +54,16 @@ pub trait SourceCode: Drop {
     }
 }
 
-/// Reads a span of bytes, whose lines are found by a scan from an offset whose line is known.
+/// Reads a span of bytes, whose lines are found by a scan from two offsets whose lines are known.
 fn read_bytes<'a>(
     bytes: &'a [u8],
-    known: KnownLine,
+    known: KnownLines,
     span: &SourceSpan,
     before: usize,
     after: usize,
 ) -> ReadResult<'a>
-    requires { IsKnown bytes.now known }
+    requires first { IsKnown bytes.now known.first }
+    requires last { IsKnown bytes.now known.last }
     ensures { Answers (plain_source bytes.now) span.now before after result }
 {
     find::read(&Near::new(bytes, known), bytes, span, before, after)
@@ -77,7 +79,7 @@ impl SourceCode for &[u8] {
 
     fn read_span_near(
         &self,
-        known: KnownLine,
+        known: KnownLines,
         span: &SourceSpan,
         before: usize,
         after: usize,
@@ -96,7 +98,7 @@ impl SourceCode for Vec<u8> {
 
     fn read_span_near(
         &self,
-        known: KnownLine,
+        known: KnownLines,
         span: &SourceSpan,
         before: usize,
         after: usize,
@@ -115,7 +117,7 @@ impl SourceCode for &str {
 
     fn read_span_near(
         &self,
-        known: KnownLine,
+        known: KnownLines,
         span: &SourceSpan,
         before: usize,
         after: usize,
@@ -134,7 +136,7 @@ impl SourceCode for String {
 
     fn read_span_near(
         &self,
-        known: KnownLine,
+        known: KnownLines,
         span: &SourceSpan,
         before: usize,
         after: usize,
@@ -162,7 +164,7 @@ impl SourceCode for Box<dyn SourceCode> {
 
     fn read_span_near(
         &self,
-        known: KnownLine,
+        known: KnownLines,
         span: &SourceSpan,
         before: usize,
         after: usize,

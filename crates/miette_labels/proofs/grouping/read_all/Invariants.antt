@@ -5,5 +5,6 @@ use Rattle.miette_labels.proofs.grouping.read_all.Given as goal
 abbrev pub invariant-loop-span : goal.invariant-loop-span
 invariant-loop-span g l = record {
   reads : AreReadTo (g.S.SourceCode.source l.source) l.spans l.span-index l.groups.items;
-  known : IsKnown (g.S.SourceCode.source l.source).bytes l.known;
+  first : IsKnown (g.S.SourceCode.source l.source).bytes l.known.first;
+  last : IsKnown (g.S.SourceCode.source l.source).bytes l.known.last;
 }
