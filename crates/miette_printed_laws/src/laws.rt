@@ -24,10 +24,10 @@ ghost use Rattle.miette_style.specs.rules.Themes.{Styles};
 ghost use Rattle.miette_runs.specs.rules.Sequences.{erase};
 ghost use Rattle.miette_text.specs.laws.Tame.{IsTame};
 
-use miette_fix_laws::laws::{fix_rows_fade, fix_rows_hold_no_escape, frames_show_the_context};
 use miette_diff_laws::laws::{
     a_diff_has_the_applied_text, a_diff_has_the_source, changes_are_trimmed, frames_stand_in_a_diff,
 };
+use miette_fix_laws::laws::{fix_rows_fade, fix_rows_hold_no_escape, frames_show_the_context};
 use miette_layout::laws::{
     cut_lines_are_parted, cut_rows_are_narrow, ends_are_drawn, groups_are_ranges,
     left_out_lines_are_inside, lines_are_cut_by_reach, lines_that_fit_stay, marks_are_apart,

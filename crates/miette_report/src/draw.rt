@@ -12,12 +12,12 @@ ghost use Rattle.miette_report.specs.views.DrawReports.{draw_request, drawn_labe
 ghost use Rattle.miette_devices.specs.rules.Faults.{status_of};
 ghost use Rattle.miette_report.specs.rules.Words.{AreDrawWords, IsNoDrawCall};
 
-use miette_devices::device::Device;
 use miette::diagnostic::MietteDiagnostic;
 use miette::error::RenderError;
 use miette::protocol::{Diagnostic, LabeledSpan};
 use miette::report::Report;
 use miette::source::{NamedSource, SourceCode};
+use miette_devices::device::Device;
 /// An earlier name of `Fault`.
 pub use miette_devices::fault::Fault as DrawError;
 use miette_devices::fault::{Fault, Program};

@@ -60,11 +60,7 @@ pub(crate) fn load_held<F: Loader>(
 ///
 /// # Errors
 /// `AllocError` where memory is refused.
-pub fn load_all<F: Loader>(
-    alloc: Global,
-    files: &mut F,
-    row: &Value,
-) -> Result<(), AllocError>
+pub fn load_all<F: Loader>(alloc: Global, files: &mut F, row: &Value) -> Result<(), AllocError>
     ensures known { OnOk result (All (F.knows files.new) (all_names (view row.now))) }
     ensures goes { Goes (F.found files.old) (F.knows files.old) (F.found files.new) (F.knows files.new) }
 {
