@@ -1,4 +1,4 @@
--- Bytes that are no LF or CR, seen a block at a time by a mask of those that are.
+-- Bytes before the first one that a test holds of, LF or CR say, seen a block at a time by a mask of those it holds of.
 use Rattle.std.proofs.Common.{◌≡◌, ℕ, ◌+◌, ◌*◌, ◌%◌, ◌^◌, ◌<◌, ◌≤◌, Bool, true, false, not, ◌||◌, cond, eqb}
 use Rattle.std.proofs.Common.{List, [], ◌∷◌, Some, None, map, length, drop, replicate, refl, sym, ap, ap₂, ◌∙◌, arith}
 use Rattle.std.proofs.Common.{bit_or, get_or}
@@ -8,8 +8,8 @@ use Rattle.std.proofs.lemmas.Simd.{zip2_of_maps, mask_l-mod}
 use Rattle.std.proofs.lemmas.List.{length-map}
 use Rattle.std.proofs.lemmas.List.Folds.{prefix_len-append}
 use Rattle.std.proofs.lemmas.List.Sums.{prefix_len-le-length, prefix_len_passes, prefix_len_stops}
-use Rattle.std.proofs.lemmas.Bool.{eq-eqb, ne_eqb, not-true}
-use Rattle.memchr.specs.Find.{IsFirstByte, NoneBefore, Nowhere, Passes, is_byte2}
+use Rattle.std.proofs.lemmas.Bool.{eq-eqb, ne_eqb}
+use Rattle.memchr.specs.Find.{IsFirstByte, Nowhere, Passes, is_byte2}
 use lib.Lanes.{chunk, zip2, mask_l, top}
 use lib.Count.{count_trailing_zeros}
 
@@ -43,40 +43,54 @@ breaks_mask v long =
     ap (λ l. mask_l (map (top 7) l) % 2 ^ 64) lanes ∙ ap (λ l. mask_l l % 2 ^ 64) (each_lane v)
     ∙ mask_l-mod (map is_break v) 64 (omega (arith, length-map v is_break, long))
 
--- ---- what the mask of a block says of the bytes before the first break
+-- ---- what the mask of a block says of the bytes before the first one that a test holds of
 
 no_mask : (b : Bool) (n l m : ℕ) → n ≤ l → cond (not b) (1 + n) 0 ≡ 1 + l → (n ≡ l → m ≡ 0) → cond b 1 0 + 2 * m ≡ 0
 no_mask true n l m le e f = absurd (omega (arith, e))
 no_mask false n l m le e f = let none = f (omega (arith, e)) in omega (arith, none)
 
-all_plain : (xs : List ℕ) → prefix_len is_plain xs ≡ length xs → mask_l (map is_break xs) ≡ 0
-all_plain [] e = refl
-all_plain (x ∷ xs) e =
-    no_mask (is_break x) (prefix_len is_plain xs) (length xs) (mask_l (map is_break xs))
-    (prefix_len-le-length is_plain xs) (omega (arith, e)) (all_plain xs)
+-- how many stand before it, or at all
+abbrev len_before : (ℕ → Bool) → List ℕ → ℕ
+len_before p = prefix_len (λ b. not (p b))
 
-split : (d : List ℕ) (i n : ℕ) → prefix_len is_plain (drop i d)
-    ≡ cond (eqb (prefix_len is_plain (chunk i n d)) (length (chunk i n d)))
-    (length (chunk i n d) + prefix_len is_plain (drop (i + n) d)) (prefix_len is_plain (chunk i n d))
-split d i n = ap (prefix_len is_plain) (chunk-drop i n d) ∙ prefix_len-append is_plain (chunk i n d) (drop (i + n) d)
+all_before : (p : ℕ → Bool) (xs : List ℕ) → len_before p xs ≡ length xs → mask_l (map p xs) ≡ 0
+all_before p [] e = refl
+all_before p (x ∷ xs) e =
+    no_mask (p x) (len_before p xs) (length xs) (mask_l (map p xs)) (prefix_len-le-length (λ b. not (p b)) xs)
+    (omega (arith, e)) (all_before p xs)
+
+split : (p : ℕ → Bool) (d : List ℕ) (i n : ℕ) → len_before p (drop i d)
+    ≡ cond (eqb (len_before p (chunk i n d)) (length (chunk i n d)))
+    (length (chunk i n d) + len_before p (drop (i + n) d)) (len_before p (chunk i n d))
+split p d i n =
+    ap (len_before p) (chunk-drop i n d) ∙ prefix_len-append (λ b. not (p b)) (chunk i n d) (drop (i + n) d)
+
+-- so many bytes were passed, each of which passes a test
+abbrev pub HasPassed : (ℕ → Bool) → List ℕ → ℕ → Type 0
+HasPassed q d i = record { within : i ≤ length d; told : i + prefix_len q (drop i d) ≡ prefix_len q d }
 
 -- a block without one is passed
-pub passed : (d : List ℕ) (i n : ℕ) → i + n ≤ length d → mask_l (map is_break (chunk i n d)) ≡ 0
-    → prefix_len is_plain (drop i d) ≡ n + prefix_len is_plain (drop (i + n) d)
-passed d i n room none =
+pub passed : (p : ℕ → Bool) (d : List ℕ) (i n mask : ℕ) → i + n ≤ length d → mask ≡ mask_l (map p (chunk i n d))
+    → mask ≡ 0 → HasPassed (λ b. not (p b)) d i → HasPassed (λ b. not (p b)) d (i + n)
+passed p d i n mask room is none h =
     let c = chunk i n d in
-    let more = prefix_len is_plain (drop (i + n) d) in
-    split d i n ∙ ap (λ b. cond b (length c + more) (prefix_len is_plain c))
-    (eq-eqb _ _ (leading_from_mask_l is_break c none)) ∙ ap (λ k. k + more) (length-chunk i n d room)
+    let more = len_before p (drop (i + n) d) in
+    let run : len_before p (drop i d) ≡ n + more = split p d i n ∙ ap (λ b. cond b (length c + more) (len_before p c))
+    (eq-eqb _ _ (leading_from_mask_l p c (sym is ∙ none))) ∙ ap (λ k. k + more) (length-chunk i n d room) in
+    record { within = room; told = omega (arith, run, h.told) }
 
 -- in another one the lowest bit is that of the first
-pub stopped : (d : List ℕ) (i n : ℕ) → i + n ≤ length d → n ≤ 64 → 0 < mask_l (map is_break (chunk i n d))
-    → prefix_len is_plain (drop i d) ≡ count_trailing_zeros 64 (mask_l (map is_break (chunk i n d)))
-stopped d i n room short some =
+pub stopped : (p : ℕ → Bool) (d : List ℕ) (i n mask : ℕ) → i + n ≤ length d → n ≤ 64
+    → mask ≡ mask_l (map p (chunk i n d)) → 0 < mask → HasPassed (λ b. not (p b)) d i
+    → i + count_trailing_zeros 64 mask ≡ len_before p d
+stopped p d i n mask room short is some h =
     let c = chunk i n d in
-    split d i n ∙ ap (λ b. cond b (length c + prefix_len is_plain (drop (i + n) d)) (prefix_len is_plain c))
-    (ne_eqb _ _ (λ (e : prefix_len is_plain c ≡ length c). omega (arith, all_plain c e, some)))
-    ∙ sym (trailing_mask_l is_break 64 c (omega (arith, length-chunk i n d room)) some)
+    let own : 0 < mask_l (map p c) = omega (arith, is, some) in
+    let run : len_before p (drop i d) ≡ count_trailing_zeros 64 mask =
+    split p d i n ∙ ap (λ b. cond b (length c + len_before p (drop (i + n) d)) (len_before p c))
+    (ne_eqb _ _ (λ (e : len_before p c ≡ length c). omega (arith, all_before p c e, own)))
+    ∙ sym (ap (count_trailing_zeros 64) is ∙ trailing_mask_l p 64 c (omega (arith, length-chunk i n d room)) own) in
+    omega (arith, run, h.told)
 
 -- ---- the first of all
 
