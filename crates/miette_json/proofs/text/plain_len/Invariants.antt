@@ -1,22 +1,16 @@
-use Rattle.std.proofs.Common.{◌≡◌, ◌+◌, ◌-◌, ◌≤◌, length, drop}
-use Rattle.std.specs.List.{prefix_len}
+use Rattle.std.proofs.Common.{◌-◌, length}
 use Rattle.miette_json.specs.steps.EscapedBytes.{is_plain}
+use Rattle.miette_source_lines.proofs.Blocks.{HasPassed}
 use Rattle.miette_json.proofs.text.plain_len.Given as goal
 
 abbrev pub invariant-loop-len : goal.invariant-loop-len
-invariant-loop-len l = record {
-  within : l.len ≤ length l.bytes;
-  told : l.len + prefix_len is_plain (drop l.len l.bytes) ≡ prefix_len is_plain l.bytes;
-}
+invariant-loop-len l = HasPassed is_plain l.bytes l.len
 
 abbrev pub decreases-loop-len : goal.decreases-loop-len
 decreases-loop-len l = length l.bytes - l.len
 
 abbrev pub invariant-loop-len-2 : goal.invariant-loop-len-2
-invariant-loop-len-2 l = record {
-  within : l.len ≤ length l.bytes;
-  told : l.len + prefix_len is_plain (drop l.len l.bytes) ≡ prefix_len is_plain l.bytes;
-}
+invariant-loop-len-2 l = HasPassed is_plain l.bytes l.len
 
 abbrev pub decreases-loop-len-2 : goal.decreases-loop-len-2
 decreases-loop-len-2 l = length l.bytes - l.len
