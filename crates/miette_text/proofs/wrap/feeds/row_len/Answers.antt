@@ -1,16 +1,16 @@
-use Rattle.std.proofs.Common.{◌∙◌, ap, sym, arith}
-use lib.Count.{count_trailing_zeros}
-use Rattle.miette_text.proofs.FeedBlocks.{passed, stopped}
+use Rattle.std.proofs.Common.{arith}
+use Rattle.miette_runs.specs.rules.Sequences.{is_line_feed}
+use Rattle.miette_source_lines.proofs.Blocks.{passed, stopped}
 use Rattle.miette_text.proofs.wrap.feeds.row_len.Goals as goal
 
 pub returns-then-feeds-ne0 : goal.returns-then-feeds-ne0
 returns-then-feeds-ne0 c =
-    let feeds = c.feeds_in-feeds.ensures in
-    let run = stopped c.args.bytes.now c.loop-len.len 16 (omega arith) (omega arith) (omega (arith, feeds))
-    ∙ ap (count_trailing_zeros 64) (sym feeds) in
-    omega (arith, run, c.loop-len.invariant.told)
+    let first = stopped is_line_feed c.args.bytes.now c.loop-len.len 16 c.feeds_in-feeds.result (omega arith)
+    (omega arith) c.feeds_in-feeds.ensures (omega arith) c.loop-len.invariant
+    in
+    omega (arith, first)
 
 pub loop-len-preserved : goal.loop-len-preserved
 loop-len-preserved c =
-    let run = passed c.args.bytes.now c.loop-len.len 16 (omega arith) (omega (arith, c.feeds_in-feeds.ensures)) in
-    record { within = omega arith; told = omega (arith, run, c.loop-len.invariant.told) }
+    passed is_line_feed c.args.bytes.now c.loop-len.len 16 c.feeds_in-feeds.result (omega arith)
+    c.feeds_in-feeds.ensures (omega arith) c.loop-len.invariant
