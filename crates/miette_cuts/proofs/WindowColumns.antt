@@ -7,11 +7,14 @@ use Rattle.std.specs.List.{list_any}
 use Rattle.std.specs.List.Sorted.{IsNonDecreasing}
 use Rattle.miette_basics.proofs.Cases.{by_cases}
 use Rattle.miette_cells.specs.declared.cells.PlainCells.{PlainCells}
-use Rattle.miette_cells.specs.rules.Cells.{Cell}
+use Rattle.miette_cells.specs.rules.Cells.{Cell, characters}
+use Rattle.miette_cells.specs.rules.Widths.{width_of}
 use Rattle.miette_cells.specs.views.Printable.{plain_cells}
 use Rattle.miette_cells.specs.views.Walking.{ComeFirst}
 use Rattle.miette_snippet_rules.specs.rules.CutLines.{is_within}
-use Rattle.miette_snippet_rules.proofs.CutColumns.{AreColumns}
+use Rattle.miette_snippet_rules.proofs.CutColumns.{AreColumns, columns_from as cells_stand}
+use Rattle.miette_snippet_rules.specs.declared.line_text.LineText.{LineText}
+use Rattle.miette_snippet_rules.specs.views.LineTexts.{text_cells}
 use Rattle.miette_cuts.specs.declared.counting.Count.{Count}
 use Rattle.miette_cuts.specs.declared.nearness.Room.{Room}
 use Rattle.miette_cuts.specs.declared.window.Window.{Window}
@@ -24,9 +27,15 @@ use Rattle.miette_cuts.proofs.NearEnds.{none_within}
 
 -- ---- cells one behind the other
 
-pub stand_from : (column : ℕ) (cells : List Cell) → AreColumns column cells → StandFrom column cells
+stand_from : (column : ℕ) (cells : List Cell) → AreColumns column cells → StandFrom column cells
 stand_from column [] h = tt
 stand_from column (c ∷ cs) h = (h.0, h.1, stand_from c.until cs h.2)
+
+-- those of a text
+pub text_stands : (text : LineText) (cells : List Cell) → cells ≡ text_cells text → StandFrom 0 cells
+text_stands text cells is =
+    subst (λ (cs : List Cell). StandFrom 0 cs) (sym is) (stand_from 0 (text_cells text)
+    (cells_stand width_of text.tab false text.start 0 (characters text.bytes.now)))
 
 -- behind cells of printable ASCII
 plain_stand : (column start from : ℕ) (bytes : List ℕ) (later : List Cell)

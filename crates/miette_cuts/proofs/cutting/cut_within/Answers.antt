@@ -1,15 +1,11 @@
-use Rattle.std.proofs.Common.{◌∙◌, List, ℕ, ap, false, map, subst, sym}
-use Rattle.miette_cells.specs.rules.Cells.{Cell, characters}
-use Rattle.miette_cells.specs.rules.Widths.{width_of}
-use Rattle.miette_snippet_rules.proofs.CutColumns.{columns_from as cells_stand}
+use Rattle.std.proofs.Common.{◌∙◌, List, ℕ, ap, map}
 use Rattle.miette_snippet_rules.specs.rules.CutLines.{cut_to}
 use Rattle.miette_snippet_rules.specs.rules.PrintedCells.{cells_width}
 use Rattle.miette_snippet_rules.specs.views.Cuts.{measure}
 use Rattle.miette_snippet_rules.specs.views.LineTexts.{text_cells}
-use Rattle.miette_cuts.specs.steps.Windows.{StandFrom}
 use Rattle.miette_cuts.proofs.NearEnds.{ends_ascend}
 use Rattle.miette_cuts.proofs.Reaching.{cut_is, cut_none, cut_to_moved}
-use Rattle.miette_cuts.proofs.WindowColumns.{stand_from}
+use Rattle.miette_cuts.proofs.WindowColumns.{text_stands}
 use Rattle.miette_cuts.proofs.cutting.cut_within.Goals as goal
 
 pub returns : goal.returns
@@ -20,14 +16,11 @@ returns c =
     c.if-most-width.false
 
 pub cut_around-requires : goal.cut_around-requires
-cut_around-requires c =
-    let text = c.args.text.now in
-    record {
-      stands = subst (λ (cs : List Cell). StandFrom 0 cs) (sym c.new-walk.ensures) (stand_from 0 (text_cells text)
-          (cells_stand width_of text.tab false text.start 0 (characters text.bytes.now)));
-      ascending = ends_ascend c.sort_unstable.new.self.items c.deref.result.now c.deref.ensures.value
-          c.sort_unstable.ensures.sorted;
-    }
+cut_around-requires c = record {
+  stands = text_stands c.args.text.now c.new-walk.result c.new-walk.ensures;
+  ascending = ends_ascend c.sort_unstable.new.self.items c.deref.result.now c.deref.ensures.value
+      c.sort_unstable.ensures.sorted;
+}
 
 pub returns-then-most-width : goal.returns-then-most-width
 returns-then-most-width c =

@@ -1,24 +1,17 @@
-use Rattle.std.proofs.Common.{◌∙◌, List, ℕ, ap, false, subst, sym}
-use Rattle.miette_cells.specs.rules.Cells.{Cell, characters}
-use Rattle.miette_cells.specs.rules.Widths.{width_of}
+use Rattle.std.proofs.Common.{◌∙◌, List, ℕ, ap}
 use Rattle.miette_snippet_rules.specs.rules.CutLines.{reach_at}
-use Rattle.miette_snippet_rules.proofs.CutColumns.{columns_from as cells_stand}
-use Rattle.miette_cuts.specs.steps.Windows.{StandFrom}
 use Rattle.miette_snippet_rules.specs.views.LineTexts.{text_cells}
 use Rattle.miette_cuts.proofs.NearEnds.{ends_ascend}
 use Rattle.miette_cuts.proofs.Reaching.{reach_at_moved}
-use Rattle.miette_cuts.proofs.WindowColumns.{stand_from}
+use Rattle.miette_cuts.proofs.WindowColumns.{text_stands}
 use Rattle.miette_cuts.proofs.cutting.reach_of_ends.Goals as goal
 
 pub room_for-requires : goal.room_for-requires
-room_for-requires c =
-    let text = c.args.text.now in
-    record {
-      stands = subst (λ (cs : List Cell). StandFrom 0 cs) (sym c.new-walk.ensures) (stand_from 0 (text_cells text)
-          (cells_stand width_of text.tab false text.start 0 (characters text.bytes.now)));
-      ascending = ends_ascend c.sort_unstable.new.self.items c.deref.result.now c.deref.ensures.value
-          c.sort_unstable.ensures.sorted;
-    }
+room_for-requires c = record {
+  stands = text_stands c.args.text.now c.new-walk.result c.new-walk.ensures;
+  ascending = ends_ascend c.sort_unstable.new.self.items c.deref.result.now c.deref.ensures.value
+      c.sort_unstable.ensures.sorted;
+}
 
 pub returns : goal.returns
 returns c =
