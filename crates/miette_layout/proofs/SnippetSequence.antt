@@ -242,6 +242,16 @@ none_refused_here context source labels reads order h =
     none_refused source.bytes [] (in_order labels) tt (subst (λ (ls : List Label). AreAccepted source.bytes ls) order
     (all_accepted context source labels reads h))
 
+-- the answers where every label is accepted
+abbrev answered : List Bool → List Bool → List (List (List Highlight)) → Answers
+answered joins places pieces = record {
+  end_fails = false;
+  label_fails = [];
+  join_fails = joins;
+  place_fails = places;
+  pieces = pieces;
+}
+
 -- all snippets were drawn
 pub gives_rows : (s : SnippetSettings) (source : Source) (labels : List Label) (blank : Bool)
     (happen : List Call → Type 0) (reads : List ReadLabel) (groups : List Group) (before page : Printout)
@@ -255,13 +265,7 @@ pub gives_rows : (s : SnippetSettings) (source : Source) (labels : List Label) (
 gives_rows s source labels blank happen reads groups before page order h g e =
     let ls : List Label = in_order labels in
     let s' : SnippetSettings = settings_around s ls in
-    let answers : Answers = record {
-      end_fails = false;
-      label_fails = [];
-      join_fails = g.fails;
-      place_fails = [];
-      pieces = e.pieces;
-    } in
+    let answers : Answers = answered g.fails [] e.pieces in
     let spans : List Span = groups_of s.layout.context_lines source g.fails ls in
     record {
       answers = answers;
@@ -305,13 +309,7 @@ pub gives_none : (s : SnippetSettings) (source : Source) (labels : List Label) (
 gives_none s source labels blank happen own reads groups i span found before order h g lt p u =
     let ls : List Label = in_order labels in
     let s' : SnippetSettings = settings_around s ls in
-    let answers : Answers = record {
-      end_fails = false;
-      label_fails = [];
-      join_fails = g.fails;
-      place_fails = fails_at i;
-      pieces = [];
-    } in
+    let answers : Answers = answered g.fails (fails_at i) [] in
     let spans : List Span = groups_of s.layout.context_lines source g.fails ls in
     let failed : source.always_reads ≡ false = unread_fails s.layout.context_lines source labels own span reads found h
     p u in
@@ -341,13 +339,7 @@ pub gives_unread : (s : SnippetSettings) (source : Source) (labels : List Label)
 gives_unread s source labels blank happen reads before order h g =
     let ls : List Label = in_order labels in
     let s' : SnippetSettings = settings_around s ls in
-    let answers : Answers = record {
-      end_fails = false;
-      label_fails = [];
-      join_fails = g.fails;
-      place_fails = [];
-      pieces = [];
-    } in
+    let answers : Answers = answered g.fails [] [] in
     let spans : List Span = groups_of s.layout.context_lines source g.fails ls in
     record {
       answers = answers;
