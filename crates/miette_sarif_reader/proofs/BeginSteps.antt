@@ -1,36 +1,12 @@
 -- Bytes that begin no sequence.
-use Rattle.std.proofs.Common.{◌≡◌, ℕ, zero, suc, ◌+◌, ◌<◌, ◌≤◌, Bool, true, false, List, [], ◌∷◌, None, Some, find}
-use Rattle.std.proofs.Common.{drop, get_or, length, map, take, eqb-true, arith, refl, sym, ap, ap₂, ◌∙◌}
+use Rattle.std.proofs.Common.{◌≡◌, ℕ, zero, suc, ◌+◌, ◌≤◌, Bool, true, false, List, [], ◌∷◌, None, Some, find}
+use Rattle.std.proofs.Common.{drop, length, eqb-true, arith, refl, ap, ◌∙◌}
 use Rattle.std.specs.Prelude.{◌&&◌, if◌then◌else◌, nat_eq, slice_index}
 use Rattle.std.specs.List.{list_all}
 use Rattle.std.proofs.lemmas.Bool.{and_parts, false_from_ne_true}
-use Rattle.std.proofs.lemmas.List.{map-append}
-use Rattle.std.proofs.lemmas.List.Folds.{list_all-append}
 use Rattle.memchr.specs.Find.{IsFirstByte}
-use Rattle.miette_readers.proofs.Steps.{next_taken}
-use Rattle.miette_sarif_reader.proofs.Kept.{and_no}
 use Rattle.miette_sarif_reader.specs.rules.Newlines.{end_size, one_more, size_of, stands_in, text_size}
 use Rattle.miette_sarif_reader.specs.views.Begins.{IsNoneBefore, begins_by}
-
--- ---- each of a list passes a test, by what is seen of it
-
-pub all_seen : {V W : Type 0} (look : V → W) (p : W → Bool) (xs : List V) (i : ℕ) (x : V) → i < length xs
-    → x ≡ get_or xs i x → p (look x) ≡ true → list_all p (map look (take i xs)) ≡ true
-    → list_all p (map look (take (i + 1) xs)) ≡ true
-all_seen look p xs i x h is yes before =
-    ap (λ l. list_all p (map look l)) (next_taken xs i x h is)
-    ∙ ap (list_all p) (map-append look (take i xs) (x ∷ []))
-    ∙ list_all-append p (map look (take i xs)) (look x ∷ []) ∙ ap₂ (λ a b. a && (b && true)) before yes
-
-pub not_all_seen : {V W : Type 0} (look : V → W) (p : W → Bool) (xs : List V) (i : ℕ) (x : V) → i < length xs
-    → x ≡ get_or xs i x → p (look x) ≡ false → list_all p (map look xs) ≡ false
-not_all_seen look p [] i x h is no = absurd (omega (arith, h))
-not_all_seen look p (y ∷ ys) zero x h is no =
-    ap (λ z. p (look z) && list_all p (map look ys)) (sym is) ∙ ap (λ b. b && list_all p (map look ys)) no
-not_all_seen look p (y ∷ ys) (suc i) x h is no =
-    ap (λ b. p (look y) && b) (not_all_seen look p ys i x (omega (arith, h)) is no) ∙ and_no (p (look y))
-
--- ---- sequences that begin with bytes of a test
 
 module _ (test : ℕ → Bool) where
   differ : (x b : ℕ) (t : Bool) (rest : Bool) → nat_eq x b ≡ t → test x ≡ true → test b ≡ false → (t && rest) ≡ false

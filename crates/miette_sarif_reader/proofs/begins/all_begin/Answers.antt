@@ -4,7 +4,7 @@ use Rattle.std.specs.List.{list_all}
 use Rattle.memchr.specs.Find.{is_byte3}
 use Rattle.miette_readers.specs.views.Values.{texts}
 use Rattle.miette_sarif_reader.specs.views.Begins.{begins_by}
-use Rattle.miette_sarif_reader.proofs.BeginSteps.{all_seen, not_all_seen}
+use Rattle.miette_readers.proofs.Steps.{all_more, not_all}
 use Rattle.miette_sarif_reader.proofs.begins.all_begin.Goals as goal
 
 pub returns-then-not-begins_by : goal.returns-then-not-begins_by
@@ -13,7 +13,7 @@ returns-then-not-begins_by c =
     let x = c.sequence-item.result in
     let test = begins_by (is_byte3 c.args.one c.args.two c.args.three) in
     let no : test x.now ≡ false = search rules in
-    sym (not_all_seen (λ (v : Bor (List ℕ)). v.now) test c.args.newlines.now l.sequence-index x
+    sym (not_all (λ (v : Bor (List ℕ)). v.now) test c.args.newlines.now l.sequence-index x
     c.loop-sequence-test.true c.sequence-item.is no)
 
 pub loop-sequence-preserved : goal.loop-sequence-preserved
@@ -22,8 +22,8 @@ loop-sequence-preserved c =
     let x = c.sequence-item.result in
     let test = begins_by (is_byte3 c.args.one c.args.two c.args.three) in
     let yes : test x.now ≡ true = search rules in
-    all_seen (λ (v : Bor (List ℕ)). v.now) test c.args.newlines.now l.sequence-index x c.loop-sequence-test.true
-    c.sequence-item.is yes l.invariant
+    all_more (λ (v : Bor (List ℕ)). v.now) c.args.newlines.now l.sequence-index x c.loop-sequence-test.true
+    c.sequence-item.is test l.invariant yes
 
 pub returns : goal.returns
 returns c =
