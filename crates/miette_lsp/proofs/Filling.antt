@@ -1,6 +1,6 @@
 -- Lists of values that a loop fills, and objects of two members.
-use Rattle.std.proofs.Common.{◌≡◌, ℕ, ◌+◌, ◌<◌, ◌≤◌, List, [], ◌∷◌, ◌++◌, ◌∙◌, ap, append-nil, append_assoc, drop, get_or}
-use Rattle.std.proofs.Common.{length, map, sym}
+use Rattle.std.proofs.Common.{◌≡◌, ℕ, ◌+◌, ◌<◌, ◌≤◌, List, [], ◌∷◌, ◌++◌, ◌∙◌, ap, append-nil, append_assoc}
+use Rattle.std.proofs.Common.{drop, get_or, length, map, sym}
 use Rattle.std.proofs.lemmas.List.{drop_all}
 use Rattle.miette_json.specs.rules.Json.{Json}
 use Rattle.miette_sarif.specs.rules.Objects.{Pairs, object_of, pair}

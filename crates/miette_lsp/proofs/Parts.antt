@@ -1,6 +1,6 @@
 -- Texts and members, one behind the other.
-use Rattle.std.proofs.Common.{Vec, Global, ◌≡◌, List, [], ◌∷◌, ℕ, ◌++◌, ap, ap₂, refl, sym, ◌∙◌, append_assoc, append-nil}
-use Rattle.std.proofs.Common.{Bool, true, false, length}
+use Rattle.std.proofs.Common.{Vec, Global, ◌≡◌, List, [], ◌∷◌, ℕ, ◌++◌, ap, ap₂, refl, sym, ◌∙◌, append_assoc}
+use Rattle.std.proofs.Common.{append-nil, Bool, true, false, length}
 use Rattle.std.specs.Prelude.{Option, Result, IfOk, codes, ◌==◌}
 use denote.Ref.{Bor}
 use Rattle.miette_json.specs.rules.Json.{Json, string}

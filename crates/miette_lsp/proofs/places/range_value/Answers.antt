@@ -7,4 +7,5 @@ use Rattle.miette_lsp.proofs.places.range_value.Goals as goal
 pub returns : goal.returns
 returns c =
     two_members _ _ _ _ (codes "start") (codes "end") _ _ _ _ c.object_value.ensures c.in_ok-members-2.ensures
-    c.in_ok-members.ensures (ap pairs_of c.new.ensures.items) c.in_ok-position_value.ensures c.in_ok-position_value-2.ensures
+    c.in_ok-members.ensures (ap pairs_of c.new.ensures.items) c.in_ok-position_value.ensures
+    c.in_ok-position_value-2.ensures

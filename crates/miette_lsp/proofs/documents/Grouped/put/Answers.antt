@@ -9,9 +9,10 @@ use Rattle.miette_lsp.proofs.documents.Grouped.put.Goals as goal
 pub push_to-requires : goal.push_to-requires
 push_to-requires c =
     let old = c.args.self.now in
-    fits (λ (list : Vec Value Global). values_of list.items) (texts_of old.uris.keys) (texts_of c.place_of_uri.new.uris.keys)
-    (string_bytes c.args.uri) old.lists.items c.begin_list.new.lists.items c.in_ok-at.at c.in_ok-at.is_new c.requires
-    c.in_ok-at.ensures.new c.in_ok-at.ensures.uris c.in_ok-at.ensures.inside c.in_ok-begin_list.ensures
+    fits (λ (list : Vec Value Global). values_of list.items) (texts_of old.uris.keys)
+    (texts_of c.place_of_uri.new.uris.keys) (string_bytes c.args.uri) old.lists.items
+    c.begin_list.new.lists.items c.in_ok-at.at c.in_ok-at.is_new c.requires c.in_ok-at.ensures.new
+    c.in_ok-at.ensures.uris c.in_ok-at.ensures.inside c.in_ok-begin_list.ensures
 
 pub returns : goal.returns
 returns c =

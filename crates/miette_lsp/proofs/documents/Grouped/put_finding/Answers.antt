@@ -19,8 +19,8 @@ returns-in_ok-value-in-Some c =
     let is = ap (option_map (uri_of untitled)) (sym c.mark_source.ensures ∙ ap (option_map name_of) c.in-Some.is)
     ∙ ap Some (sym c.in_ok-uri-in-Some.ensures) in
     on_ok_weaker c.put.result (λ put fs are. finding_put c.args.tool.now untitled fs (finding_of c.args.finding.now)
-    (string_bytes c.in_ok-uri-in-Some.uri) (json_of c.in_ok-value-in-Some.value) (lists_of c.args.self.now) (lists_of c.put.new.self)
-    are is c.in_ok-value-in-Some.ensures put) c.put.ensures
+    (string_bytes c.in_ok-uri-in-Some.uri) (json_of c.in_ok-value-in-Some.value) (lists_of c.args.self.now)
+    (lists_of c.put.new.self) are is c.in_ok-value-in-Some.ensures put) c.put.ensures
 
 pub returns-in-None : goal.returns-in-None
 returns-in-None c = λ fs are.
