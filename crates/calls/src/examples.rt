@@ -36,7 +36,7 @@ pub enum By {
 }
 
 /// The handlers.
-static HANDLERS: [(&str, By); 13] = [
+pub static HANDLERS: [(&str, By); 13] = [
     ("graphical", By::Graphical),
     ("nested", By::Nested),
     ("highlighted", By::Highlighted),

@@ -1,6 +1,6 @@
 //! Reports over sources that stop after each number of reads: `calls stops`.
 
-use crate::examples::{By, render_made};
+use crate::examples::{By, HANDLERS, render_made};
 use crate::fixtures::{
     M, Made, Mended, Written, list_of, report_and_fix, report_and_stopping, report_beside,
     report_of, report_over, stopping_report,
@@ -38,17 +38,21 @@ static REPORTS: [(&str, Stopped); 10] = [
     ("a fix far down", Stopped::FarFix),
 ];
 
-static HANDLERS: [(&str, By); 9] = [
-    ("graphical", By::Graphical),
-    ("nested", By::Nested),
-    ("chosen", By::Chosen),
-    ("chosen narrated", By::ChosenNarrated),
-    ("narrated", By::Narrated),
-    ("brief", By::Brief),
-    ("github", By::Github),
-    ("json", By::Json),
-    ("debug", By::Debug),
-];
+/// Whether a handler is tried: one that only styles lines, or wants memory for that, reads as the others do.
+fn is_tried(by: By) -> bool {
+    match by {
+        By::Highlighted | By::Wanting | By::NestedWanting | By::ChosenWanting => false,
+        By::Graphical
+        | By::Nested
+        | By::Chosen
+        | By::ChosenNarrated
+        | By::Narrated
+        | By::Brief
+        | By::Github
+        | By::Json
+        | By::Debug => true,
+    }
+}
 
 /// How many reads are tried at most.
 const MOST: usize = 99;
@@ -94,6 +98,9 @@ static FAR_DOWN: Mended<'static> = ("five", 1150, 0, "five");
 pub fn rows(alloc: Global, rows: &mut Rows) -> Done {
     for report in &REPORTS {
         for handler in &HANDLERS {
+            if !is_tried(handler.1) {
+                continue;
+            }
             for lines in 0..3usize {
                 until_none_fails(alloc, rows, (*report, *handler, lines), false)?;
                 until_none_fails(alloc, rows, (*report, *handler, lines), true)?;
