@@ -22,19 +22,21 @@ plain_state b = record {
   has_half_flag = false;
 }
 
-none-of : (a b c d e : Bool) → not (a || b || c || d || e) ≡ true →
+-- of five tests
+pub none-counts : (a b c d e : Bool) → not (a || b || c || d || e) ≡ true →
     (a ≡ false) × (b ≡ false) × (c ≡ false) × (d ≡ false) × (e ≡ false)
-none-of true b c d e h = absurd (cc)
-none-of false true c d e h = absurd (cc)
-none-of false false true d e h = absurd (cc)
-none-of false false false true e h = absurd (cc)
-none-of false false false false true h = absurd (cc)
-none-of false false false false false h = (refl, refl, refl, refl, refl)
+none-counts true b c d e h = absurd (cc)
+none-counts false true c d e h = absurd (cc)
+none-counts false false true d e h = absurd (cc)
+none-counts false false false true e h = absurd (cc)
+none-counts false false false false true h = absurd (cc)
+none-counts false false false false false h = (refl, refl, refl, refl, refl)
 
-abbrev made : LineBreak → Bool → Bool → Bool → Bool → Bool → Bool → State
-made k wide future joined hebrew half b = record {
-  base = record { class = k; is_wide = wide; is_future_emoji = future };
-  is_spaced = b;
+-- a state of these parts
+abbrev pub made : LineBreak → Bool → Bool → Bool → Bool → Bool → Bool → State
+made class wide future spaced joined hebrew half = record {
+  base = record { class = class; is_wide = wide; is_future_emoji = future };
+  is_spaced = spaced;
   is_joined = joined;
   follows_hebrew = hebrew;
   has_half_flag = half;
@@ -44,11 +46,11 @@ plain-is : (s : State) → is_plain s ≡ true → s ≡ plain_state s.is_spaced
 plain-is s h =
     let p = and_parts (is_alphabetic s.base.class)
     (not (s.base.is_wide || s.base.is_future_emoji || s.is_joined || s.follows_hebrew || s.has_half_flag)) h in
-    let n = none-of s.base.is_wide s.base.is_future_emoji s.is_joined s.follows_hebrew s.has_half_flag p.1 in
-    ap₂ (λ k w. made k w s.base.is_future_emoji s.is_joined s.follows_hebrew s.has_half_flag s.is_spaced)
+    let n = none-counts s.base.is_wide s.base.is_future_emoji s.is_joined s.follows_hebrew s.has_half_flag p.1 in
+    ap₂ (λ k w. made k w s.base.is_future_emoji s.is_spaced s.is_joined s.follows_hebrew s.has_half_flag)
     (alphabetic_is s.base.class p.0) n.0
-    ∙ ap₂ (λ f j. made Alphabetic false f j s.follows_hebrew s.has_half_flag s.is_spaced) n.1 n.2
-    ∙ ap₂ (λ h g. made Alphabetic false false false h g s.is_spaced) n.3 n.4
+    ∙ ap₂ (λ f j. made Alphabetic false f s.is_spaced j s.follows_hebrew s.has_half_flag) n.1 n.2
+    ∙ ap₂ (λ h g. made Alphabetic false false s.is_spaced false h g) n.3 n.4
 
 letter-found : (b : Bool) → break_in (plain_state b) lone_mark ≡ (if b then Some Allowed else None)
 letter-found true = refl

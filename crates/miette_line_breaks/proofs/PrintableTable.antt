@@ -23,6 +23,7 @@ use Rattle.miette_line_breaks.specs.steps.States.{is_start, joined_behind, state
 use Rattle.miette_line_breaks.specs.views.Places.{behind}
 use Rattle.miette_line_breaks.specs.views.Printable.{begins, is_printable}
 use Rattle.miette_line_breaks.proofs.AsciiClasses.{ascii-is, same_class, space-is}
+use Rattle.miette_line_breaks.proofs.Plain.{made, none-counts}
 
 all_five : (a b c d e : Bool) → (a && b && c && d && e) ≡ true →
     (a ≡ true) × (b ≡ true) × (c ≡ true) × (d ≡ true) × (e ≡ true)
@@ -127,15 +128,6 @@ same_state a b =
     (line_break_number a.base.class == line_break_number b.base.class) && beq a.base.is_wide b.base.is_wide
     && beq a.base.is_future_emoji b.base.is_future_emoji && beq a.is_spaced b.is_spaced
     && beq a.is_joined b.is_joined && beq a.follows_hebrew b.follows_hebrew && beq a.has_half_flag b.has_half_flag
-
-abbrev made : LineBreak → Bool → Bool → Bool → Bool → Bool → Bool → State
-made class wide future spaced joined hebrew half = record {
-  base = record { class = class; is_wide = wide; is_future_emoji = future };
-  is_spaced = spaced;
-  is_joined = joined;
-  follows_hebrew = hebrew;
-  has_half_flag = half;
-}
 
 same-is : (a b : State) → same_state a b ≡ true → a ≡ b
 same-is a b h =
@@ -331,6 +323,12 @@ hebrew-none s c e h = ap₂ (λ (a b : Bool). is_printable c && (if a then is_em
 before_13 : (k : ℕ) → k < 15 → (k ≡ 14 → ⊥) → (k == 13) ≡ false → k < 13
 before_13 k h e f = grind (arith, nat_tests)
 
+-- the kind of a code behind which the next row is known
+pub code-kind : (row c : ℕ) → row < 28 → c < 128 → next_of row (kind_of c) < 30
+    → (kind_of c < 14) × (character_of c ≡ kind_character (kind_of c))
+code-kind row c small below next =
+    let l : kind_of c < 14 = step-some row (kind_of c) small (kind-small c below) next in (l, kind-character c below l)
+
 -- a character of a kind but the space's
 pub kind-behind : (s : State) (c : ℕ) → c < 128 → (c ≡ 32 → ⊥) → (kind_of c ≡ 14 → ⊥) → ends_hebrew s ≡ false →
     (is_printable c ≡ true) × (behind s c ≡ row_state (kind_of c))
@@ -342,15 +340,6 @@ kind-behind s c below e f h =
     )
 
 -- ---- at the start of a text
-
-none-counts : (a b c d e : Bool) → not (a || b || c || d || e) ≡ true →
-    (a ≡ false) × (b ≡ false) × (c ≡ false) × (d ≡ false) × (e ≡ false)
-none-counts true b c d e h = absurd (cc)
-none-counts false true c d e h = absurd (cc)
-none-counts false false true d e h = absurd (cc)
-none-counts false false false true e h = absurd (cc)
-none-counts false false false false true h = absurd (cc)
-none-counts false false false false false h = (refl, refl, refl, refl, refl)
 
 space_class : (q : LineBreak) → is_space q ≡ true → q ≡ Space
 space_class Space h = refl
