@@ -1,4 +1,4 @@
-use Rattle.std.proofs.Common.{◌<◌, ◌≤◌, ◌+◌, ◌∷◌, ◌∙◌, ℕ, List, ap, sym, subst, arith, rules, refl, drop, length}
+use Rattle.std.proofs.Common.{◌≡◌, ◌<◌, ◌≤◌, ◌+◌, ◌∷◌, ◌∙◌, ℕ, List, ap, sym, subst, arith, rules, refl, drop, length}
 use Rattle.std.proofs.Common.{eqb-true}
 use Rattle.std.proofs.lemmas.List.{length-drop, nil_from_length}
 use Rattle.miette_cells.proofs.Stepping.{made}
@@ -8,6 +8,12 @@ use Rattle.miette_positions.specs.steps.Marks.{IsWithin}
 use Rattle.miette_positions.proofs.Stepping.{first_at, lf_is, pair_parts, stops_end, stops_one, stops_two}
 use Rattle.miette_positions.proofs.Stepping.{within_moved, within_one}
 use Rattle.miette_positions.proofs.stops.next_stop.Goals as goal
+
+-- so much of what is left of a source is within the source
+part_within : (source rest : List ℕ) (from size : ℕ) → from ≤ length source → size ≤ length rest
+    → rest ≡ drop from source → from + size ≤ length source
+part_within source rest from size inside within is =
+    omega (arith, inside, within, ap length is, length-drop from source)
 
 pub returns-then-is_empty-clause-none : goal.returns-then-is_empty-clause-none
 returns-then-is_empty-clause-none c =
@@ -44,20 +50,10 @@ returns-then-is_pair-clause-within c =
     let source : List ℕ = c.args.source.now in
     let size = c.character-code.result.1 in
     let more = c.character-newline.result.1 in
-    let first : c.args.from.offset + size ≤ length source = omega (
-      arith,
-      c.requires.offset,
-      c.character-code.ensures.within,
-      ap length c.rest_from-rest.ensures,
-      length-drop c.args.from.offset source,
-    ) in
-    let both : c.args.from.offset + size + more ≤ length source = omega (
-      arith,
-      first,
-      c.character-newline.ensures.within,
-      ap length c.rest_from-left.ensures,
-      length-drop (c.args.from.offset + size) source,
-    ) in
+    let first = part_within source _ c.args.from.offset size c.requires.offset c.character-code.ensures.within
+    c.rest_from-rest.ensures in
+    let both = part_within source _ (c.args.from.offset + size) more first c.character-newline.ensures.within
+    c.rest_from-left.ensures in
     subst (IsWithin source) (sym c.behind.ensures)
     (within_one c.args.encoding source (moved_by size c.args.from) (made c.character-newline.result.0 more)
     c.character-newline.ensures.some both (within_moved source size c.args.from first c.requires))
@@ -80,13 +76,8 @@ pub returns-clause-within : goal.returns-clause-within
 returns-clause-within c =
     let source : List ℕ = c.args.source.now in
     let size = c.character-code.result.1 in
-    let first : c.args.from.offset + size ≤ length source = omega (
-      arith,
-      c.requires.offset,
-      c.character-code.ensures.within,
-      ap length c.rest_from-rest.ensures,
-      length-drop c.args.from.offset source,
-    ) in
+    let first = part_within source _ c.args.from.offset size c.requires.offset c.character-code.ensures.within
+    c.rest_from-rest.ensures in
     subst (IsWithin source) (sym c.behind-2.ensures)
     (within_one c.args.encoding source c.args.from (made c.character-code.result.0 size) c.character-code.ensures.some
     first c.requires)
