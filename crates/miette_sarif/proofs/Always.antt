@@ -1,13 +1,13 @@
 -- Where all sources always read, no answers of theirs give other findings.
-use Rattle.std.proofs.Common.{◌≡◌, ℕ, ◌+◌, Bool, true, false, Some, List, [], ◌∷◌, ◌++◌, length, Option, All, refl, ap, ◌∙◌}
+use Rattle.std.proofs.Common.{◌≡◌, ℕ, ◌+◌, Bool, true, false, Some, List, [], ◌∷◌, ◌++◌, length, Option, All}
+use Rattle.std.proofs.Common.{refl, ap, ◌∙◌}
 use Rattle.std.proofs.lemmas.List.Elements.{All-head, All-tail}
 use Rattle.miette_json.specs.rules.JsonReport.{AreFurther, first_fault, later_faults}
-use Rattle.miette_protocol.specs.rules.Reading.{Source}
 use Rattle.miette_tree.proofs.Readings.{fault_free}
 use Rattle.miette_tree.specs.rules.Answers.{first_answers, later_answers, no_more, own_or, related_answers, unlisted}
 use Rattle.miette_tree.specs.rules.Diagnosis.{Diagnosis, Section}
 use Rattle.miette_tree.specs.rules.Reads.{AllAlwaysRead, AlwaysReads, CauseAlwaysReads}
-use Rattle.miette_tree.specs.rules.Tree.{Cause, diagnostic, texts, Tree, tree, Trees, more_trees, no_trees, causes_of}
+use Rattle.miette_tree.specs.rules.Tree.{Cause, diagnostic, texts, Tree, tree, Trees, more_trees, no_trees}
 use Rattle.miette_sarif.specs.rules.Findings.{Finding, Mark, Proposed, SeenSource}
 use Rattle.miette_sarif.specs.rules.Gathered.{all_findings, cause_marks, cause_proposals, cause_refused, finding}
 use Rattle.miette_sarif.specs.rules.Gathered.{findings}
@@ -49,25 +49,20 @@ marks_read over faults n (diagnostic (tree m s c r)) reads h =
     ∙ ap (λ l. marks_of (groups_of (seen_or false n s over) (seen_further [] (n + count_own s) m.snippets) m) ++ l)
     (marks_read over (later_causes faults) next c reads.1 h.1)
 
-proposals_read : (over : Option SeenSource) (faults : List Faults) (n : ℕ) (c : Cause) → CauseAlwaysReads c
-    → AreOfCauses faults c → cause_proposals over faults n c ≡ cause_proposals over [] n c
-proposals_read over faults n (texts ts) reads h = refl
-proposals_read over faults n (diagnostic (tree m s c r)) reads h =
+-- what is proposed, and what can't be
+edits_read : (over : Option SeenSource) (faults : List Faults) (n : ℕ) (c : Cause) → CauseAlwaysReads c
+    → AreOfCauses faults c → (cause_proposals over faults n c ≡ cause_proposals over [] n c)
+    × (cause_refused over faults n c ≡ cause_refused over [] n c)
+edits_read over faults n (texts ts) reads h = (refl, refl)
+edits_read over faults n (diagnostic (tree m s c r)) reads h =
+    let own = fault_free s (first_faults faults).own h.0.0 reads.0 in
     let next : ℕ = n + count_here s m.snippets in
-    ap (λ b. proposals (seen_or b n s over) m.fixes ++ cause_proposals over (later_causes faults) next c)
-    (fault_free s (first_faults faults).own h.0.0 reads.0)
-    ∙ ap (λ l. proposals (seen_or false n s over) m.fixes ++ l)
-    (proposals_read over (later_causes faults) next c reads.1 h.1)
-
-refused_read : (over : Option SeenSource) (faults : List Faults) (n : ℕ) (c : Cause) → CauseAlwaysReads c
-    → AreOfCauses faults c → cause_refused over faults n c ≡ cause_refused over [] n c
-refused_read over faults n (texts ts) reads h = refl
-refused_read over faults n (diagnostic (tree m s c r)) reads h =
-    let next : ℕ = n + count_here s m.snippets in
-    ap (λ b. refused (seen_or b n s over) m.fixes ++ cause_refused over (later_causes faults) next c)
-    (fault_free s (first_faults faults).own h.0.0 reads.0)
-    ∙ ap (λ l. refused (seen_or false n s over) m.fixes ++ l)
-    (refused_read over (later_causes faults) next c reads.1 h.1)
+    let more = edits_read over (later_causes faults) next c reads.1 h.1 in (
+      ap (λ b. proposals (seen_or b n s over) m.fixes ++ cause_proposals over (later_causes faults) next c) own
+          ∙ ap (λ l. proposals (seen_or false n s over) m.fixes ++ l) more.0,
+      ap (λ b. refused (seen_or b n s over) m.fixes ++ cause_refused over (later_causes faults) next c) own
+          ∙ ap (λ l. refused (seen_or false n s over) m.fixes ++ l) more.1,
+    )
 
 -- ---- findings
 
@@ -91,9 +86,9 @@ finding_read over faults n m c reads h causes_read k =
     ap (λ l. found_with over m c l marks fixes unapplied) (further_read m.snippets faults.report.further n reads h)
     ∙ ap (λ l. found_with over m c further l fixes unapplied) (marks_read over faults.causes next c causes_read k)
     ∙ ap (λ l. found_with over m c further (cause_marks over [] next c) l unapplied)
-    (proposals_read over faults.causes next c causes_read k)
+    (edits_read over faults.causes next c causes_read k).0
     ∙ ap (found_with over m c further (cause_marks over [] next c) (cause_proposals over [] next c))
-    (refused_read over faults.causes next c causes_read k)
+    (edits_read over faults.causes next c causes_read k).1
 
 mutual
   tree_read : (n : ℕ) (inherited : Option SeenSource) (a : SourceAnswers) (t : Tree) → AlwaysReads t → AreAnswers a t

@@ -157,7 +157,8 @@ pub all_causes : (over : Option SeenSource) (n : ℕ) (all left : Cause) (ts : L
     → texts ts ≡ left → CausesSoFar over n all left k old now
     → AddsCauses over n all old now × (k ≡ n + count_causes all)
 all_causes over n all left ts k old now e r =
-    let ended : CausesSoFar over n all (texts ts) k old now = subst (λ c. CausesSoFar over n all c k old now) (sym e) r in (
+    let ended : CausesSoFar over n all (texts ts) k old now =
+    subst (λ c. CausesSoFar over n all c k old now) (sym e) r in (
       record {
         faults = ended.with_rest [];
         possible = ended.possible [] tt;

@@ -1,5 +1,5 @@
--- A source that is read as a whole, and parts of its text.
-use Rattle.std.proofs.Common.{◌≡◌, ℕ, ◌+◌, ◌-◌, ◌<◌, ◌≤◌, min, Bool, true, false, List, [], length, drop}
+-- What is seen of a source that is read as a whole, and parts of its text.
+use Rattle.std.proofs.Common.{◌≡◌, ℕ, ◌-◌, ◌≤◌, min, Bool, true, false, List, [], length, drop}
 use Rattle.std.proofs.Common.{Option, Some, None, refl, sym, ap, ◌∙◌, arith, inl, inr, length-drop, subst}
 use Rattle.std.specs.Prelude.{slice_range, unwrap_or}
 use Rattle.std.specs.Option.{option_copied}
@@ -7,35 +7,12 @@ use denote.Ref.{Bor}
 use Rattle.std.proofs.lemmas.Bool.{cases_lt}
 use Rattle.std.proofs.lemmas.List.{length-take, nil_from_length, take_all}
 use Rattle.miette_protocol.specs.declared.error.MietteError.{MietteError}
-use Rattle.miette_protocol.specs.declared.error.MietteError.TheVariants.{IoError, OutOfBounds}
 use Rattle.miette_protocol.specs.rules.Outcome.{Refuses}
-use Rattle.miette_protocol.specs.rules.Reading.{Source, Span, contents_of, data_end, reading_end}
-use Rattle.miette_protocol.proofs.Wholes.{end_is, end_within}
-use Rattle.miette_source_lines.specs.rules.Lines.{line_end, line_of}
-use Rattle.miette_source_lines.proofs.Parts.{part_length}
-use Rattle.miette_source_lines.proofs.Places.{line_end_past, line_of_end, line_of_le}
+use Rattle.miette_protocol.specs.rules.Reading.{Source}
+use Rattle.miette_tree.proofs.WholeReads.{fault_met, nowhere}
 use Rattle.miette_sarif.specs.rules.Findings.{SeenSource}
 use Rattle.miette_sarif.specs.rules.Seen.{seen, seen_or}
 use Rattle.miette_sarif.specs.steps.Sees.{Sees, SeesOwn, seen_first}
-
-abbrev pub nowhere : Span
-nowhere = record { offset = 0; len = 0 }
-
--- so many lines of context reach the end of a source of which fewer bytes were read
-pub whole_read : (source : Source) (most : ℕ) → 1 ≤ most → length (contents_of source nowhere 0 most).bytes < most
-    → (contents_of source nowhere 0 most).bytes ≡ source.bytes
-whole_read source most some small =
-    let bytes : List ℕ = source.bytes in
-    let to : ℕ = data_end bytes nowhere most in
-    let k : ℕ = line_of bytes (reading_end bytes nowhere) + most in
-    let end : to ≡ line_end bytes k = end_is bytes nowhere most some in
-    let size : length (slice_range bytes 0 to) ≡ to - 0 = part_length bytes 0 to (end_within bytes nowhere most) in
-    let few : to < most = omega (arith, size, small) in
-    let full : to ≡ length bytes = elim (cases_lt k (line_of bytes (length bytes))) [
-      | inl g ↦ absurd (omega (arith, few, end, line_of_le bytes (line_end bytes k) (k + 1) (line_of_end bytes k g)))
-      | inr g ↦ end ∙ line_end_past bytes k (omega (arith, g))
-    ] in
-    ap (slice_range bytes 0) full ∙ take_all (length bytes - 0) bytes (omega arith)
 
 -- ---- what is seen
 
@@ -54,10 +31,6 @@ seen_read s n name bytes e f = record {
   possible = λ t. (let no : false ≡ true = t in cc);
   is = ap (λ a. source_read n a bytes) e ∙ ap (source_read n (unwrap_or s.name [])) f;
 }
-
-fault_met : (source : Source) (e : MietteError) → Refuses source nowhere e → source.always_reads ≡ false
-fault_met source OutOfBounds h = absurd (h (record { begins = omega arith; ends = omega arith }))
-fault_met source (IoError x) h = h
 
 pub seen_unread : (s : Source) (n : ℕ) (e : MietteError) → Refuses s nowhere e
     → Sees n s (record { source = record { name = []; number = n }; text = None })

@@ -1,6 +1,6 @@
 -- A label that is taken out of its group, and a group out of which one was taken.
-use Rattle.std.proofs.Common.{◌≡◌, ℕ, zero, suc, ◌<◌, Bool, List, [], ◌∷◌, ◌++◌, length, get_or, take, drop, set, Option}
-use Rattle.std.proofs.Common.{Some, None, refl, sym, ap, ◌∙◌, arith, subst, drop-cons}
+use Rattle.std.proofs.Common.{◌≡◌, ℕ, zero, suc, ◌<◌, Bool, List, [], ◌∷◌, ◌++◌, length, get_or, take, drop}
+use Rattle.std.proofs.Common.{set, Option, Some, None, refl, sym, ap, ◌∙◌, arith, subst, drop-cons}
 use Rattle.std.specs.Prelude.{option_map, position}
 use Rattle.std.specs.List.{remove}
 use Rattle.std.proofs.lemmas.List.{map-append}

@@ -9,7 +9,8 @@ use Rattle.miette_sarif.specs.rules.Findings.{Finding, Mark, Proposed, SeenSourc
 use Rattle.miette_sarif.specs.rules.Marks.{groups_of, marks_of, other_marks, primary_in, primary_mark, seen_further}
 use Rattle.miette_sarif.specs.rules.Proposals.{proposals, refused}
 use Rattle.miette_sarif.specs.rules.Seen.{count_causes, count_here, count_in, count_own, seen_or}
-use Rattle.miette_sarif.specs.rules.SourceAnswers.{AllAnswers, Faults, RelatedSourceAnswers, SourceAnswers, SourceFaults}
+use Rattle.miette_sarif.specs.rules.SourceAnswers.{AllAnswers, Faults, RelatedSourceAnswers, SourceAnswers}
+use Rattle.miette_sarif.specs.rules.SourceAnswers.{SourceFaults}
 use Rattle.miette_sarif.specs.rules.SourceAnswers.{first_faults, later_causes, none_met}
 
 -- ---- causes, each over its own source, else over that of the report

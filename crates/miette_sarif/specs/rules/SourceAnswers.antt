@@ -2,7 +2,8 @@
 use Rattle.std.specs.Prelude.{Bool, false, List, [], ◌∷◌, Option, ⊤}
 use Rattle.miette_json.specs.rules.JsonReport.{AreFurther}
 use Rattle.miette_protocol.specs.rules.Reading.{Source}
-use Rattle.miette_tree.specs.rules.Answers.{AnswerTree, AnswerTrees, own_or, related_answers, first_answers, later_answers}
+use Rattle.miette_tree.specs.rules.Answers.{AnswerTree, AnswerTrees, own_or, related_answers, first_answers}
+use Rattle.miette_tree.specs.rules.Answers.{later_answers}
 use Rattle.miette_tree.specs.rules.Diagnosis.{Section}
 use Rattle.miette_tree.specs.rules.Reads.{MayMeet}
 use Rattle.miette_tree.specs.rules.Tree.{Tree, tree, Cause, diagnostic, texts, Trees, no_trees, more_trees}

@@ -13,4 +13,5 @@ unfolding escape_byte
 returns-in-Some c =
     let old = string_bytes c.args.out.now in
     on_ok_weaker c.push_string.result (λ put. text_put (codes "version") c.in-Some.version.now old _ put
-    ∙ ap (λ o. old ++ further (maybe_text (codes "version") (option_copied o))) (sym c.in-Some.is)) c.push_string.ensures
+    ∙ ap (λ o. old ++ further (maybe_text (codes "version") (option_copied o))) (sym c.in-Some.is))
+    c.push_string.ensures
