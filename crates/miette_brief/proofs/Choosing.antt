@@ -121,6 +121,43 @@ found_later a b found.Nothing g h n k = subst (λ (o : Option Spot). IsFound (el
 found_later a b found.Unread g h n k = cc
 found_later a b (found.At at) g h n k = cc
 
+pub else_assoc : (a b c : Option Spot) → else_spot (else_spot a b) c ≡ else_spot a (else_spot b c)
+else_assoc None b c = refl
+else_assoc (Some x) b c = refl
+
+-- what a choice finds over a first source, of whose labels it gives this span, else over further ones
+abbrev pub chosen_spot : (List Label → Option Span) → Option Source → Option Span → List Section → Option Spot
+chosen_spot choice source own further = else_spot (spot_over source own) (found_further choice further)
+
+primary_in_turn : (source : Option Source) (labels : List Label) (further : List Section)
+    → else_spot (chosen_spot marked_in source (marked_in labels) further)
+    (chosen_spot first_in source (first_in labels) further) ≡ primary_spot source labels further
+primary_in_turn source labels further =
+    else_assoc (spot_over source (marked_in labels)) (found_further marked_in further)
+    (chosen_spot first_in source (first_in labels) further)
+
+-- the primary label is one that is marked
+pub primary_marked : (source : Option Source) (labels : List Label) (further : List Section) (own : Option Span)
+    (f : Found) → own ≡ marked_in labels → IsFound (chosen_spot marked_in source own further) f
+    → is_label f ≡ true → IsFound (primary_spot source labels further) f
+primary_marked source labels further own f is found n =
+    subst (λ (o : Option Spot). IsFound o f) (primary_in_turn source labels further)
+    (found_first (chosen_spot marked_in source (marked_in labels) further)
+    (chosen_spot first_in source (first_in labels) further) f
+    (subst (λ (o : Option Span). IsFound (chosen_spot marked_in source o further) f) is found) n)
+
+-- where none is, it is the first one
+pub primary_first : (source : Option Source) (labels : List Label) (further : List Section) (own ahead : Option Span)
+    (f g : Found) → own ≡ marked_in labels → ahead ≡ first_in labels
+    → IsFound (chosen_spot marked_in source own further) f → is_label f ≡ false
+    → IsFound (chosen_spot first_in source ahead further) g → IsFound (primary_spot source labels further) g
+primary_first source labels further own ahead f g own_is ahead_is found n later =
+    subst (λ (o : Option Spot). IsFound o g) (primary_in_turn source labels further)
+    (found_later (chosen_spot marked_in source (marked_in labels) further)
+    (chosen_spot first_in source (first_in labels) further) f g
+    (subst (λ (o : Option Span). IsFound (chosen_spot marked_in source o further) f) own_is found) n
+    (subst (λ (o : Option Span). IsFound (chosen_spot first_in source o further) g) ahead_is later))
+
 -- ---- the primary label of labels that are accepted is
 
 abbrev chosen_accepted : (List Label → Option Span) → Type 0

@@ -20,7 +20,7 @@ use Rattle.miette_brief.specs.rules.Marks.{primary_at}
 use Rattle.miette_brief.specs.rules.Places.{Spot, spot_over, else_spot, marked_in, first_in, found_further}
 use Rattle.miette_brief.specs.rules.Places.{primary_spot}
 use Rattle.miette_brief.specs.steps.Marking.{spot_of_mark, spot_at}
-use Rattle.miette_brief.proofs.Choosing.{left_at, sections_left}
+use Rattle.miette_brief.proofs.Choosing.{else_assoc, left_at, sections_left}
 
 -- ---- labels, one after the other
 
@@ -215,10 +215,6 @@ further_placed [] = refl
 further_placed (section ∷ sections) =
     own_placed (Some section.source) (in_order section.labels) (further_marks sections)
     ∙ ap (else_spot (spot_over (Some section.source) (first_in (in_order section.labels)))) (further_placed sections)
-
-else_assoc : (a b c : Option Spot) → else_spot (else_spot a b) c ≡ else_spot a (else_spot b c)
-else_assoc None b c = refl
-else_assoc (Some x) b c = refl
 
 -- the primary label is that by which a diagnostic is placed
 pub primary_is : (source : Option Source) (m : Diagnosis) → spot_at (primary_at (marks source m)) (marks source m)

@@ -6,9 +6,9 @@ ghost use Rattle.miette_tree.specs.views.Attached.{section_of};
 ghost use Rattle.miette_tree.specs.views.Owned.{shown_source};
 ghost use Rattle.miette_labels.specs.rules.Groups.{in_order};
 ghost use Rattle.miette_labels.specs.views.GivenLabels.{label_at};
-ghost use Rattle.miette_brief.specs.rules.Places.{marked_in, first_in, spot_over, found_further};
+ghost use Rattle.miette_brief.specs.rules.Places.{marked_in, first_in, spot_over, else_spot, found_further};
 ghost use Rattle.miette_brief.specs.rules.Places.{primary_spot as primary_of};
-ghost use Rattle.miette_brief.specs.steps.Conversions.{place_of};
+ghost use Rattle.miette_brief.specs.steps.Conversions.{chosen_in, place_of};
 ghost use Rattle.miette_brief.specs.steps.Reads.{AreKnown, IsBegin, IsFound};
 ghost use Rattle.miette_protocol.specs.rules.Outcome.{Answers};
 
@@ -42,6 +42,13 @@ impl<'a> Found<'a> {
             Found::At(_) => true,
         }
     }
+}
+
+/// Which label of a source may stand for its diagnostic: the first by offset that is marked as primary, or the first.
+#[derive(Clone, Copy)]
+enum Choice {
+    Marked,
+    First,
 }
 
 /// Where contents begin.
@@ -170,31 +177,40 @@ fn read_over<'a, S: SourceCode>(
     Ok(found)
 }
 
-/// Of labels the span of the first by offset that is marked as primary.
-fn marked_label(alloc: Global, labels: &[LabeledSpan]) -> Result<Option<SourceSpan>, AllocError>
-    ensures { IfOk result (λ span. span ≡ marked_in (in_order labels.now)) }
+/// Of labels in this order the span of the one that is chosen.
+fn chosen_span(choice: Choice, labels: &[LabeledSpan], order: &[Turn]) -> Option<SourceSpan>
+    requires inside { All (λ turn. turn.index < length labels.now) order.now }
+    ensures { result ≡ chosen_in choice (map (λ turn. label_at labels.now turn.index) order.now) }
 {
-    let order = by_offset(alloc, labels)?;
-    Ok(marked_span(labels, &order))
+    match choice {
+        Choice::Marked => marked_span(labels, order),
+        Choice::First => first_span(labels, order),
+    }
 }
 
-/// Of labels the span of the first by offset.
-fn first_label(alloc: Global, labels: &[LabeledSpan]) -> Result<Option<SourceSpan>, AllocError>
-    ensures { IfOk result (λ span. span ≡ first_in (in_order labels.now)) }
-{
-    let order = by_offset(alloc, labels)?;
-    Ok(first_span(labels, &order))
-}
-
-/// What the read of the first label over further sources that is marked as primary gives.
-fn marked_further<'a, S: SourceCode>(
+/// Of labels the span of the one that is chosen.
+fn chosen_label(
     alloc: Global,
+    choice: Choice,
+    labels: &[LabeledSpan],
+) -> Result<Option<SourceSpan>, AllocError>
+    ensures { IfOk result (λ span. span ≡ chosen_in choice (in_order labels.now)) }
+{
+    let order = by_offset(alloc, labels)?;
+    Ok(chosen_span(choice, labels, &order))
+}
+
+/// What the read of the label gives that is chosen of the first further source that has such a label.
+fn chosen_further<'a, S: SourceCode>(
+    alloc: Global,
+    choice: Choice,
     further: &'a [Snippets<S>],
 ) -> Result<Found<'a>, AllocError>
-    ensures { IfOk result (λ found. IsFound (found_further marked_in (map (section_of S.source) further.now)) found) }
+    ensures { IfOk result (λ found.
+        IsFound (found_further (chosen_in choice) (map (section_of S.source) further.now)) found) }
 {
     for section in further {
-        if let Some(span) = marked_label(alloc, section.labels())? {
+        if let Some(span) = chosen_label(alloc, choice, section.labels())? {
             let found = read_spot(section.source(), &span)?;
             return Ok(found);
         }
@@ -202,20 +218,25 @@ fn marked_further<'a, S: SourceCode>(
     Ok(Found::Nothing)
 }
 
-/// What the read of the first label of the first further source that has one gives.
-fn first_further<'a, S: SourceCode>(
+/// What the read of the label that is chosen gives: of a first source's where this is its span, else of those over
+/// further ones.
+fn chosen_found<'a, S: SourceCode>(
     alloc: Global,
+    choice: Choice,
+    source: Option<SourceRef<'a, S>>,
+    own: Option<SourceSpan>,
     further: &'a [Snippets<S>],
 ) -> Result<Found<'a>, AllocError>
-    ensures { IfOk result (λ found. IsFound (found_further first_in (map (section_of S.source) further.now)) found) }
+    ensures { IfOk result (λ found.
+        IsFound (else_spot (spot_over (option_map (shown_source S.source) source.entry) own)
+        (found_further (chosen_in choice) (map (section_of S.source) further.now))) found) }
 {
-    for section in further {
-        if let Some(span) = first_label(alloc, section.labels())? {
-            let found = read_spot(section.source(), &span)?;
-            return Ok(found);
-        }
+    let found = read_over(source, own)?;
+    if found.is_label() {
+        return Ok(found);
     }
-    Ok(Found::Nothing)
+    let behind = chosen_further(alloc, choice, further)?;
+    Ok(behind)
 }
 
 /// What the read of the primary label gives, of labels in this order over a first source and of those over further
@@ -231,20 +252,14 @@ pub(crate) fn primary_found<'a, S: SourceCode>(
     ensures { IfOk result (λ found. IsFound (primary_of (option_map (shown_source S.source) source.entry)
         (map (λ turn. label_at labels.now turn.index) order.now) (map (section_of S.source) further.now)) found) }
 {
-    let marked = read_over(source, marked_span(labels, order))?;
+    let marked_own = marked_span(labels, order);
+    let marked = chosen_found(alloc, Choice::Marked, source, marked_own, further)?;
     if marked.is_label() {
         return Ok(marked);
     }
-    let behind = marked_further(alloc, further)?;
-    if behind.is_label() {
-        return Ok(behind);
-    }
-    let first = read_over(source, first_span(labels, order))?;
-    if first.is_label() {
-        return Ok(first);
-    }
-    let last = first_further(alloc, further)?;
-    Ok(last)
+    let first_own = first_span(labels, order);
+    let first = chosen_found(alloc, Choice::First, source, first_own, further)?;
+    Ok(first)
 }
 
 /// That of labels in any order.

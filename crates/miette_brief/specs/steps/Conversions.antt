@@ -1,7 +1,11 @@
 -- Places and kinds of rows, and what fixes are told over, as a program gives them.
-use Rattle.std.specs.Prelude.{Bool, true, false}
+use Rattle.std.specs.Prelude.{Bool, true, false, List, Option}
 use Rattle.std.specs.Option.{option_copied}
+use Rattle.miette_protocol.specs.rules.Reading.{Span}
+use Rattle.miette_protocol.specs.views.Meaning.{Label}
 use Rattle.miette_brief.specs.declared.rows.Place.{Place as GivenPlace}
+use Rattle.miette_brief.specs.declared.spots.Choice.{Choice}
+use Rattle.miette_brief.specs.declared.spots.Choice.TheVariants.{Marked, First}
 use Rattle.miette_brief.specs.declared.spots.Found.{Found}
 use Rattle.miette_brief.specs.declared.spots.Found.TheVariants as found
 use Rattle.miette_brief.specs.declared.rows.Kind.{Kind as GivenKind}
@@ -11,10 +15,16 @@ use Rattle.miette_brief.specs.declared.fixes.FixSource.{FixSource}
 use Rattle.miette_brief.specs.declared.fixes.FixSource.TheVariants as over
 use Rattle.miette_brief.specs.rules.FixIts.{FixIt}
 use Rattle.miette_brief.specs.rules.Fixes.{FixedSource, no_source, unread, read}
+use Rattle.miette_brief.specs.rules.Places.{first_in, marked_in}
 use Rattle.miette_brief.specs.rules.Rows.{Place, Kind, finding, note, cause, help, fix, failure}
 
 abbrev pub place_of : GivenPlace → Place
 place_of it = record { name = option_copied it.name; position = it.position }
+
+-- of labels by offset the span of the one that is chosen
+abbrev pub chosen_in : Choice → List Label → Option Span
+chosen_in Marked = marked_in
+chosen_in First = first_in
 
 -- whether there is a primary label
 abbrev pub is_label : Found → Bool

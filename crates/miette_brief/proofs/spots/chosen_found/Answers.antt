@@ -1,0 +1,21 @@
+use Rattle.std.proofs.Common.{map, sym, ◌∙◌}
+use Rattle.std.specs.Option.{option_map}
+use Rattle.miette_tree.specs.views.Attached.{section_of}
+use Rattle.miette_tree.specs.views.Owned.{shown_source}
+use Rattle.miette_brief.specs.rules.Places.{found_further, spot_over}
+use Rattle.miette_brief.specs.steps.Conversions.{chosen_in}
+use Rattle.miette_brief.proofs.Choosing.{found_first, found_later}
+use Rattle.miette_brief.proofs.spots.chosen_found.Goals as goal
+
+pub returns-then-is_label : goal.returns-then-is_label
+returns-then-is_label g c =
+    found_first (spot_over (option_map (shown_source g.S.SourceCode.source) c.args.source) c.args.own)
+    (found_further (chosen_in c.args.choice) (map (section_of g.S.SourceCode.source) c.args.further.now))
+    c.in_ok-found.found c.in_ok-found.ensures (sym c.is_label.ensures ∙ c.if-is_label.true)
+
+pub returns : goal.returns
+returns g c =
+    found_later (spot_over (option_map (shown_source g.S.SourceCode.source) c.args.source) c.args.own)
+    (found_further (chosen_in c.args.choice) (map (section_of g.S.SourceCode.source) c.args.further.now))
+    c.in_ok-found.found c.in_ok-behind.behind c.in_ok-found.ensures (sym c.is_label.ensures ∙ c.if-is_label.false)
+    c.in_ok-behind.ensures

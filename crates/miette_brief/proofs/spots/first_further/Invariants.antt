@@ -1,9 +1,0 @@
-use Rattle.std.proofs.Common.{◌≡◌, map, drop}
-use Rattle.miette_tree.specs.views.Attached.{section_of}
-use Rattle.miette_brief.specs.rules.Places.{first_in, found_further}
-use Rattle.miette_brief.proofs.spots.first_further.Given as goal
-
-abbrev pub invariant-loop-section : goal.invariant-loop-section
-invariant-loop-section g l =
-    let value = section_of g.S.SourceCode.source in
-    found_further first_in (map value (drop l.section-index l.further)) ≡ found_further first_in (map value l.further)
