@@ -5,7 +5,6 @@ use Rattle.std.specs.Prelude.{◌==◌, not}
 use Rattle.std.specs.List.{AllByRecursion, flat_map, list_all}
 use Rattle.std.proofs.lemmas.Bool.{and_parts, not-true}
 use Rattle.std.proofs.lemmas.Bool.Decides.{nat_tests}
-use Rattle.std.proofs.lemmas.List.{length-append}
 use Rattle.miette_basics.proofs.Cases.{by_cases}
 use Rattle.miette_positions.specs.declared.place.Region.{Region}
 use Rattle.miette_protocol.specs.declared.protocol.Severity.{Severity}
@@ -30,6 +29,7 @@ use Rattle.miette_brief.specs.rules.Commands.{title_properties}
 use Rattle.miette_brief.specs.rules.Report.{Answers, BriefSettings, RelatedAnswers, brief, first_answers, later_answers}
 use Rattle.miette_brief.specs.rules.Report.{related_answers, related_commands, report_commands, text_in}
 use Rattle.miette_brief.proofs.Clean.{both_pass}
+use Rattle.miette_brief.proofs.Counting.{counted_behind}
 use Rattle.miette_brief.proofs.EditsBack.{behind_past, lacks, up_past}
 use Rattle.miette_brief.proofs.Escaping.{byte_escaped, byte_single, escaped_is_ascii}
 
@@ -362,7 +362,6 @@ mutual
       → length (related_commands chain inherited more ts) ≡ all_diagnostics_in ts
   related_counted chain inherited more no_trees = refl
   related_counted chain inherited more (more_trees t ts) =
-      length-append (report_commands chain inherited (first_answers more) t)
-      (related_commands chain inherited (later_answers more) ts)
-      ∙ ap₂ (λ x y. x + y) (commands_counted chain inherited (first_answers more) t)
+      counted_behind (report_commands chain inherited (first_answers more) t) _ _ _
+      (commands_counted chain inherited (first_answers more) t)
       (related_counted chain inherited (later_answers more) ts)

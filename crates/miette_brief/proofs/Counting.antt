@@ -52,6 +52,11 @@ note_counted : (at : Place) (text : Option (List ℕ)) → length (note_rows_of 
 note_counted at None = refl
 note_counted at (Some text) = refl
 
+-- so many behind others
+pub counted_behind : {A : Type 0} (xs ys : List A) (n k : ℕ) → length xs ≡ n → length ys ≡ k
+    → length (xs ++ ys) ≡ n + k
+counted_behind xs ys n k e f = length-append xs ys ∙ ap₂ (λ x y. x + y) e f
+
 help_counted : (at : Place) (text : Option (List ℕ)) → length (help_rows at text) ≡ option_len text
 help_counted at None = refl
 help_counted at (Some text) = refl
@@ -59,8 +64,8 @@ help_counted at (Some text) = refl
 notes_counted : (source : Option Source) (labels : List Label) → length (note_rows source labels) ≡ texts_in labels
 notes_counted source [] = refl
 notes_counted source (label ∷ labels) =
-    length-append (note_rows_of (label_place source label.span) label.text) (note_rows source labels)
-    ∙ ap₂ (λ m n. m + n) (note_counted (label_place source label.span) label.text) (notes_counted source labels)
+    counted_behind (note_rows_of (label_place source label.span) label.text) (note_rows source labels) _ _
+    (note_counted (label_place source label.span) label.text) (notes_counted source labels)
 
 put_counted : (label : Label) (labels : List Label) → texts_in (put_label label labels) ≡ option_len label.text
     + texts_in labels
@@ -79,16 +84,16 @@ order_counted (label ∷ labels) = put_counted label (in_order labels)
 further_counted : (sections : List Section) → length (further_notes sections) ≡ texts_further sections
 further_counted [] = refl
 further_counted (section ∷ sections) =
-    length-append (note_rows (Some section.source) (in_order section.labels)) (further_notes sections)
-    ∙ ap₂ (λ m n. m + n) (notes_counted (Some section.source) (in_order section.labels)
-    ∙ order_counted section.labels) (further_counted sections)
+    counted_behind (note_rows (Some section.source) (in_order section.labels)) (further_notes sections) _ _
+    (notes_counted (Some section.source) (in_order section.labels) ∙ order_counted section.labels)
+    (further_counted sections)
 
 labels_counted : (source : Option Source) (m : Diagnosis) → length (labelled_rows source m)
     ≡ texts_in (given_labels m.labels) + texts_further m.snippets
 labels_counted source m =
-    length-append (note_rows source (in_order (given_labels m.labels))) (further_notes m.snippets)
-    ∙ ap₂ (λ x y. x + y) (notes_counted source (in_order (given_labels m.labels)) ∙ order_counted
-    (given_labels m.labels)) (further_counted m.snippets)
+    counted_behind (note_rows source (in_order (given_labels m.labels))) (further_notes m.snippets) _ _
+    (notes_counted source (in_order (given_labels m.labels)) ∙ order_counted (given_labels m.labels))
+    (further_counted m.snippets)
 
 mutual
   causes_counted : (at : Place) (inherited : Option Source) (a : Answers) (c : Cause)
@@ -155,15 +160,15 @@ fixes_counted : (at : Place) (over : FixedSource) (proposals : List Proposal) �
     ≡ fixes_parts over proposals
 fixes_counted at over [] = refl
 fixes_counted at over (proposal ∷ proposals) =
-    length-append (fix_rows at over proposal) (fixes_rows at over proposals)
-    ∙ ap₂ (λ m n. m + n) (fix_counted at over proposal) (fixes_counted at over proposals)
+    counted_behind (fix_rows at over proposal) (fixes_rows at over proposals) _ _ (fix_counted at over proposal)
+    (fixes_counted at over proposals)
 
 advice_counted : (at : Place) (source : Option Source) (fails : Bool) (m : Diagnosis)
     → length (advice_rows at source fails m) ≡ advice_parts source fails m
 advice_counted at source fails m =
     let over = fixed_source source fails in
-    length-append (help_rows at m.help) (fixes_rows at over m.fixes)
-    ∙ ap₂ (λ x y. x + y) (help_counted at m.help) (fixes_counted at over m.fixes)
+    counted_behind (help_rows at m.help) (fixes_rows at over m.fixes) _ _ (help_counted at m.help)
+    (fixes_counted at over m.fixes)
 
 -- ---- reports
 
@@ -181,8 +186,8 @@ mutual
       let k : length causes ≡ told_causes chain (causes_of c) = told_counted chain at from (cause_answers a) c in
       let tail : length (notes ++ (causes ++ advice)) ≡ (texts_in (given_labels m.labels) + texts_further m.snippets)
       + (told_causes chain (causes_of c) + advice_parts from fails m) =
-      length-append notes (causes ++ advice) ∙ ap₂ (λ x y. x + y) n
-      (length-append causes advice ∙ ap₂ (λ x y. x + y) k (advice_counted at from fails m)) in
+      counted_behind notes (causes ++ advice) _ _ n
+      (counted_behind causes advice _ _ k (advice_counted at from fails m)) in
       let more = related_counted chain from (related_answers a) r in
       let whole = length-append (own_rows chain from a m c) (related_rows chain from (related_answers a) r) in
       omega (arith, tail, more, whole)
@@ -191,10 +196,8 @@ mutual
       → length (related_rows chain inherited more ts) ≡ all_parts chain inherited more ts
   related_counted chain inherited more no_trees = refl
   related_counted chain inherited more (more_trees t ts) =
-      length-append (report_rows chain inherited (first_answers more) t)
-      (related_rows chain inherited (later_answers more) ts)
-      ∙ ap₂ (λ x y. x + y) (report_counted chain inherited (first_answers more) t)
-      (related_counted chain inherited (later_answers more) ts)
+      counted_behind (report_rows chain inherited (first_answers more) t) _ _ _
+      (report_counted chain inherited (first_answers more) t) (related_counted chain inherited (later_answers more) ts)
 
 rows_for_each : (f : Form) (chain : Bool) (t : Tree) (a : Answers) → f ≡ Gcc → IsRows (parts chain t a)
     (text_in f chain None a t)
