@@ -34,6 +34,7 @@ use Rattle.miette_brief.specs.rules.PossibleAnswers.{AllAnswers, IsBrief}
 use Rattle.miette_brief.specs.rules.ToldSources.{ToldReads, ToldAllRead, ToldCausesRead, ToldCauseReads}
 use Rattle.miette_brief.specs.steps.Reads.{IsDiagnosticPlace}
 use Rattle.miette_brief.proofs.Choosing.{nothing_met, accepts_order}
+use Rattle.miette_brief.proofs.Further.{own_refused, further_refused}
 use Rattle.miette_brief.proofs.Putting.{rows_joined}
 use Rattle.miette_brief.proofs.SoFar.{ToldSoFar, one_so_far}
 use Rattle.miette_brief.proofs.ToldSources.{told_reads}
@@ -271,6 +272,20 @@ order_refused label source labels given order e ordered further sections ef refu
     (subst (λ (ls : List Label). (accepts source ls && holds_further accepts further) ≡ false)
     (ap (λ (ls : List Label). map (label ls) order) e ∙ ordered) refused)
 
+-- some over the first source, or some over further ones
+module _ {X : Type 0} (label : List Label → X → Label) (source : Option Source) (labels given : List Label)
+    (order : List X) (e : labels ≡ given) (ordered : map (label given) order ≡ in_order given)
+    (further sections : List Section) (ef : further ≡ sections) where
+  pub own_order_refused : accepts source (map (label labels) order) ≡ false
+      → (accepts source (in_order given) && holds_further accepts sections) ≡ false
+  own_order_refused refused = order_refused label source labels given order e ordered further sections ef
+      (own_refused source (map (label labels) order) further refused)
+
+  pub further_order_refused : holds_further accepts further ≡ false
+      → (accepts source (in_order given) && holds_further accepts sections) ≡ false
+  further_order_refused refused = order_refused label source labels given order e ordered further sections ef
+      (further_refused source (map (label labels) order) further refused)
+
 -- ---- where every source that is read always reads
 
 mutual
@@ -294,52 +309,41 @@ same_if : (chain : Bool) (at : Place) (inherited : Option Source) (a : Answers) 
 same_if true at inherited a c p reads = same_causes at inherited a c p reads
 same_if false at inherited a c p reads = refl
 
+-- rows and commands
 mutual
   same_report : (chain : Bool) (inherited : Option Source) (a : Answers) (t : Tree) → AreAnswers inherited a t
-      → ToldReads inherited t → report_rows chain inherited a t ≡ report_rows chain inherited unlisted t
+      → ToldReads inherited t → (report_rows chain inherited a t ≡ report_rows chain inherited unlisted t)
+      × (report_commands chain inherited a t ≡ report_commands chain inherited unlisted t)
   same_report chain inherited a (tree m own c r) p reads =
       let from = effective own inherited in
       let ls : List Label = in_order (given_labels m.labels) in
       let at : Place = diagnostic_place from false ls m.snippets in
-      let placed : diagnostic_place from (own_answer a).place ls m.snippets ≡ at =
-      ap (λ b. diagnostic_place from b ls m.snippets) (fault_free from (own_answer a).place p.1 reads.0) in
+      let place : (own_answer a).place ≡ false = fault_free from (own_answer a).place p.1 reads.0 in
       let others = related_rows chain from (related_answers a) r in
       let causes = cause_rows_if chain at from (cause_answers a) c in
-      ap (λ q. rows_at chain q from a m c ++ others) placed
-      ∙ ap (λ b. (finding_row at m ∷ (labelled_rows from m ++ (causes ++ advice_rows at from b m))) ++ others)
-      (fault_free from (own_answer a).fixes p.4 reads.0)
-      ∙ ap₂ (λ x y. (finding_row at m ∷ (labelled_rows from m ++ (x ++ advice_rows at from false m))) ++ y)
-      (same_if chain at from (cause_answers a) c p.2 reads.1)
-      (same_related chain from (related_answers a) r p.3 reads.2)
+      let more = same_related chain from (related_answers a) r p.3 reads.2 in (
+        ap (λ b. rows_at chain (diagnostic_place from b ls m.snippets) from a m c ++ others) place
+            ∙ ap (λ b. (finding_row at m ∷ (labelled_rows from m ++ (causes ++ advice_rows at from b m))) ++ others)
+            (fault_free from (own_answer a).fixes p.4 reads.0)
+            ∙ ap₂ (λ x y. (finding_row at m ∷ (labelled_rows from m ++ (x ++ advice_rows at from false m))) ++ y)
+            (same_if chain at from (cause_answers a) c p.2 reads.1) more.0,
+        ap₂ (λ b cs. command chain from b m c ∷ cs) place more.1,
+      )
 
   same_related : (chain : Bool) (inherited : Option Source) (more : RelatedAnswers) (ts : Trees)
-      → AllAnswers inherited more ts → ToldAllRead inherited ts → related_rows chain inherited more ts
-      ≡ related_rows chain inherited no_more ts
-  same_related chain inherited more no_trees p reads = refl
+      → AllAnswers inherited more ts → ToldAllRead inherited ts
+      → (related_rows chain inherited more ts ≡ related_rows chain inherited no_more ts)
+      × (related_commands chain inherited more ts ≡ related_commands chain inherited no_more ts)
+  same_related chain inherited more no_trees p reads = (refl, refl)
   same_related chain inherited more (more_trees t ts) p reads =
-      ap₂ (λ x y. x ++ y) (same_report chain inherited (first_answers more) t p.0 reads.0)
-      (same_related chain inherited (later_answers more) ts p.1 reads.1)
-
-mutual
-  same_commands : (chain : Bool) (inherited : Option Source) (a : Answers) (t : Tree) → AreAnswers inherited a t
-      → ToldReads inherited t → report_commands chain inherited a t ≡ report_commands chain inherited unlisted t
-  same_commands chain inherited a (tree m own c r) p reads =
-      let from = effective own inherited in
-      ap₂ (λ b cs. command chain from b m c ∷ cs) (fault_free from (own_answer a).place p.1 reads.0)
-      (same_further chain from (related_answers a) r p.3 reads.2)
-
-  same_further : (chain : Bool) (inherited : Option Source) (more : RelatedAnswers) (ts : Trees)
-      → AllAnswers inherited more ts → ToldAllRead inherited ts → related_commands chain inherited more ts
-      ≡ related_commands chain inherited no_more ts
-  same_further chain inherited more no_trees p reads = refl
-  same_further chain inherited more (more_trees t ts) p reads =
-      ap₂ (λ x y. x ++ y) (same_commands chain inherited (first_answers more) t p.0 reads.0)
-      (same_further chain inherited (later_answers more) ts p.1 reads.1)
+      let own = same_report chain inherited (first_answers more) t p.0 reads.0 in
+      let later = same_related chain inherited (later_answers more) ts p.1 reads.1 in
+      (ap₂ (λ x y. x ++ y) own.0 later.0, ap₂ (λ x y. x ++ y) own.1 later.1)
 
 same_text : (f : Form) (chain : Bool) (a : Answers) (t : Tree) → AreAnswers None a t → ToldReads None t
     → text_in f chain None a t ≡ text_in f chain None unlisted t
-same_text Gcc chain a t p reads = ap rows_text (same_report chain None a t p reads)
-same_text Github chain a t p reads = ap commands_text (same_commands chain None a t p reads)
+same_text Gcc chain a t p reads = ap rows_text (same_report chain None a t p reads).0
+same_text Github chain a t p reads = ap commands_text (same_report chain None a t p reads).1
 
 pub is_brief : (b : BriefSettings) (t : Tree) (text : List ℕ) → AppendsReport b None t [] text → IsBrief b t text
 is_brief b t text a = record { answers = a.answers; possible = a.possible; is = a.appended }

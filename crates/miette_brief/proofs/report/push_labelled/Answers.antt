@@ -8,9 +8,7 @@ use Rattle.miette_tree.specs.views.Report.{tree_of}
 use Rattle.miette_labels.specs.declared.order.Turn.{Turn}
 use Rattle.miette_labels.specs.rules.Groups.{in_order}
 use Rattle.miette_labels.specs.views.GivenLabels.{label_at}
-use Rattle.miette_tree.specs.views.Attached.{section_of}
-use Rattle.miette_brief.proofs.Further.{own_refused, further_refused}
-use Rattle.miette_brief.proofs.Telling.{labelled, order_refused}
+use Rattle.miette_brief.proofs.Telling.{further_order_refused, labelled, order_refused, own_order_refused}
 use Rattle.miette_brief.proofs.report.push_labelled.Goals as goal
 
 abbrev label : List Label → Turn → Label
@@ -51,18 +49,12 @@ returns-in_err-at-clause-refused g c = λ h.
 
 pub returns-in_err-push_notes-clause-refused : goal.returns-in_err-push_notes-clause-refused
 returns-in_err-push_notes-clause-refused g c = λ h.
-    order_refused label (option_map (shown_source g.S.SourceCode.source) c.args.source) c.labels_of-labels.result.now _
-    c.args.order.now c.labels_of-labels.ensures c.requires.ordered _ _ c.further_snippets-further.ensures
-    (own_refused (option_map (shown_source g.S.SourceCode.source) c.args.source)
-    (map (label c.labels_of-labels.result.now) c.args.order.now)
-    (map (section_of g.S.SourceCode.source) c.further_snippets-further.result.now)
-    (c.in_err-push_notes.ensures.refused (search rules)))
+    own_order_refused label (option_map (shown_source g.S.SourceCode.source) c.args.source)
+    c.labels_of-labels.result.now _ c.args.order.now c.labels_of-labels.ensures c.requires.ordered _ _
+    c.further_snippets-further.ensures (c.in_err-push_notes.ensures.refused (search rules))
 
 pub returns-in_err-push_further_notes-clause-refused : goal.returns-in_err-push_further_notes-clause-refused
 returns-in_err-push_further_notes-clause-refused g c = λ h.
-    order_refused label (option_map (shown_source g.S.SourceCode.source) c.args.source) c.labels_of-labels.result.now _
-    c.args.order.now c.labels_of-labels.ensures c.requires.ordered _ _ c.further_snippets-further.ensures
-    (further_refused (option_map (shown_source g.S.SourceCode.source) c.args.source)
-    (map (label c.labels_of-labels.result.now) c.args.order.now)
-    (map (section_of g.S.SourceCode.source) c.further_snippets-further.result.now)
-    (c.in_err-push_further_notes.ensures.refused (search rules)))
+    further_order_refused label (option_map (shown_source g.S.SourceCode.source) c.args.source)
+    c.labels_of-labels.result.now _ c.args.order.now c.labels_of-labels.ensures c.requires.ordered _ _
+    c.further_snippets-further.ensures (c.in_err-push_further_notes.ensures.refused (search rules))
