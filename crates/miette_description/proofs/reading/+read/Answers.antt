@@ -1,5 +1,5 @@
 use Rattle.std.proofs.Common.{◌≡◌, ℕ, ◌-◌, ◌<◌, List, [], ◌∷◌, ◌++◌, length, Some, None, sym, ap, ap₂}
-use Rattle.std.proofs.Common.{◌∙◌, Global, arith, rules}
+use Rattle.std.proofs.Common.{◌∙◌, Global, arith, refl, rules}
 use Rattle.json.specs.Token.{Token}
 use Rattle.json.specs.declared.token.Token as read
 use Rattle.json.specs.Json.{Json, array, object, parse_map, after_end_array, read_key, items, members, value}
@@ -15,6 +15,18 @@ use Rattle.miette_description.proofs.reading.+read.Goals as goal
 -- a first token, by its kind
 begun : (r s : List Token) (t k : read.Token) → r ≡ token_of t ∷ s → t ≡ k → r ≡ token_of k ∷ s
 begun r s t k first is = first ∙ ap (λ x. token_of x ∷ s) is
+
+-- behind the bracket of an array its items are read
+array_opened : (d : ℕ) (r s : List Token) (t k : read.Token) → r ≡ token_of t ∷ s → t ≡ k
+    → token_of k ≡ Token.begin_array → 0 < d → value d r ≡ parse_map array (items (value (d - 1)) (length s) s)
+array_opened d r s t k first is bracket some =
+    ap (value d) (begun r s t k first is ∙ ap (λ x. x ∷ s) bracket) ∙ value-begin_array d s some
+
+-- behind that of an object its members
+object_opened : (d : ℕ) (r s : List Token) (t k : read.Token) → r ≡ token_of t ∷ s → t ≡ k
+    → token_of k ≡ Token.begin_object → 0 < d → value d r ≡ parse_map object (members (value (d - 1)) (length s) s)
+object_opened d r s t k first is bracket some =
+    ap (value d) (begun r s t k first is ∙ ap (λ x. x ∷ s) bracket) ∙ value-begin_object d s some
 
 -- a value of one token
 leaf : (d : ℕ) (r s : List Token) (k : Token) (v : Value Global) (j : Json) → r ≡ k ∷ s → value_view v ≡ j
@@ -35,10 +47,9 @@ read_value-returns-then-depth-eq0-clause-description t c never =
 pub read_value-returns-in_err-read_items-in-BeginArray-clause-description :
     goal.read_value-returns-in_err-read_items-in-BeginArray-clause-description
 read_value-returns-in_err-read_items-in-BeginArray-clause-description t c invalid =
-    let opened = ap (value c.args.depth) (begun c.args.reader.now c.next.new.self c.in-Some.token _ (grind arith)
-    c.in-BeginArray.is) ∙ value-begin_array c.args.depth c.next.new.self (omega arith) in
     let failed : items (value (c.args.depth - 1)) (length c.next.new.self) c.next.new.self ≡ None = grind arith in
-    opened ∙ ap (parse_map array) failed
+    array_opened c.args.depth c.args.reader.now c.next.new.self c.in-Some.token _ (grind arith) c.in-BeginArray.is
+    refl (omega arith) ∙ ap (parse_map array) failed
 
 pub read_value-returns-then-depth-eq0-2-clause-description : goal.read_value-returns-then-depth-eq0-2-clause-description
 unfolding value
@@ -49,10 +60,9 @@ read_value-returns-then-depth-eq0-2-clause-description t c never =
 pub read_value-returns-in_err-read_members-in-BeginObject-clause-description :
     goal.read_value-returns-in_err-read_members-in-BeginObject-clause-description
 read_value-returns-in_err-read_members-in-BeginObject-clause-description t c invalid =
-    let opened = ap (value c.args.depth) (begun c.args.reader.now c.next.new.self c.in-Some.token _ (grind arith)
-    c.in-BeginObject.is) ∙ value-begin_object c.args.depth c.next.new.self (omega arith) in
     let failed : members (value (c.args.depth - 1)) (length c.next.new.self) c.next.new.self ≡ None = grind arith in
-    opened ∙ ap (parse_map object) failed
+    object_opened c.args.depth c.args.reader.now c.next.new.self c.in-Some.token _ (grind arith) c.in-BeginObject.is
+    refl (omega arith) ∙ ap (parse_map object) failed
 
 pub read_value-returns-in-String-clause-ok : goal.read_value-returns-in-String-clause-ok
 read_value-returns-in-String-clause-ok t c =
@@ -86,20 +96,18 @@ read_value-returns-in-EndObject-clause-description t c invalid =
 pub read_value-returns-in_ok-read_items-in-BeginArray-clause-ok :
     goal.read_value-returns-in_ok-read_items-in-BeginArray-clause-ok
 read_value-returns-in_ok-read_items-in-BeginArray-clause-ok t c =
-    let opened = ap (value c.args.depth) (begun c.args.reader.now c.next.new.self c.in-Some.token _ (grind arith)
-    c.in-BeginArray.is) ∙ value-begin_array c.args.depth c.next.new.self (omega arith) in
     let found = c.in_ok-read_items-in-BeginArray in
-    opened ∙ ap (parse_map array) found.ensures.ok ∙ ap (λ j. Some (j, c.read_items.new.reader))
-    (sym (view-Array found.field-0))
+    array_opened c.args.depth c.args.reader.now c.next.new.self c.in-Some.token _ (grind arith) c.in-BeginArray.is
+    refl (omega arith) ∙ ap (parse_map array) found.ensures.ok
+    ∙ ap (λ j. Some (j, c.read_items.new.reader)) (sym (view-Array found.field-0))
 
 pub read_value-returns-in_ok-read_members-in-BeginObject-clause-ok :
     goal.read_value-returns-in_ok-read_members-in-BeginObject-clause-ok
 read_value-returns-in_ok-read_members-in-BeginObject-clause-ok t c =
-    let opened = ap (value c.args.depth) (begun c.args.reader.now c.next.new.self c.in-Some.token _ (grind arith)
-    c.in-BeginObject.is) ∙ value-begin_object c.args.depth c.next.new.self (omega arith) in
     let found = c.in_ok-read_members-in-BeginObject in
-    opened ∙ ap (parse_map object) found.ensures.ok ∙ ap (λ j. Some (j, c.read_members.new.reader))
-    (sym (view-Object found.field-0))
+    object_opened c.args.depth c.args.reader.now c.next.new.self c.in-Some.token _ (grind arith) c.in-BeginObject.is
+    refl (omega arith) ∙ ap (parse_map object) found.ensures.ok
+    ∙ ap (λ j. Some (j, c.read_members.new.reader)) (sym (view-Object found.field-0))
 
 pub read_items-loop-alloc-init : goal.read_items-loop-alloc-init
 read_items-loop-alloc-init t c = (
