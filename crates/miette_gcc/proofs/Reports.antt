@@ -2,7 +2,6 @@
 use Rattle.std.proofs.Common.{◌≡◌, ℕ, List, [], ◌∷◌, Option, Some, None, option_map, All, IfSome, true, map}
 use Rattle.std.specs.Prelude.{option_and_then}
 use Rattle.std.specs.List.{Contains, filter_map, list_all}
-use Rattle.std.proofs.lemmas.List.Elements.{All-nil, All-cons}
 use Rattle.serde_json.specs.Data.{Data, Items}
 use Rattle.serde_json.specs.Find.{as_array}
 use Rattle.miette_protocol.specs.rules.Reading.{Source}
@@ -15,8 +14,8 @@ use Rattle.miette_readers.specs.rules.Proposing.{FileEdit}
 use Rattle.miette_readers.specs.rules.Settling.{found_place}
 use Rattle.miette_readers.proofs.Accepted.{report_accepts}
 use Rattle.miette_readers.proofs.Kept.{report_keeps}
-use Rattle.miette_readers.proofs.ReportsRead.{EditsRead, FilesRead, OffersRead, either, found_reads, more_edits}
-use Rattle.miette_readers.proofs.ReportsRead.{more_offers, place_reads, report_reads}
+use Rattle.miette_readers.proofs.ReportsRead.{EditReads, EditsRead, FilesRead, OfferReads, OffersRead, each_holds}
+use Rattle.miette_readers.proofs.ReportsRead.{each_kept, either, found_reads, place_reads, report_reads}
 use Rattle.miette_gcc.specs.rules.Gcc.{Ground, told_of}
 use Rattle.miette_gcc.specs.rules.GccReport.{all_found, all_trees, diagnostic_tree, edit_at, fixit_place, fixits_of}
 use Rattle.miette_gcc.specs.rules.GccReport.{gcc_trees, ground_of, has_message, is_found, new_text, offer_by, offer_of}
@@ -24,29 +23,24 @@ use Rattle.miette_gcc.specs.rules.GccReport.{offer_with, offers_of, proposers, s
 
 -- ---- proposals
 
-edits_read : (g : Ground) → FilesRead g.files → (xs : List Data) → EditsRead (filter_map (edit_at g) xs)
-edits_read g h [] = tt
-edits_read g h (x ∷ xs) =
+edit_reads : (g : Ground) → FilesRead g.files → (x : Data) → IfSome (edit_at g x) EditReads
+edit_reads g h x =
     let p = fixit_place g x in
-    more_edits (edit_at g x) (filter_map (edit_at g) xs)
-    (found_reads p.name (new_text x) (found_place g.files p) (place_reads g.files h p)) (edits_read g h xs)
+    found_reads p.name (new_text x) (found_place g.files p) (place_reads g.files h p)
 
 offer_from : (xs : List Data) (o : Option (List FileEdit)) → IfSome o EditsRead
-    → IfSome (option_map (offer_by xs) o) (λ offer. EditsRead offer.edits)
+    → IfSome (option_map (offer_by xs) o) OfferReads
 offer_from xs None h = tt
 offer_from xs (Some es) h = h
 
-offer_reads : (g : Ground) → FilesRead g.files → (xs : List Data)
-    → IfSome (offer_with g xs) (λ offer. EditsRead offer.edits)
+offer_reads : (g : Ground) → FilesRead g.files → (xs : List Data) → IfSome (offer_with g xs) OfferReads
 offer_reads g h [] = tt
 offer_reads g h (x ∷ xs) =
     offer_from (x ∷ xs) (all_found g (x ∷ xs)) (either (λ o. IfSome o EditsRead) (list_all (is_found g) (x ∷ xs))
-    (Some (filter_map (edit_at g) (x ∷ xs))) None (edits_read g h (x ∷ xs)) tt)
+    (Some (filter_map (edit_at g) (x ∷ xs))) None (each_kept EditReads (edit_at g) (edit_reads g h) (x ∷ xs)) tt)
 
 offers_read : (g : Ground) → FilesRead g.files → (ds : List Data) → OffersRead (filter_map (offer_of g) ds)
-offers_read g h [] = tt
-offers_read g h (d ∷ ds) =
-    more_offers (offer_of g d) (filter_map (offer_of g) ds) (offer_reads g h (fixits_of d)) (offers_read g h ds)
+offers_read g h ds = each_kept OfferReads (offer_of g) (λ d. offer_reads g h (fixits_of d)) ds
 
 -- ---- the reports
 
@@ -55,16 +49,11 @@ Holding holds o = IfSome o (All holds)
 
 module _ (holds : Tree → Type 0) (files : List ℕ → Option Source)
     (each : (d : Data) → holds (diagnostic_tree files d)) where
-  trees_hold : (ds : List Data) → All holds (map (diagnostic_tree files) ds)
-  trees_hold [] = All-nil holds
-  trees_hold (d ∷ ds) =
-      All-cons holds (diagnostic_tree files d) (map (diagnostic_tree files) ds) (each d) (trees_hold ds)
-
   items_hold : (o : Option Items) → Holding holds (option_and_then (λ items. all_trees files (listed items)) o)
   items_hold None = tt
   items_hold (Some items) =
       either (Holding holds) (list_all has_message (listed items)) (Some (map (diagnostic_tree files) (listed items)))
-      None (trees_hold (listed items)) tt
+      None (each_holds holds (diagnostic_tree files) each (listed items)) tt
 
 pub gcc_reads : (files : List ℕ → Option Source) → FilesRead files → (d : Data)
     → IfSome (gcc_trees files d) (All AlwaysReads)

@@ -1,6 +1,6 @@
 -- The labels of a message's report are accepted, over files that always read.
 use Rattle.std.proofs.Common.{◌≡◌, ◌⊎◌, ℕ, zero, suc, ◌+◌, ◌-◌, ◌≤◌, List, [], ◌∷◌, ◌++◌, Option, Some, None}
-use Rattle.std.proofs.Common.{option_map, Bool, true, false, IfSome, arith, length, map, filter, codes, refl, sym, ap}
+use Rattle.std.proofs.Common.{Bool, true, false, IfSome, arith, length, map, filter, refl, sym, ap}
 use Rattle.std.proofs.Common.{subst, ◌∙◌, inl, inr}
 use Rattle.std.specs.Prelude.{⊤, ◌==◌, ◌&&◌, if◌then◌else◌, option_and_then}
 use Rattle.std.specs.List.{flat_map, fold, list_all, list_any}
@@ -15,19 +15,19 @@ use Rattle.miette_tree.specs.rules.DiagnosticParts.{given_labels}
 use Rattle.miette_tree.specs.rules.Reads.{accepts, holds_further, holds_of_all, report_accepted}
 use Rattle.miette_tree.specs.rules.Tree.{Tree, Trees, alone, texts, trees, with_all_snippets, with_cause, with_fixes}
 use Rattle.miette_tree.specs.rules.Tree.{with_related}
-use Rattle.miette_readers.specs.rules.Members.{text_at}
 use Rattle.miette_readers.specs.rules.Places.{Place, Stretch, Told, is_within, joined}
 use Rattle.miette_readers.specs.rules.Proposing.{FileEdit, Offer}
 use Rattle.miette_readers.specs.rules.Rustc.{told_of}
 use Rattle.miette_readers.specs.rules.Reports.{Said, advice, advice_of, further_files, is_listed, label_of, labels_in}
 use Rattle.miette_readers.specs.rules.Reports.{main_fixes, maybe_source, meaning_with, others, report_tree}
 use Rattle.miette_readers.specs.rules.Reports.{sections_from, some_labels}
-use Rattle.miette_readers.specs.rules.RustcReport.{held_in, is_other_reason, is_other_type, message_tree, offers_of}
-use Rattle.miette_readers.specs.rules.RustcReport.{row_tree, rustc_tree, said_of}
+use Rattle.miette_readers.specs.rules.RustcReport.{message_tree, offers_of}
+use Rattle.miette_readers.specs.rules.RustcReport.{rustc_tree, said_of}
 use Rattle.miette_readers.specs.rules.Settling.{Mark, Settled, first_open, found_place, has_no_rows, is_around, is_at}
 use Rattle.miette_readers.specs.rules.Settling.{is_open, main_of, marked, maybe_text, meets, new_mark, newly_marked}
 use Rattle.miette_readers.specs.rules.Settling.{nothing_settled, settled, settled_at, settled_one, settled_with}
 use Rattle.miette_readers.specs.rules.Settling.{told_again, within_of}
+use Rattle.miette_readers.proofs.MessageRows.{row_holds}
 use Rattle.miette_readers.proofs.ReportsRead.{EachReads, FilesRead, either, settled_reads}
 
 -- ---- the files of lists by their numbers
@@ -286,22 +286,6 @@ message_accepts : (files : List ℕ → Option Source) → FilesRead files → (
     → report_accepted (message_tree files d) ≡ true
 message_accepts files h d = report_accepts files h (said_of files d) (told_of files d) (offers_of files d)
 
-abbrev MaybeAccepts : Option (Option Tree) → Type 0
-MaybeAccepts o = IfSome o (λ t. IfSome t (λ tree. report_accepted tree ≡ true))
-
-some_accepts : (o : Option (List ℕ)) (t : Tree) → report_accepted t ≡ true
-    → MaybeAccepts (option_map (λ text. Some t) o)
-some_accepts None t h = tt
-some_accepts (Some text) t h = h
-
-held_accepts : (files : List ℕ → Option Source) → FilesRead files → (o : Option Data)
-    → MaybeAccepts (option_and_then (row_tree files) o)
-held_accepts files h None = tt
-held_accepts files h (Some d) =
-    either MaybeAccepts (is_other_type d) (Some None) _ tt
-    (some_accepts (text_at (codes "message") d) (message_tree files d) (message_accepts files h d))
-
-pub row_accepts : (files : List ℕ → Option Source) → FilesRead files → (d : Data) → MaybeAccepts (rustc_tree files d)
-row_accepts files h d =
-    either MaybeAccepts (is_other_reason d) (Some None) _ tt
-    (held_accepts files h (held_in d (text_at (codes "reason") d)))
+pub row_accepts : (files : List ℕ → Option Source) → FilesRead files → (d : Data)
+    → IfSome (rustc_tree files d) (λ t. IfSome t (λ tree. report_accepted tree ≡ true))
+row_accepts files h d = row_holds (λ tree. report_accepted tree ≡ true) files (message_accepts files h) d

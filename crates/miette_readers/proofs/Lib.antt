@@ -2,6 +2,7 @@ pub mod Accepted
 pub mod AlwaysRead
 pub mod Endings
 pub mod Kept
+pub mod MessageRows
 pub mod NameSteps
 pub mod Parts
 pub mod ReportsRead

@@ -2,7 +2,7 @@
 use Rattle.std.proofs.Common.{◌≡◌, ℕ, ◌+◌, List, [], ◌∷◌, ◌++◌, Option, Some, None, Bool, true, false, All, IfSome, map}
 use Rattle.std.proofs.Common.{option_map}
 use Rattle.std.specs.Prelude.{⊤, ◌&&◌, ◌||◌, if◌then◌else◌, option_and_then}
-use Rattle.std.specs.List.{cons_option, flat_map, fold, list_any}
+use Rattle.std.specs.List.{AllByRecursion, cons_option, filter_map, flat_map, fold, list_any}
 use Rattle.std.proofs.lemmas.List.Elements.{All-nil, All-cons}
 use Rattle.miette_fixes.specs.rules.Edits.{Proposal}
 use Rattle.miette_protocol.specs.rules.Reading.{Source}
@@ -29,6 +29,26 @@ FilesRead files = (name : List ℕ) → IfSome (files name) Reads
 pub either : {A : Type 0} (P : A → Type 0) (b : Bool) (x y : A) → P x → P y → P (if b then x else y)
 either P true x y p q = p
 either P false x y p q = q
+
+-- ---- what holds of each thing that is made
+
+with_kept : {B : Type 0} (P : B → Type 0) (o : Option B) (ys : List B) → IfSome o P → AllByRecursion P ys
+    → AllByRecursion P (cons_option o ys)
+with_kept P None ys r h = h
+with_kept P (Some y) ys r h = (r, h)
+
+-- it holds of those that are kept
+pub each_kept : {A B : Type 0} (P : B → Type 0) (made : A → Option B) → ((x : A) → IfSome (made x) P) → (xs : List A)
+    → AllByRecursion P (filter_map made xs)
+each_kept P made each [] = tt
+each_kept P made each (x ∷ xs) = with_kept P (made x) (filter_map made xs) (each x) (each_kept P made each xs)
+
+-- it holds of all trees
+pub each_holds : {A : Type 0} (holds : Tree → Type 0) (made : A → Tree) → ((x : A) → holds (made x)) → (xs : List A)
+    → All holds (map made xs)
+each_holds holds made each [] = All-nil holds
+each_holds holds made each (x ∷ xs) =
+    All-cons holds (made x) (map made xs) (each x) (each_holds holds made each xs)
 
 -- ---- places
 
@@ -107,28 +127,22 @@ told_reads said done h = over_reads done.marks done.files done.texts _ h
 
 -- ---- proposals
 
-pub found_reads : (name text : List ℕ) (f : Option (Source × Stretch)) → IfSome f (λ f. Reads f.0)
-    → IfSome (option_map (edit_found name text) f) (λ e. Reads e.source)
-found_reads name text None r = tt
-found_reads name text (Some f) r = r
+abbrev pub EditReads : FileEdit → Type 0
+EditReads e = Reads e.source
 
 abbrev pub EditsRead : List FileEdit → Type 0
-EditsRead [] = ⊤
-EditsRead (e ∷ es) = Reads e.source × EditsRead es
+EditsRead es = AllByRecursion EditReads es
 
-pub more_edits : (o : Option FileEdit) (es : List FileEdit) → IfSome o (λ e. Reads e.source) → EditsRead es
-    → EditsRead (cons_option o es)
-more_edits None es r h = h
-more_edits (Some e) es r h = (r, h)
+abbrev pub OfferReads : Offer → Type 0
+OfferReads offer = EditsRead offer.edits
 
 abbrev pub OffersRead : List Offer → Type 0
-OffersRead [] = ⊤
-OffersRead (o ∷ os) = EditsRead o.edits × OffersRead os
+OffersRead os = AllByRecursion OfferReads os
 
-pub more_offers : (o : Option Offer) (os : List Offer) → IfSome o (λ offer. EditsRead offer.edits) → OffersRead os
-    → OffersRead (cons_option o os)
-more_offers None os r h = h
-more_offers (Some o) os r h = (r, h)
+pub found_reads : (name text : List ℕ) (f : Option (Source × Stretch)) → IfSome f (λ f. Reads f.0)
+    → IfSome (option_map (edit_found name text) f) EditReads
+found_reads name text None r = tt
+found_reads name text (Some f) r = r
 
 edits_with : (es : List FileEdit) (e : FileEdit) → EditsRead es → Reads e.source → EditsRead (es ++ e ∷ [])
 edits_with [] e h r = (r, tt)

@@ -1,8 +1,8 @@
 -- The reports of a log always read, over files that do, their labels are accepted, and what is told is kept.
-use Rattle.std.proofs.Common.{◌≡◌, ℕ, List, [], ◌∷◌, Option, Some, None, All, IfSome, true, map, codes}
+use Rattle.std.proofs.Common.{◌≡◌, ℕ, List, [], ◌∷◌, Option, Some, None, All, IfSome, true, codes}
 use Rattle.std.proofs.Common.{option_map}
 use Rattle.std.specs.List.{Contains, filter_map, flat_map, list_all}
-use Rattle.std.proofs.lemmas.List.Elements.{All-nil, All-cons, All-append}
+use Rattle.std.proofs.lemmas.List.Elements.{All-nil, All-append}
 use Rattle.serde_json.specs.Data.{Data}
 use Rattle.miette_protocol.specs.rules.Reading.{Source}
 use Rattle.miette_tree.specs.rules.Reads.{AlwaysReads, report_accepted}
@@ -14,8 +14,8 @@ use Rattle.miette_readers.specs.rules.Kept.{IsKept}
 use Rattle.miette_readers.specs.rules.Places.{Place, Told}
 use Rattle.miette_readers.specs.rules.Proposing.{FileEdit}
 use Rattle.miette_readers.specs.rules.Settling.{found_place}
-use Rattle.miette_readers.proofs.ReportsRead.{EditsRead, FilesRead, OffersRead, either, found_reads, more_edits}
-use Rattle.miette_readers.proofs.ReportsRead.{more_offers, place_reads, report_reads}
+use Rattle.miette_readers.proofs.ReportsRead.{EditReads, EditsRead, FilesRead, OfferReads, OffersRead, each_holds}
+use Rattle.miette_readers.proofs.ReportsRead.{each_kept, either, found_reads, place_reads, report_reads}
 use Rattle.miette_sarif_reader.specs.rules.Logs.{ground_of, has_runs, result_tree, run_trees, sarif_trees}
 use Rattle.miette_sarif_reader.specs.rules.Proposals.{Draft, all_found, drafts_of, edit_at, help_of, is_found, offer_by}
 use Rattle.miette_sarif_reader.specs.rules.Proposals.{offer_of, offer_with, offers_of}
@@ -23,45 +23,36 @@ use Rattle.miette_sarif_reader.specs.rules.Results.{Ground, ground_for, said_of,
 
 -- ---- proposals
 
-edits_read : (files : List ℕ → Option Source) → FilesRead files → (es : List (Place × List ℕ))
-    → EditsRead (filter_map (edit_at files) es)
-edits_read files h [] = tt
-edits_read files h (e ∷ es) =
-    more_edits (edit_at files e) (filter_map (edit_at files) es)
-    (found_reads e.0.name e.1 (found_place files e.0) (place_reads files h e.0)) (edits_read files h es)
+edit_reads : (files : List ℕ → Option Source) → FilesRead files → (e : Place × List ℕ)
+    → IfSome (edit_at files e) EditReads
+edit_reads files h e = found_reads e.0.name e.1 (found_place files e.0) (place_reads files h e.0)
 
 offer_from : (words : List ℕ) (o : Option (List FileEdit)) → IfSome o EditsRead
-    → IfSome (option_map (offer_by words) o) (λ offer. EditsRead offer.edits)
+    → IfSome (option_map (offer_by words) o) OfferReads
 offer_from words None h = tt
 offer_from words (Some es) h = h
 
 offer_reads : (files : List ℕ → Option Source) → FilesRead files → (words : List ℕ) (es : List (Place × List ℕ))
-    → IfSome (offer_with files words es) (λ offer. EditsRead offer.edits)
+    → IfSome (offer_with files words es) OfferReads
 offer_reads files h words [] = tt
 offer_reads files h words (e ∷ es) =
     offer_from words (all_found files (e ∷ es)) (either (λ o. IfSome o EditsRead) (list_all (is_found files) (e ∷ es))
-    (Some (filter_map (edit_at files) (e ∷ es))) None (edits_read files h (e ∷ es)) tt)
+    (Some (filter_map (edit_at files) (e ∷ es))) None
+    (each_kept EditReads (edit_at files) (edit_reads files h) (e ∷ es)) tt)
 
 offers_read : (files : List ℕ → Option Source) → FilesRead files → (ds : List Draft) → OffersRead (offers_of files ds)
-offers_read files h [] = tt
-offers_read files h (d ∷ ds) =
-    more_offers (offer_of files d) (offers_of files ds) (offer_reads files h d.words d.edits) (offers_read files h ds)
+offers_read files h ds = each_kept OfferReads (offer_of files) (λ d. offer_reads files h d.words d.edits) ds
 
 -- ---- the reports
 
 module _ (holds : Tree → Type 0) (files : List ℕ → Option Source)
     (each : (run r : Data) → holds (result_tree (ground_of files run) r)) where
-  results_hold : (run : Data) (rs : List Data) → All holds (map (result_tree (ground_of files run)) rs)
-  results_hold run [] = All-nil holds
-  results_hold run (r ∷ rs) =
-      All-cons holds (result_tree (ground_of files run) r) (map (result_tree (ground_of files run)) rs) (each run r)
-      (results_hold run rs)
-
   runs_hold : (runs : List Data) → All holds (flat_map (run_trees files) runs)
   runs_hold [] = All-nil holds
   runs_hold (run ∷ runs) =
       All-append holds (run_trees files run) (flat_map (run_trees files) runs)
-      (results_hold run (objects_at (codes "results") run)) (runs_hold runs)
+      (each_holds holds (result_tree (ground_of files run)) (each run) (objects_at (codes "results") run))
+      (runs_hold runs)
 
   log_holds : (d : Data) → IfSome (sarif_trees files d) (All holds)
   log_holds d =

@@ -2,7 +2,6 @@
 use Rattle.std.proofs.Common.{◌≡◌, ℕ, List, [], ◌∷◌, Option, Some, None, All, IfSome, true, map}
 use Rattle.std.specs.Prelude.{option_and_then}
 use Rattle.std.specs.List.{filter_map, list_all}
-use Rattle.std.proofs.lemmas.List.Elements.{All-nil, All-cons}
 use Rattle.serde_json.specs.Data.{Data}
 use Rattle.miette_protocol.specs.rules.Reading.{Source}
 use Rattle.miette_tree.specs.rules.Reads.{AlwaysReads, report_accepted}
@@ -10,8 +9,8 @@ use Rattle.miette_tree.specs.rules.Tree.{Tree}
 use Rattle.miette_readers.specs.rules.Proposing.{FileEdit}
 use Rattle.miette_readers.specs.rules.Settling.{found_place}
 use Rattle.miette_readers.proofs.Accepted.{report_accepts}
-use Rattle.miette_readers.proofs.ReportsRead.{EditsRead, FilesRead, OffersRead, either, found_reads, more_edits}
-use Rattle.miette_readers.proofs.ReportsRead.{place_reads, report_reads}
+use Rattle.miette_readers.proofs.ReportsRead.{EditReads, EditsRead, FilesRead, OffersRead, each_holds, each_kept}
+use Rattle.miette_readers.proofs.ReportsRead.{either, found_reads, place_reads, report_reads}
 use Rattle.miette_shellcheck.specs.rules.Comments.{all_found, all_trees, comment_tree, comments_of, edit_at, edits_of}
 use Rattle.miette_shellcheck.specs.rules.Comments.{file_of, has_message, help_of, is_found, new_text, offers_by}
 use Rattle.miette_shellcheck.specs.rules.Comments.{offers_of, offers_with, place_in, replacements_of, said_with}
@@ -20,17 +19,16 @@ use Rattle.miette_shellcheck.specs.rules.Comments.{shellcheck_trees, told_of, wo
 -- ---- proposals
 
 module _ (files : List ℕ → Option Source) (h : FilesRead files) where
-  edits_read : (name : List ℕ) (xs : List Data) → EditsRead (filter_map (edit_at files name) xs)
-  edits_read name [] = tt
-  edits_read name (x ∷ xs) =
+  edit_reads : (name : List ℕ) (x : Data) → IfSome (edit_at files name x) EditReads
+  edit_reads name x =
       let p = place_in files name x in
-      more_edits (edit_at files name x) (filter_map (edit_at files name) xs)
-      (found_reads p.name (new_text x) (found_place files p) (place_reads files h p)) (edits_read name xs)
+      found_reads p.name (new_text x) (found_place files p) (place_reads files h p)
 
   found_read : (name : List ℕ) (xs : List Data) → IfSome (all_found files name xs) EditsRead
   found_read name xs =
       either (λ o. IfSome o EditsRead) (list_all (is_found files name) xs)
-      (Some (filter_map (edit_at files name) xs)) None (edits_read name xs) tt
+      (Some (filter_map (edit_at files name) xs)) None
+      (each_kept EditReads (edit_at files name) (edit_reads name) xs) tt
 
   offer_reads : (words : List ℕ) (es : List FileEdit) → EditsRead es → OffersRead (offers_by words es)
   offer_reads words [] r = tt
@@ -48,16 +46,11 @@ module _ (files : List ℕ → Option Source) (h : FilesRead files) where
 
 module _ (holds : Tree → Type 0) (files : List ℕ → Option Source)
     (each : (c : Data) → holds (comment_tree files c)) where
-  trees_hold : (cs : List Data) → All holds (map (comment_tree files) cs)
-  trees_hold [] = All-nil holds
-  trees_hold (c ∷ cs) =
-      All-cons holds (comment_tree files c) (map (comment_tree files) cs) (each c) (trees_hold cs)
-
   comments_hold : (o : Option (List Data)) → IfSome (option_and_then (all_trees files) o) (All holds)
   comments_hold None = tt
   comments_hold (Some cs) =
       either (λ o. IfSome o (All holds)) (list_all has_message cs) (Some (map (comment_tree files) cs)) None
-      (trees_hold cs) tt
+      (each_holds holds (comment_tree files) each cs) tt
 
 pub shellcheck_reads : (files : List ℕ → Option Source) → FilesRead files → (d : Data)
     → IfSome (shellcheck_trees files d) (All AlwaysReads)
