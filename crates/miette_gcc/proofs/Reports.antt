@@ -14,8 +14,9 @@ use Rattle.miette_readers.specs.rules.Proposing.{FileEdit}
 use Rattle.miette_readers.specs.rules.Settling.{found_place}
 use Rattle.miette_readers.proofs.Accepted.{report_accepts}
 use Rattle.miette_readers.proofs.Kept.{report_keeps}
+use Rattle.miette_readers.proofs.Holding.{all_made}
 use Rattle.miette_readers.proofs.ReportsRead.{EditReads, EditsRead, FilesRead, OfferReads, OffersRead, each_holds}
-use Rattle.miette_readers.proofs.ReportsRead.{each_kept, either, found_reads, place_reads, report_reads}
+use Rattle.miette_readers.proofs.ReportsRead.{either, found_reads, place_reads, report_reads}
 use Rattle.miette_gcc.specs.rules.Gcc.{Ground, told_of}
 use Rattle.miette_gcc.specs.rules.GccReport.{all_found, all_trees, diagnostic_tree, edit_at, fixit_place, fixits_of}
 use Rattle.miette_gcc.specs.rules.GccReport.{gcc_trees, ground_of, has_message, is_found, new_text, offer_by, offer_of}
@@ -37,10 +38,10 @@ offer_reads : (g : Ground) → FilesRead g.files → (xs : List Data) → IfSome
 offer_reads g h [] = tt
 offer_reads g h (x ∷ xs) =
     offer_from (x ∷ xs) (all_found g (x ∷ xs)) (either (λ o. IfSome o EditsRead) (list_all (is_found g) (x ∷ xs))
-    (Some (filter_map (edit_at g) (x ∷ xs))) None (each_kept EditReads (edit_at g) (edit_reads g h) (x ∷ xs)) tt)
+    (Some (filter_map (edit_at g) (x ∷ xs))) None (all_made EditReads (edit_at g) (edit_reads g h) (x ∷ xs)) tt)
 
 offers_read : (g : Ground) → FilesRead g.files → (ds : List Data) → OffersRead (filter_map (offer_of g) ds)
-offers_read g h ds = each_kept OfferReads (offer_of g) (λ d. offer_reads g h (fixits_of d)) ds
+offers_read g h ds = all_made OfferReads (offer_of g) (λ d. offer_reads g h (fixits_of d)) ds
 
 -- ---- the reports
 

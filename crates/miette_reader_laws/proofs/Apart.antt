@@ -18,7 +18,7 @@ use Rattle.miette_readers.proofs.ReportsRead.{either}
 use Rattle.miette_tree.specs.rules.Tree.{trees}
 use Rattle.miette_reader_laws.specs.laws.Apart.{AreApart, Covers, IsApart, IsApartList}
 use Rattle.miette_reader_laws.specs.laws.Lists.{lists_of}
-use Rattle.miette_reader_laws.proofs.Holding.{all_each, all_no}
+use Rattle.miette_readers.proofs.Holding.{all_each, all_no}
 use Rattle.miette_reader_laws.proofs.Made.{all_advice, all_fixes, lists_made}
 use Rattle.miette_reader_laws.proofs.Steps.{all_keep, retold}
 

@@ -21,7 +21,7 @@ use Rattle.miette_readers.proofs.Accepted.{AllFit, nth, settled_fits}
 use Rattle.miette_readers.proofs.ReportsRead.{either}
 use Rattle.miette_tree.specs.rules.Tree.{Tree, source_of, trees}
 use Rattle.miette_reader_laws.specs.laws.Applying.{AllFixesApply, AllOf, AreFound, CanBeApplied, FixesApply, IsFound}
-use Rattle.miette_reader_laws.proofs.Holding.{all_each, all_more}
+use Rattle.miette_readers.proofs.Holding.{all_each, all_more}
 use Rattle.miette_reader_laws.proofs.Made.{all_advice, all_fixes, fixes_made, source_made}
 use Rattle.miette_reader_laws.proofs.Proposed.{Begins, all_begin, main_file}
 

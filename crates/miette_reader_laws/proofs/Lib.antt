@@ -1,6 +1,5 @@
 mod Apart
 pub mod Applying
-pub mod Holding
 pub mod Made
 pub mod Offers
 mod Proposed

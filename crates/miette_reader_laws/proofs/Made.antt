@@ -18,7 +18,7 @@ use Rattle.miette_tree.specs.rules.Tree.{Tree, Trees, alone, head, source_of, te
 use Rattle.miette_tree.specs.rules.Tree.{with_cause, with_fixes, with_related}
 use Rattle.miette_reader_laws.specs.laws.Lists.{lists_of}
 use Rattle.miette_reader_laws.specs.laws.Standing.{IsSaidBy}
-use Rattle.miette_reader_laws.proofs.Holding.{Has, has_any}
+use Rattle.miette_readers.proofs.Holding.{Has, has_any}
 
 -- ---- its parts
 

@@ -9,7 +9,7 @@ use Rattle.miette_readers.specs.rules.Places.{Place, Stretch, is_within}
 use Rattle.miette_readers.specs.rules.Proposing.{FileEdit, edit_found}
 use Rattle.miette_readers.specs.rules.Settling.{found_place}
 use Rattle.miette_reader_laws.specs.laws.Applying.{IsFound}
-use Rattle.miette_reader_laws.proofs.Holding.{Has, Is, all_made}
+use Rattle.miette_readers.proofs.Holding.{Has, Is, all_made}
 use Rattle.miette_reader_laws.proofs.Steps.{place_inside, place_is}
 
 module _ (files : List ℕ → Option Source) where

@@ -20,8 +20,8 @@ use Rattle.miette_readers.proofs.Accepted.{AllFit, nth, settled_fits}
 use Rattle.miette_readers.proofs.ReportsRead.{either}
 use Rattle.miette_tree.specs.rules.Tree.{Tree, trees}
 use Rattle.miette_reader_laws.specs.laws.Proposed.{AnyOf, HasEdit, IsAdvice, IsOfFile, IsProposed}
-use Rattle.miette_reader_laws.proofs.Holding.{Has, Is, has_any, has_behind, has_by, has_each, has_flat, has_it, has_map}
-use Rattle.miette_reader_laws.proofs.Holding.{has_more, it_is_there}
+use Rattle.miette_readers.proofs.Holding.{Has, Is, has_any, has_behind, has_by, has_each, has_flat, has_it, has_map}
+use Rattle.miette_readers.proofs.Holding.{has_more, it_is_there}
 use Rattle.miette_reader_laws.proofs.Made.{all_advice, all_fixes, fixes_made, source_made}
 use Rattle.miette_reader_laws.proofs.Steps.{all_keep, retold}
 

@@ -22,10 +22,11 @@ use Rattle.miette_reader_laws.specs.laws.Applying.{AreFound, IsFound}
 use Rattle.miette_reader_laws.specs.laws.RustcTexts.{child_texts, span_texts, texts_of}
 use Rattle.miette_reader_laws.specs.laws.Shown.{IsRowIn}
 use Rattle.miette_reader_laws.specs.laws.Standing.{Stands}
-use Rattle.miette_reader_laws.proofs.Holding.{Has, Is, all_each, all_flat, all_more, all_there, has_behind, has_each}
-use Rattle.miette_reader_laws.proofs.Holding.{all_made, has_flat, has_kept, has_made, has_map, has_more, has_split}
+use Rattle.miette_readers.proofs.Holding.{Has, Is, all_each, all_flat, all_more, all_there, has_behind, has_each}
+use Rattle.miette_readers.proofs.Holding.{all_made, has_flat, has_kept, has_made, has_map, has_more, has_split}
 use Rattle.miette_reader_laws.proofs.Offers.{AreSound, all_sound, edit_is}
-use Rattle.miette_reader_laws.proofs.Rows.{part_behind, part_self, row_joined, rows_there}
+use Rattle.miette_readers.proofs.RowLists.{rows_there}
+use Rattle.miette_reader_laws.proofs.Rows.{part_behind, part_self, row_joined}
 use Rattle.miette_reader_laws.proofs.Standing.{IsOffered, Says, help_stands, offered_stands, told_stands}
 
 -- ---- labels of spans

@@ -20,10 +20,11 @@ use Rattle.miette_readers.proofs.ReportsRead.{either}
 use Rattle.miette_tree.specs.rules.Diagnosis.{Section}
 use Rattle.miette_tree.specs.rules.Tree.{cause_of, causes_of, trees}
 use Rattle.miette_reader_laws.specs.laws.Shown.{IsRowIn, IsShown, IsShownBy, IsShownIn}
-use Rattle.miette_reader_laws.proofs.Holding.{Has, Is, all_each, has_any, has_behind, has_by, has_it, has_map, has_more}
-use Rattle.miette_reader_laws.proofs.Holding.{it_is_there}
+use Rattle.miette_readers.proofs.Holding.{Has, Is, all_each, has_any, has_behind, has_by, has_it, has_map, has_more}
+use Rattle.miette_readers.proofs.Holding.{it_is_there}
 use Rattle.miette_reader_laws.proofs.Made.{all_advice, all_fixes, listed, lists_made, sectioned}
-use Rattle.miette_reader_laws.proofs.Rows.{all_rows_there, row_joined, row_stays, row_there, rows_stay}
+use Rattle.miette_readers.proofs.RowLists.{all_rows_there, row_stays, row_there, rows_stay}
+use Rattle.miette_reader_laws.proofs.Rows.{row_joined}
 use Rattle.miette_reader_laws.proofs.Steps.{again, all_keep, place_is, retold}
 
 -- ---- a mark that shows what is told

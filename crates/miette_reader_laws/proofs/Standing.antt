@@ -14,7 +14,7 @@ use Rattle.miette_reader_laws.specs.laws.Applying.{IsFound}
 use Rattle.miette_reader_laws.specs.laws.Proposed.{AnyOf, HasEdit, IsAdvice, IsOfFile, IsProposed}
 use Rattle.miette_reader_laws.specs.laws.Shown.{IsRowIn}
 use Rattle.miette_reader_laws.specs.laws.Standing.{IsFixOf, IsMessageOf, Stands}
-use Rattle.miette_reader_laws.proofs.Holding.{Has, all_each, any_each, has_found, it_is_there}
+use Rattle.miette_readers.proofs.Holding.{Has, all_each, any_each, has_found, it_is_there}
 use Rattle.miette_reader_laws.proofs.Made.{report_says}
 use Rattle.miette_reader_laws.proofs.Offers.{AreSound}
 use Rattle.miette_reader_laws.proofs.Proposed.{edit_proposed}

@@ -12,9 +12,10 @@ use Rattle.miette_readers.specs.rules.Rustc.{edits_of, file_name, place_of, told
 use Rattle.miette_readers.specs.rules.RustcReport.{all_found, edit_at, is_found, message_tree, offer_by, offer_of}
 use Rattle.miette_readers.specs.rules.RustcReport.{offer_with, offers_of, rustc_tree, said_of}
 use Rattle.miette_readers.specs.rules.Settling.{found_place}
+use Rattle.miette_readers.proofs.Holding.{all_made}
 use Rattle.miette_readers.proofs.MessageRows.{row_holds}
 use Rattle.miette_readers.proofs.ReportsRead.{EditReads, EditsRead, FilesRead, OfferReads, OffersRead, Reads}
-use Rattle.miette_readers.proofs.ReportsRead.{each_kept, either, found_reads, place_reads, report_reads}
+use Rattle.miette_readers.proofs.ReportsRead.{either, found_reads, place_reads, report_reads}
 
 -- ---- proposals
 
@@ -39,11 +40,11 @@ offer_reads files h c [] = tt
 offer_reads files h c (d ∷ ds) =
     offer_from c d (all_found files (d ∷ ds)) (either (λ o. IfSome o EditsRead) (list_all (is_found files) (d ∷ ds))
     (Some (filter_map (edit_at files) (d ∷ ds))) None
-    (each_kept EditReads (edit_at files) (edit_reads files h) (d ∷ ds)) tt)
+    (all_made EditReads (edit_at files) (edit_reads files h) (d ∷ ds)) tt)
 
 offers_read : (files : List ℕ → Option Source) → FilesRead files → (cs : List Data)
     → OffersRead (filter_map (offer_of files) cs)
-offers_read files h cs = each_kept OfferReads (offer_of files) (λ c. offer_reads files h c (edits_of c)) cs
+offers_read files h cs = all_made OfferReads (offer_of files) (λ c. offer_reads files h c (edits_of c)) cs
 
 -- ---- the whole
 

@@ -1,11 +1,10 @@
 -- Each row that is told is kept in the report.
-use Rattle.std.proofs.Common.{◌≡◌, ◌⊎◌, ℕ, zero, suc, ◌+◌, ◌<◌, List, [], ◌∷◌, ◌++◌, Option, Some, None, Bool, true}
-use Rattle.std.proofs.Common.{false, arith, length, map, filter, codes, get_or, refl, sym, ap, subst, ◌∙◌, inl, inr}
+use Rattle.std.proofs.Common.{◌≡◌, ◌⊎◌, ℕ, zero, suc, ◌+◌, List, [], ◌∷◌, ◌++◌, Option, Some, None, Bool, true}
+use Rattle.std.proofs.Common.{false, arith, map, filter, codes, refl, sym, ap, subst, ◌∙◌, inl, inr}
 use Rattle.std.proofs.Common.{append_assoc, append-nil}
-use Rattle.std.specs.Prelude.{◌&&◌, ◌||◌, if◌then◌else◌, bytes_eq, decimal}
+use Rattle.std.specs.Prelude.{◌&&◌, ◌||◌, if◌then◌else◌, decimal}
 use Rattle.std.specs.List.{Any, Contains, flat_map, fold, list_any}
-use Rattle.std.proofs.lemmas.Bool.{eq-eqb, or_cases}
-use Rattle.std.proofs.lemmas.Slice.Eq.{bytes_eq-Decides}
+use Rattle.std.proofs.lemmas.Bool.{eq-eqb}
 use Rattle.miette_protocol.specs.rules.Reading.{Source}
 use Rattle.miette_fixes.specs.rules.Edits.{Proposal}
 use Rattle.miette_tree.specs.rules.Diagnosis.{plain_diagnosis}
@@ -23,61 +22,11 @@ use Rattle.miette_readers.specs.rules.Settling.{marked, maybe_text}
 use Rattle.miette_readers.specs.rules.Settling.{newly_marked, nothing_settled, settled, settled_at, settled_one}
 use Rattle.miette_readers.specs.rules.Settling.{settled_with, told_again, with_row, with_rows, with_text}
 use Rattle.miette_readers.proofs.Accepted.{AllFit, given_some, nth, settled_fits}
+use Rattle.miette_readers.proofs.Holding.{Has, Is, has_any, has_behind, has_by, has_each, has_it, has_map, has_more}
 use Rattle.miette_readers.proofs.ReportsRead.{either}
-
--- ---- something holds of one of a list
-
-abbrev Has : {X : Type 0} → (X → Type 0) → List X → Type 0
-Has P [] = ⊥
-Has P (x ∷ xs) = P x ⊎ Has P xs
-
-has_more : {X : Type 0} (P : X → Type 0) (xs ys : List X) → Has P xs → Has P (xs ++ ys)
-has_more P [] ys h = absurd h
-has_more P (x ∷ xs) ys (inl p) = inl p
-has_more P (x ∷ xs) ys (inr h) = inr (has_more P xs ys h)
-
-has_last : {X : Type 0} (P : X → Type 0) (xs : List X) (x : X) → P x → Has P (xs ++ x ∷ [])
-has_last P [] x p = inl p
-has_last P (y ∷ ys) x p = inr (has_last P ys x p)
-
-has_map : {X Y : Type 0} (P : X → Type 0) (Q : Y → Type 0) (f : X → Y) → ((x : X) → P x → Q (f x)) → (xs : List X)
-    → Has P xs → Has Q (map f xs)
-has_map P Q f each [] h = absurd h
-has_map P Q f each (x ∷ xs) (inl p) = inl (each x p)
-has_map P Q f each (x ∷ xs) (inr h) = inr (has_map P Q f each xs h)
-
-has_each : {X : Type 0} (P Q : X → Type 0) → ((x : X) → P x → Q x) → (xs : List X) → Has P xs → Has Q xs
-has_each P Q each [] h = absurd h
-has_each P Q each (x ∷ xs) (inl p) = inl (each x p)
-has_each P Q each (x ∷ xs) (inr h) = inr (has_each P Q each xs h)
-
-has_by : {X : Type 0} (p : X → Bool) (xs : List X) → list_any p xs ≡ true → Has (λ x. p x ≡ true) xs
-has_by p [] e = cc
-has_by p (x ∷ xs) e =
-    elim (or_cases (p x) (list_any p xs) e) [ inl here ↦ inl here | inr there ↦ inr (has_by p xs there) ]
-
-has_any : {X : Type 0} (P : X → Type 0) (xs : List X) → Has P xs → Any P xs
-has_any P [] h = absurd h
-has_any P (x ∷ xs) (inl p) = (0, x, omega arith, refl, p)
-has_any P (x ∷ xs) (inr h) =
-    let there = has_any P xs h in
-    let less : suc there.0 < length (x ∷ xs) = omega (arith, there.2) in
-    (suc there.0, there.1, less, there.3, there.4)
-
-has_at : {X : Type 0} (P : X → Type 0) (xs : List X) (k : ℕ) (x : X) → k < length xs → get_or xs k x ≡ x → P x
-    → Has P xs
-has_at P [] k x less is p = absurd (omega (arith, less))
-has_at P (y ∷ ys) zero x less is p = inl (subst P (sym is) p)
-has_at P (y ∷ ys) (suc k) x less is p =
-    let fewer : k < length ys = omega (arith, less) in inr (has_at P ys k x fewer is p)
-
-has_it : {X : Type 0} (P : X → Type 0) (xs : List X) (x : X) → Contains xs x → P x → Has P xs
-has_it P xs x is p = has_at P xs is.0 x is.1 is.2 p
+use Rattle.miette_readers.proofs.RowLists.{row_stays, row_there, rows_stay, rows_there}
 
 -- ---- parts of texts
-
-abbrev IsRow : List ℕ → List ℕ → Type 0
-IsRow row r = r ≡ row
 
 part_self : (row : List ℕ) → IsPart row row
 part_self row = ([], [], sym (append-nil row))
@@ -101,14 +50,14 @@ part_kept : (row text : List ℕ) (rows : List (List ℕ)) → IsPart row text �
 part_kept row text [] h = h
 part_kept row text (r ∷ rs) h = part_kept row (row_behind text r) rs (part_before row text (10 ∷ r) h)
 
-part_among : (row text : List ℕ) (rows : List (List ℕ)) → Has (IsRow row) rows → IsPart row (fold row_behind text rows)
+part_among : (row text : List ℕ) (rows : List (List ℕ)) → Has (Is row) rows → IsPart row (fold row_behind text rows)
 part_among row text [] h = absurd h
 part_among row text (r ∷ rs) (inl is) =
     part_kept row (row_behind text r) rs
     (subst (λ (k : List ℕ). IsPart row (row_behind text k)) (sym is) (part_next row text))
 part_among row text (r ∷ rs) (inr h) = part_among row (row_behind text r) rs h
 
-part_joined : (row : List ℕ) (rows : List (List ℕ)) → Has (IsRow row) rows → IsPartOf row (joined rows)
+part_joined : (row : List ℕ) (rows : List (List ℕ)) → Has (Is row) rows → IsPartOf row (joined rows)
 part_joined row [] h = absurd h
 part_joined row (r ∷ rs) (inl is) =
     part_kept row r rs (subst (λ (k : List ℕ). IsPart row k) (sym is) (part_self row))
@@ -118,47 +67,20 @@ part_told : (row : List ℕ) (o : Option (List ℕ)) → IsPartOf row o → IsPa
 part_told row None h = absurd h
 part_told row (Some text) h = part_behind row (codes ": ") text h
 
-part_placed : (row : List ℕ) (p : Place) (rows : List (List ℕ)) → Has (IsRow row) rows
+part_placed : (row : List ℕ) (p : Place) (rows : List (List ℕ)) → Has (Is row) rows
     → IsPart row (place_text p rows)
 part_placed row p rows h =
     part_behind row ((p.name ++ (codes ":" ++ decimal p.line)) ++ (codes ":" ++ decimal p.column))
     (text_behind (joined rows)) (part_told row (joined rows) (part_joined row rows h))
 
--- ---- rows that are added
-
-row_kept : (P : List ℕ → Type 0) (rows : List (List ℕ)) (new : List ℕ) → Has P rows → Has P (with_row rows new)
-row_kept P rows new h =
-    either (Has P) (list_any (bytes_eq new) rows) rows (rows ++ new ∷ []) h (has_more P rows (new ∷ []) h)
-
-added_by : (rows : List (List ℕ)) (new : List ℕ) (b : Bool) → list_any (bytes_eq new) rows ≡ b
-    → Has (IsRow new) (if b then rows else rows ++ new ∷ [])
-added_by rows new true e =
-    has_each (λ r. bytes_eq new r ≡ true) (IsRow new) (λ r is. sym ((bytes_eq-Decides new r).0 is)) rows
-    (has_by (bytes_eq new) rows e)
-added_by rows new false e = has_last (IsRow new) rows new refl
-
-row_added : (rows : List (List ℕ)) (new : List ℕ) → Has (IsRow new) (with_row rows new)
-row_added rows new = added_by rows new (list_any (bytes_eq new) rows) refl
-
-rows_kept : (P : List ℕ → Type 0) (rows more : List (List ℕ)) → Has P rows → Has P (with_rows rows more)
-rows_kept P rows [] h = h
-rows_kept P rows (r ∷ rs) h = rows_kept P (with_row rows r) rs (row_kept P rows r h)
-
-rows_added : (row : List ℕ) (rows more : List (List ℕ)) → Has (IsRow row) more → Has (IsRow row) (with_rows rows more)
-rows_added row rows [] h = absurd h
-rows_added row rows (r ∷ rs) (inl is) =
-    rows_kept (IsRow row) (with_row rows r) rs
-    (subst (λ (k : List ℕ). Has (IsRow k) (with_row rows r)) is (row_added rows r))
-rows_added row rows (r ∷ rs) (inr h) = rows_added row (with_row rows r) rs h
-
-some_rows : (row : List ℕ) (rows : List (List ℕ)) → Has (IsRow row) rows → has_no_rows rows ≡ false
+some_rows : (row : List ℕ) (rows : List (List ℕ)) → Has (Is row) rows → has_no_rows rows ≡ false
 some_rows row [] h = absurd h
 some_rows row (r ∷ rs) h = refl
 
 -- ---- a row is held where it is one of a label's, or a part of a text
 
 abbrev IsOf : List ℕ → Mark → Type 0
-IsOf row m = Has (IsRow row) m.rows
+IsOf row m = Has (Is row) m.rows
 
 abbrev IsHeld : List ℕ → Settled → Type 0
 IsHeld row done = Has (IsOf row) done.marks ⊎ Has (IsPart row) done.texts
@@ -167,14 +89,14 @@ IsHeld row done = Has (IsOf row) done.marks ⊎ Has (IsPart row) done.texts
 
 text_stays : (row : List ℕ) (done : Settled) (text : List ℕ) → IsHeld row done → IsHeld row (with_text done text)
 text_stays row done text (inl m) = inl m
-text_stays row done text (inr t) = inr (row_kept (IsPart row) done.texts text t)
+text_stays row done text (inr t) = inr (row_stays (IsPart row) done.texts text t)
 
 maybe_stays : (row : List ℕ) (done : Settled) (o : Option (List ℕ)) → IsHeld row done → IsHeld row (maybe_text done o)
 maybe_stays row done None h = h
 maybe_stays row done (Some text) h = text_stays row done text h
 
 again_stays : (row name : List ℕ) (s : Stretch) (t : Told) (m : Mark) → IsOf row m → IsOf row (told_again name s t m)
-again_stays row name s t m h = either (IsOf row) (is_at name s m) _ m (rows_kept (IsRow row) m.rows t.rows h) h
+again_stays row name s t m h = either (IsOf row) (is_at name s m) _ m (rows_stay (Is row) m.rows t.rows h) h
 
 all_again_stay : (row name : List ℕ) (s : Stretch) (t : Told) (done : Settled) → IsHeld row done
     → IsHeld row (record done { marks = map (told_again name s t) done.marks })
@@ -214,27 +136,27 @@ all_stay files row (t ∷ ts) done h =
 
 text_held : (row : List ℕ) (done : Settled) (text : List ℕ) → IsPart row text → IsHeld row (with_text done text)
 text_held row done text h =
-    inr (has_each (IsRow text) (IsPart row) (λ k is. subst (λ (l : List ℕ). IsPart row l) (sym is) h)
-    (with_row done.texts text) (row_added done.texts text))
+    inr (has_each (Is text) (IsPart row) (λ k is. subst (λ (l : List ℕ). IsPart row l) (sym is) h)
+    (with_row done.texts text) (row_there done.texts text))
 
 maybe_held : (row : List ℕ) (done : Settled) (o : Option (List ℕ)) → IsPartOf row o → IsHeld row (maybe_text done o)
 maybe_held row done None h = absurd h
 maybe_held row done (Some text) h = text_held row done text h
 
-again_by : (row : List ℕ) (t : Told) (m : Mark) (b : Bool) → b ≡ true → Has (IsRow row) t.rows
+again_by : (row : List ℕ) (t : Told) (m : Mark) (b : Bool) → b ≡ true → Has (Is row) t.rows
     → IsOf row (if b then record m {
       primary = m.primary || (t.primary && t.own);
       rows = with_rows m.rows t.rows;
     } else m)
-again_by row t m true e h = rows_added row m.rows t.rows h
+again_by row t m true e h = rows_there row m.rows t.rows h
 again_by row t m false e h = cc
 
 newly_held : (row : List ℕ) (done : Settled) (name : List ℕ) (source : Source) (s : Stretch) (t : Told)
-    → Has (IsRow row) t.rows → IsHeld row (newly_marked done name source s t)
-newly_held row done name source s t h = inl (has_last (IsOf row) done.marks _ (rows_added row [] t.rows h))
+    → Has (Is row) t.rows → IsHeld row (newly_marked done name source s t)
+newly_held row done name source s t h = inl (has_behind (IsOf row) done.marks (_ ∷ []) (inl (rows_there row [] t.rows h)))
 
 beside_held : (row : List ℕ) (done : Settled) (name : List ℕ) (source : Source) (s : Stretch) (t : Told)
-    → Has (IsRow row) t.rows
+    → Has (Is row) t.rows
     → IsHeld row (if has_no_rows t.rows && list_any (is_around name s) done.marks then done
     else newly_marked done name source s t)
 beside_held row done name source s t h =
@@ -243,7 +165,7 @@ beside_held row done name source s t h =
     (newly_held row done name source s t h)
 
 marked_by : (row : List ℕ) (done : Settled) (name : List ℕ) (source : Source) (s : Stretch) (t : Told) (b : Bool)
-    → list_any (is_at name s) done.marks ≡ b → Has (IsRow row) t.rows
+    → list_any (is_at name s) done.marks ≡ b → Has (Is row) t.rows
     → IsHeld row (if b then record done { marks = map (told_again name s t) done.marks }
     else (if has_no_rows t.rows && list_any (is_around name s) done.marks then done
     else newly_marked done name source s t))
@@ -253,17 +175,17 @@ marked_by row done name source s t true e h =
 marked_by row done name source s t false e h = beside_held row done name source s t h
 
 at_held : (row : List ℕ) (done : Settled) (t : Told) (p : Place) (f : Option (Source × Stretch))
-    → Has (IsRow row) t.rows → IsHeld row (settled_at done t p f)
+    → Has (Is row) t.rows → IsHeld row (settled_at done t p f)
 at_held row done t p None h = text_held row done (place_text p t.rows) (part_placed row p t.rows h)
 at_held row done t p (Some f) h = marked_by row done p.name f.0 f.1 t (list_any (is_at p.name f.1) done.marks) refl h
 
 with_held : (files : List ℕ → Option Source) (row : List ℕ) (done : Settled) (t : Told) (p : Option Place)
-    → Has (IsRow row) t.rows → IsHeld row (settled_with files done t p)
+    → Has (Is row) t.rows → IsHeld row (settled_with files done t p)
 with_held files row done t None h = maybe_held row done (joined t.rows) (part_joined row t.rows h)
 with_held files row done t (Some p) h = at_held row done t p (found_place files p) h
 
 told_held : (files : List ℕ → Option Source) (row : List ℕ) (ts : List Told) (done : Settled)
-    → Has (λ t. Has (IsRow row) t.rows) ts → IsHeld row (fold (settled_one files) done ts)
+    → Has (λ t. Has (Is row) t.rows) ts → IsHeld row (fold (settled_one files) done ts)
 told_held files row [] done h = absurd h
 told_held files row (t ∷ ts) done (inl here) =
     all_stay files row ts (settled_one files done t) (with_held files row done t t.place here)
@@ -344,8 +266,8 @@ pub report_keeps : (files : List ℕ → Option Source) (said : Said) (ts : List
     (row : List ℕ) → Contains ts t → Contains t.rows row → IsKept (report_tree said (settled files ts) offers) row
 report_keeps files said ts offers t row told here =
     let done = settled files ts in
-    let rows = has_it (IsRow row) t.rows row here refl in
-    let among = has_it (λ (k : Told). Has (IsRow row) k.rows) ts t told rows in
+    let rows = has_it (Is row) t.rows row here refl in
+    let among = has_it (λ (k : Told). Has (Is row) k.rows) ts t told rows in
     kept_by row said done.marks done.files done.texts (trees (flat_map (advice_of (main_of done.marks)) offers))
     (flat_map (main_fixes (main_of done.marks)) offers)
     (held_kept files row done (settled_fits files ts nothing_settled tt)

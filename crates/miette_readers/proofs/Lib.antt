@@ -1,10 +1,12 @@
 pub mod Accepted
 pub mod AlwaysRead
 pub mod Endings
+pub mod Holding
 pub mod Kept
 pub mod MessageRows
 pub mod NameSteps
 pub mod Parts
 pub mod ReportsRead
+pub mod RowLists
 pub mod Sections
 pub mod Steps

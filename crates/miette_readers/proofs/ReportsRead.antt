@@ -2,7 +2,7 @@
 use Rattle.std.proofs.Common.{◌≡◌, ℕ, ◌+◌, List, [], ◌∷◌, ◌++◌, Option, Some, None, Bool, true, false, All, IfSome, map}
 use Rattle.std.proofs.Common.{option_map}
 use Rattle.std.specs.Prelude.{⊤, ◌&&◌, ◌||◌, if◌then◌else◌, option_and_then}
-use Rattle.std.specs.List.{AllByRecursion, cons_option, filter_map, flat_map, fold, list_any}
+use Rattle.std.specs.List.{AllByRecursion, flat_map, fold, list_any}
 use Rattle.std.proofs.lemmas.List.Elements.{All-nil, All-cons}
 use Rattle.miette_fixes.specs.rules.Edits.{Proposal}
 use Rattle.miette_protocol.specs.rules.Reading.{Source}
@@ -30,20 +30,7 @@ pub either : {A : Type 0} (P : A → Type 0) (b : Bool) (x y : A) → P x → P 
 either P true x y p q = p
 either P false x y p q = q
 
--- ---- what holds of each thing that is made
-
-with_kept : {B : Type 0} (P : B → Type 0) (o : Option B) (ys : List B) → IfSome o P → AllByRecursion P ys
-    → AllByRecursion P (cons_option o ys)
-with_kept P None ys r h = h
-with_kept P (Some y) ys r h = (r, h)
-
--- it holds of those that are kept
-pub each_kept : {A B : Type 0} (P : B → Type 0) (made : A → Option B) → ((x : A) → IfSome (made x) P) → (xs : List A)
-    → AllByRecursion P (filter_map made xs)
-each_kept P made each [] = tt
-each_kept P made each (x ∷ xs) = with_kept P (made x) (filter_map made xs) (each x) (each_kept P made each xs)
-
--- it holds of all trees
+-- what holds of each tree that is made holds of all
 pub each_holds : {A : Type 0} (holds : Tree → Type 0) (made : A → Tree) → ((x : A) → holds (made x)) → (xs : List A)
     → All holds (map made xs)
 each_holds holds made each [] = All-nil holds

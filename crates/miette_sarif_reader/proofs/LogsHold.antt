@@ -14,8 +14,9 @@ use Rattle.miette_readers.specs.rules.Kept.{IsKept}
 use Rattle.miette_readers.specs.rules.Places.{Place, Told}
 use Rattle.miette_readers.specs.rules.Proposing.{FileEdit}
 use Rattle.miette_readers.specs.rules.Settling.{found_place}
+use Rattle.miette_readers.proofs.Holding.{all_made}
 use Rattle.miette_readers.proofs.ReportsRead.{EditReads, EditsRead, FilesRead, OfferReads, OffersRead, each_holds}
-use Rattle.miette_readers.proofs.ReportsRead.{each_kept, either, found_reads, place_reads, report_reads}
+use Rattle.miette_readers.proofs.ReportsRead.{either, found_reads, place_reads, report_reads}
 use Rattle.miette_sarif_reader.specs.rules.Logs.{ground_of, has_runs, result_tree, run_trees, sarif_trees}
 use Rattle.miette_sarif_reader.specs.rules.Proposals.{Draft, all_found, drafts_of, edit_at, help_of, is_found, offer_by}
 use Rattle.miette_sarif_reader.specs.rules.Proposals.{offer_of, offer_with, offers_of}
@@ -38,10 +39,10 @@ offer_reads files h words [] = tt
 offer_reads files h words (e ∷ es) =
     offer_from words (all_found files (e ∷ es)) (either (λ o. IfSome o EditsRead) (list_all (is_found files) (e ∷ es))
     (Some (filter_map (edit_at files) (e ∷ es))) None
-    (each_kept EditReads (edit_at files) (edit_reads files h) (e ∷ es)) tt)
+    (all_made EditReads (edit_at files) (edit_reads files h) (e ∷ es)) tt)
 
 offers_read : (files : List ℕ → Option Source) → FilesRead files → (ds : List Draft) → OffersRead (offers_of files ds)
-offers_read files h ds = each_kept OfferReads (offer_of files) (λ d. offer_reads files h d.words d.edits) ds
+offers_read files h ds = all_made OfferReads (offer_of files) (λ d. offer_reads files h d.words d.edits) ds
 
 -- ---- the reports
 

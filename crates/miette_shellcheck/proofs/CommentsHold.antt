@@ -9,7 +9,8 @@ use Rattle.miette_tree.specs.rules.Tree.{Tree}
 use Rattle.miette_readers.specs.rules.Proposing.{FileEdit}
 use Rattle.miette_readers.specs.rules.Settling.{found_place}
 use Rattle.miette_readers.proofs.Accepted.{report_accepts}
-use Rattle.miette_readers.proofs.ReportsRead.{EditReads, EditsRead, FilesRead, OffersRead, each_holds, each_kept}
+use Rattle.miette_readers.proofs.Holding.{all_made}
+use Rattle.miette_readers.proofs.ReportsRead.{EditReads, EditsRead, FilesRead, OffersRead, each_holds}
 use Rattle.miette_readers.proofs.ReportsRead.{either, found_reads, place_reads, report_reads}
 use Rattle.miette_shellcheck.specs.rules.Comments.{all_found, all_trees, comment_tree, comments_of, edit_at, edits_of}
 use Rattle.miette_shellcheck.specs.rules.Comments.{file_of, has_message, help_of, is_found, new_text, offers_by}
@@ -28,7 +29,7 @@ module _ (files : List ℕ → Option Source) (h : FilesRead files) where
   found_read name xs =
       either (λ o. IfSome o EditsRead) (list_all (is_found files name) xs)
       (Some (filter_map (edit_at files name) xs)) None
-      (each_kept EditReads (edit_at files name) (edit_reads name) xs) tt
+      (all_made EditReads (edit_at files name) (edit_reads name) xs) tt
 
   offer_reads : (words : List ℕ) (es : List FileEdit) → EditsRead es → OffersRead (offers_by words es)
   offer_reads words [] r = tt

@@ -7,7 +7,7 @@ use Rattle.miette_gcc.specs.rules.GccReport.{all_found, edit_at, fixit_place, fi
 use Rattle.miette_gcc.specs.rules.GccReport.{offer_with, offers_of, proposers}
 use Rattle.miette_readers.specs.rules.Proposing.{FileEdit}
 use Rattle.miette_reader_laws.specs.laws.Applying.{AreFound, IsFound}
-use Rattle.miette_reader_laws.proofs.Holding.{all_made}
+use Rattle.miette_readers.proofs.Holding.{all_made}
 use Rattle.miette_reader_laws.proofs.Offers.{AreSound, all_sound, edit_is}
 
 module _ (g : Ground) where

@@ -13,8 +13,8 @@ use Rattle.miette_readers.specs.rules.Places.{Told}
 use Rattle.miette_readers.specs.rules.Rustc.{label_rows, maybe_row}
 use Rattle.miette_tool_laws.specs.laws.GccTexts.{event_texts, location_texts, note_texts, texts_of}
 use Rattle.miette_reader_laws.specs.laws.Standing.{Stands}
-use Rattle.miette_reader_laws.proofs.Holding.{Has, all_each, all_flat, all_more, has_behind, has_flat, has_map}
-use Rattle.miette_reader_laws.proofs.Holding.{has_more}
+use Rattle.miette_readers.proofs.Holding.{Has, all_each, all_flat, all_more, has_behind, has_flat, has_map}
+use Rattle.miette_readers.proofs.Holding.{has_more}
 use Rattle.miette_reader_laws.proofs.Rows.{part_behind, part_self, part_within}
 use Rattle.miette_reader_laws.proofs.RustcTexts.{HasLabel, labels_have}
 use Rattle.miette_reader_laws.proofs.Standing.{Says, told_stands}

@@ -26,10 +26,11 @@ use Rattle.miette_tool_laws.specs.laws.LogTexts.{fix_texts, flow_texts, location
 use Rattle.miette_tool_laws.specs.laws.LogTexts.{step_texts_by, texts_of, thread_texts}
 use Rattle.miette_reader_laws.specs.laws.Applying.{AreFound, IsFound}
 use Rattle.miette_reader_laws.specs.laws.Standing.{Stands}
-use Rattle.miette_reader_laws.proofs.Holding.{Has, Is, all_each, all_flat, all_made, all_more, has_behind, has_made}
-use Rattle.miette_reader_laws.proofs.Holding.{has_flat, has_map, has_more, has_split}
+use Rattle.miette_readers.proofs.Holding.{Has, Is, all_each, all_flat, all_made, all_more, has_behind, has_made}
+use Rattle.miette_readers.proofs.Holding.{has_flat, has_map, has_more, has_split}
 use Rattle.miette_reader_laws.proofs.Offers.{AreSound, all_sound, edit_is}
-use Rattle.miette_reader_laws.proofs.Rows.{part_behind, part_self, part_within, row_joined, row_stays, row_there}
+use Rattle.miette_readers.proofs.RowLists.{row_stays, row_there}
+use Rattle.miette_reader_laws.proofs.Rows.{part_behind, part_self, part_within, row_joined}
 use Rattle.miette_reader_laws.proofs.Standing.{IsOffered, Says, help_stands, offered_stands, told_stands}
 
 abbrev Tells : List ℕ → Told → Type 0
