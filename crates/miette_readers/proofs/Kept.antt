@@ -153,7 +153,8 @@ again_by row t m false e h = cc
 
 newly_held : (row : List ℕ) (done : Settled) (name : List ℕ) (source : Source) (s : Stretch) (t : Told)
     → Has (Is row) t.rows → IsHeld row (newly_marked done name source s t)
-newly_held row done name source s t h = inl (has_behind (IsOf row) done.marks (_ ∷ []) (inl (rows_there row [] t.rows h)))
+newly_held row done name source s t h = inl (has_behind (IsOf row) done.marks (_ ∷ [])
+    (inl (rows_there row [] t.rows h)))
 
 beside_held : (row : List ℕ) (done : Settled) (name : List ℕ) (source : Source) (s : Stretch) (t : Told)
     → Has (Is row) t.rows

@@ -61,6 +61,14 @@ module _ {V W : Type 0} (look : V → W) (xs : List V) (i : ℕ) (x : V) (h : i 
       pushed ∙ ap (λ l. l ++ made ∷ []) inv ∙ append_assoc initial before (made ∷ [])
       ∙ ap (λ o. initial ++ (before ++ cons_option o [])) (sym e) ∙ ap (λ l. initial ++ l) (sym (next_found g))
 
+  -- one more that is found, where all are
+  pub found_more_all : {Y : Type 0} (p : W → Bool) (g : W → Option Y) (old new : List Y) (made : Y) → p (look x) ≡ true
+      → g (look x) ≡ Some made → new ≡ old ++ made ∷ [] → list_all p (map look (take i xs)) ≡ true
+      → old ≡ filter_map g (map look (take i xs))
+      → (list_all p (map look (take (i + 1) xs)) ≡ true) × (new ≡ filter_map g (map look (take (i + 1) xs)))
+  found_more_all p g old new made is e pushed all inv =
+      (all_more p all is, found_more g [] old new made e pushed inv)
+
   pub found_no_more : {Y : Type 0} (g : W → Option Y) (initial old : List Y) → g (look x) ≡ None
       → old ≡ initial ++ filter_map g (map look (take i xs))
       → old ≡ initial ++ filter_map g (map look (take (i + 1) xs))

@@ -1,11 +1,11 @@
-use Rattle.std.proofs.Common.{◌≡◌, [], Bor, Some, None, false, ap, sym, rules}
+use Rattle.std.proofs.Common.{◌≡◌, Bor, Some, None, false, ap, sym, rules}
 use Rattle.std.specs.List.{filter_map}
 use Rattle.std.specs.Prelude.{if◌then◌else◌}
 use Rattle.serde_json.specs.View.{view}
 use Rattle.serde_json.specs.declared.value.Value.{Value}
 use Rattle.miette_readers.specs.rules.RustcReport.{edit_at, is_found}
 use Rattle.miette_readers.specs.views.Values.{seen}
-use Rattle.miette_readers.proofs.Steps.{not_all, all_more, found_more}
+use Rattle.miette_readers.proofs.Steps.{not_all, found_more_all}
 use Rattle.miette_readers.proofs.proposals.edits_at.Goals as goal
 
 pub returns-in-None : goal.returns-in-None
@@ -21,13 +21,9 @@ pub loop-span-preserved : goal.loop-span-preserved
 loop-span-preserved g c =
     let files = g.F.Files.found c.args.files.now in
     let l = c.loop-span in
-    let look = λ (v : Bor Value). view v.now in
     let found : edit_at files (view c.span-item.result.now) ≡ Some c.in-Some.edit = search rules in
     let pushed = c.in_ok-push_item-in-Some.ensures in
-    record {
-      all = all_more look c.args.spans.now l.span-index c.span-item.result c.loop-span-test.true c.span-item.is
-          (is_found files) l.invariant.all (search rules);
-      edits = found_more look c.args.spans.now l.span-index c.span-item.result c.loop-span-test.true c.span-item.is
-          (edit_at files) [] l.edits.items c.push_item.new.list.items c.in-Some.edit found (search rules)
-          l.invariant.edits;
-    }
+    let both = found_more_all (λ (v : Bor Value). view v.now) c.args.spans.now l.span-index c.span-item.result
+    c.loop-span-test.true c.span-item.is (is_found files) (edit_at files) l.edits.items c.push_item.new.list.items
+    c.in-Some.edit (search rules) found (search rules) l.invariant.all l.invariant.edits in
+    record { all = both.0; edits = both.1 }
