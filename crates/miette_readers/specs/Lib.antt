@@ -1,2 +1,3 @@
 pub mod rules
+pub mod laws
 pub mod views

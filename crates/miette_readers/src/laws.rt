@@ -6,6 +6,7 @@ ghost use Rattle.std.specs.List.{Contains};
 ghost use Rattle.serde_json.specs.Data.{Data};
 ghost use Rattle.miette_protocol.specs.rules.Reading.{Source};
 ghost use Rattle.miette_tree.specs.rules.Reads.{AlwaysReads, report_accepted};
+ghost use Rattle.miette_readers.specs.laws.Reading.{FilesAlwaysRead};
 ghost use Rattle.miette_readers.specs.rules.Kept.{IsKept};
 ghost use Rattle.miette_readers.specs.rules.Places.{Told};
 ghost use Rattle.miette_readers.specs.rules.Proposing.{Offer};
@@ -15,16 +16,14 @@ ghost use Rattle.miette_readers.specs.rules.Settling.{settled};
 
 /// The sources of a message's report always read, where the files that are found do.
 pub fn messages_always_read()
-    ensures { (files : List ℕ → Option Source) (d : Data)
-        → ((name : List ℕ) → IfSome (files name) (λ s. s.always_reads ≡ true))
+    ensures { (files : List ℕ → Option Source) (d : Data) → FilesAlwaysRead files
         → IfSome (rustc_tree files d) (λ row. IfSome row AlwaysReads) }
 {}
 
 /// The labels of a message's report are accepted by their sources, where the files that are found always read: so
 /// narrated and brief reports are never refused.
 pub fn labels_are_accepted()
-    ensures { (files : List ℕ → Option Source) (d : Data)
-        → ((name : List ℕ) → IfSome (files name) (λ s. s.always_reads ≡ true))
+    ensures { (files : List ℕ → Option Source) (d : Data) → FilesAlwaysRead files
         → IfSome (rustc_tree files d) (λ row. IfSome row (λ tree. report_accepted tree ≡ true)) }
 {}
 

@@ -1,11 +1,10 @@
 //! What holds of the reports of all logs. Each law is the contract of a function that does nothing; a caller cites it
 //! by calling it.
 
-ghost use Rattle.std.specs.Prelude.{◌≡◌, ℕ, List, Option, All, IfSome, true};
+ghost use Rattle.std.specs.Prelude.{ℕ, List};
 ghost use Rattle.std.specs.List.{Contains};
 ghost use Rattle.serde_json.specs.Data.{Data};
-ghost use Rattle.miette_protocol.specs.rules.Reading.{Source};
-ghost use Rattle.miette_tree.specs.rules.Reads.{AlwaysReads, report_accepted};
+ghost use Rattle.miette_readers.specs.laws.Reading.{LabelsAreAccepted, ReportsAlwaysRead};
 ghost use Rattle.miette_readers.specs.rules.Kept.{IsKept};
 ghost use Rattle.miette_readers.specs.rules.Places.{Told};
 ghost use Rattle.miette_sarif_reader.specs.rules.Logs.{result_tree, sarif_trees};
@@ -13,17 +12,13 @@ ghost use Rattle.miette_sarif_reader.specs.rules.Results.{Ground, ground_for, to
 
 /// The sources of the reports always read, where the files that are found do.
 pub fn reports_always_read()
-    ensures { (files : List ℕ → Option Source) (d : Data)
-        → ((name : List ℕ) → IfSome (files name) (λ s. s.always_reads ≡ true))
-        → IfSome (sarif_trees files d) (All AlwaysReads) }
+    ensures { ReportsAlwaysRead sarif_trees }
 {}
 
 /// The labels of the reports are accepted by their sources, where the files that are found always read: so narrated and
 /// brief reports are never refused.
 pub fn labels_are_accepted()
-    ensures { (files : List ℕ → Option Source) (d : Data)
-        → ((name : List ℕ) → IfSome (files name) (λ s. s.always_reads ≡ true))
-        → IfSome (sarif_trees files d) (All (λ tree. report_accepted tree ≡ true)) }
+    ensures { LabelsAreAccepted sarif_trees }
 {}
 
 /// Nothing is lost of what a result tells at places, whatever files are found: each row of its locations, of the
