@@ -10,10 +10,11 @@ use Rattle.miette_protocol.specs.rules.Reading.{Source}
 use Rattle.miette_protocol.specs.views.Meaning.{Label}
 use Rattle.miette_tree.specs.rules.Tree.{Tree, tree, Trees, no_trees, more_trees, trees, effective, head, source_of}
 use Rattle.miette_tree.specs.rules.Tree.{Cause, cause_of, causes_of, related_of}
+use Rattle.miette_tree.specs.rules.Answers.{AnswerTrees}
 use Rattle.miette_json.specs.rules.Json.{Json, string, array, object, item, no_members, member, items_text}
 use Rattle.miette_json.specs.rules.Json.{json_text}
 use Rattle.miette_json.specs.rules.Denotes.{Denotes, HasTokensOf}
-use Rattle.miette_json.specs.rules.JsonReport.{NameAnswers, unlisted, listed, RelatedNameAnswers, no_more, and_more}
+use Rattle.miette_json.specs.rules.JsonReport.{NameAnswers, unlisted, listed, no_more, and_more}
 use Rattle.miette_json.specs.rules.JsonReport.{related_answers, first_answers, later_answers, AreAnswers, AllAnswers}
 use Rattle.miette_json.specs.rules.JsonReport.{report_json, report_object, reports_json, file_name, NameFaults}
 use Rattle.miette_json.specs.rules.JsonReport.{own_faults, first_fault, later_faults, AreFurther, section_json}
@@ -29,10 +30,10 @@ use Rattle.miette_json.specs.steps.JsonParts.{AppendsAttached}
 
 -- Some related reports are written, and these are left: whatever answers these have, the whole has some.
 pub record RelatedSoFar (inherited : Option Source) (all left : Trees) (first : Bool) (old now : List ℕ) : Type 0 where
-  pub with_rest : RelatedNameAnswers → RelatedNameAnswers
-  pub possible : (more : RelatedNameAnswers) → AllAnswers inherited more left
+  pub with_rest : AnswerTrees NameFaults → AnswerTrees NameFaults
+  pub possible : (more : AnswerTrees NameFaults) → AllAnswers inherited more left
       → AllAnswers inherited (with_rest more) all
-  pub joined : (more : RelatedNameAnswers) → now ++ rest_text first (reports_json inherited more left) ≡ old
+  pub joined : (more : AnswerTrees NameFaults) → now ++ rest_text first (reports_json inherited more left) ≡ old
       ++ items_text (reports_json inherited (with_rest more) all)
 
 pub none_so_far : (inherited : Option Source) (all : Trees) (old : List ℕ) → RelatedSoFar inherited all all true old old
@@ -156,7 +157,7 @@ mutual
       ∙ ap (λ is. report_object m (causes_of c) first is (reports_json own (related_answers a) r)) further
       ∙ ap (report_object m (causes_of c) first (sections_json [] m.snippets)) others
 
-  same_values : (inherited : Option Source) (a : RelatedNameAnswers) (ts : Trees) → AllAnswers inherited a ts
+  same_values : (inherited : Option Source) (a : AnswerTrees NameFaults) (ts : Trees) → AllAnswers inherited a ts
       → holds_of_all always_reads inherited ts ≡ true → reports_json inherited a ts ≡ reports_json inherited no_more ts
   same_values inherited a no_trees p reads = refl
   same_values inherited a (more_trees t ts) p reads =

@@ -30,9 +30,6 @@ none_met = record { own = false; further = [] }
 abbrev pub NameAnswers : Type 0
 NameAnswers = AnswerTree NameFaults
 
-abbrev pub RelatedNameAnswers : Type 0
-RelatedNameAnswers = AnswerTrees NameFaults
-
 abbrev pub own_faults : NameAnswers → NameFaults
 own_faults a = own_or none_met a
 
@@ -61,7 +58,7 @@ abbrev mutual
   AreAnswers inherited a (tree m s c r) = ArePossible (effective s inherited) (own_faults a) m
       × AllAnswers (effective s inherited) (related_answers a) r
 
-  pub AllAnswers : Option Source → RelatedNameAnswers → Trees → Type 0
+  pub AllAnswers : Option Source → AnswerTrees NameFaults → Trees → Type 0
   AllAnswers inherited a no_trees = ⊤
   AllAnswers inherited a (more_trees t ts) =
       AreAnswers inherited (first_answers a) t × AllAnswers inherited (later_answers a) ts
@@ -155,7 +152,7 @@ abbrev mutual
       (sections_json (own_faults a).further m.snippets)
       (reports_json (effective s inherited) (related_answers a) r)
 
-  pub reports_json : Option Source → RelatedNameAnswers → Trees → Items
+  pub reports_json : Option Source → AnswerTrees NameFaults → Trees → Items
   reports_json inherited a no_trees = no_items
   reports_json inherited a (more_trees t ts) =
       item (report_json inherited (first_answers a) t) (reports_json inherited (later_answers a) ts)

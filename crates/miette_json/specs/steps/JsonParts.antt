@@ -4,8 +4,9 @@ use Rattle.miette_protocol.specs.views.Meaning.{Label}
 use Rattle.miette_tree.specs.rules.Diagnosis.{Diagnosis, Section}
 use Rattle.miette_protocol.specs.rules.Reading.{Source}
 use Rattle.miette_tree.specs.rules.Tree.{Tree, Trees}
+use Rattle.miette_tree.specs.rules.Answers.{AnswerTrees}
 use Rattle.miette_json.specs.rules.Json.{Items, no_items, item, quoted_text, json_text, items_text, more_items_text}
-use Rattle.miette_json.specs.rules.JsonReport.{NameAnswers, RelatedNameAnswers, AreAnswers, AllAnswers, AreFurther}
+use Rattle.miette_json.specs.rules.JsonReport.{NameAnswers, NameFaults, AreAnswers, AllAnswers, AreFurther}
 use Rattle.miette_json.specs.rules.JsonReport.{strings, labels_json, file_name, report_json, reports_json}
 use Rattle.miette_json.specs.rules.JsonReport.{section_json, sections_json, fixes_json}
 use Rattle.miette_tree.specs.rules.DiagnosticParts.{severity_text}
@@ -19,7 +20,7 @@ pub record AppendsReport (inherited : Option Source) (t : Tree) (old new : List 
 
 -- new is old and then the texts of related reports and the end of their list, for some answers
 pub record AppendsRelated (inherited : Option Source) (ts : Trees) (old new : List ℕ) : Type 0 where
-  pub answers : RelatedNameAnswers
+  pub answers : AnswerTrees NameFaults
   pub possible : AllAnswers inherited answers ts
   pub appended : new ≡ old ++ items_text (reports_json inherited answers ts)
 
