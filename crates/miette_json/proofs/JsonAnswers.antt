@@ -24,6 +24,7 @@ use Rattle.miette_tree.proofs.Readings.{fault_free, own_holds}
 use Rattle.miette_tree.specs.rules.Reads.{MayMeet, always_reads, holds_of, holds_of_all, holds_further}
 use Rattle.miette_json.specs.rules.JsonText.{IsJsonOf}
 use Rattle.miette_json.proofs.JsonJoined.{last_piece, report_parts}
+use Rattle.miette_json.proofs.Standing.{stands_for}
 use Rattle.miette_json.specs.steps.JsonParts.{rest_text, AppendsReport, AppendsRelated, AppendsPlaces, head_text}
 use Rattle.miette_json.specs.steps.JsonParts.{reasons_text, places_text, attached_text, key_text, list_key_text}
 use Rattle.miette_json.specs.steps.JsonParts.{AppendsAttached}
@@ -172,12 +173,12 @@ pub is_json : ((v : Json) → HasTokensOf (json_text v) v)
     → (t : Tree) (text : List ℕ) → IsUtf8 text → AppendsReport None t [] text → IsJsonOf t text
 is_json tokens one t text utf8 a =
     let value = report_json None a.answers t in
-    let denotes : Denotes text value = (utf8, subst (λ l. HasTokensOf l value) (sym a.appended) (tokens value)) in
+    let it = stands_for tokens one value text utf8 a.appended in
     record {
       value = value;
       of_tree = record { answers = a.answers; possible = a.possible; is = refl };
       always = λ reads. same_value None a.answers t a.possible reads;
-      spelled = a.appended;
-      denotes = denotes;
-      only = λ other d. one text other value d denotes;
+      spelled = it.spelled;
+      denotes = it.denotes;
+      only = it.only;
     }

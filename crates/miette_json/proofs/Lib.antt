@@ -1,4 +1,5 @@
 pub mod JsonSpelled
+pub mod Standing
 pub mod Blocks
 pub mod JsonUnique
 pub mod JsonUtf8

@@ -1,8 +1,9 @@
 -- The spelling of documents stands for them, and for no other value.
-use Rattle.std.proofs.Common.{◌≡◌, ℕ, List, ◌++◌, None, sym, ap, ◌∙◌, subst}
+use Rattle.std.proofs.Common.{◌≡◌, ℕ, List, ◌++◌, None, ap, ◌∙◌}
 use Rattle.std.specs.Prelude.{IsUtf8}
 use Rattle.miette_json.specs.rules.Denotes.{Denotes, HasTokensOf}
 use Rattle.miette_json.specs.rules.Json.{Json, json_text}
+use Rattle.miette_json.proofs.Standing.{stands_for}
 use Rattle.miette_tree.specs.rules.Reads.{AllAlwaysRead}
 use Rattle.miette_tree.specs.rules.Tree.{Trees}
 use Rattle.miette_tree.specs.views.Handler.{AppendsOne}
@@ -17,16 +18,8 @@ pub is_lsp : ((v : Json) → HasTokensOf (json_text v) v)
     → (tool : List ℕ) (ts : Trees) (fs : List Finding) → AreFindingsOf ts fs → (value : Json)
     → value ≡ documents tool fs → (text : List ℕ) → IsUtf8 text → text ≡ json_text value → IsLspOf tool ts text
 is_lsp tokens one tool ts fs found value is text utf8 e =
-    let spelled : text ≡ json_text (documents tool fs) = e ∙ ap json_text is in
-    let denotes : Denotes text (documents tool fs) =
-    (utf8, subst (λ l. HasTokensOf l (documents tool fs)) (sym spelled) (tokens (documents tool fs))) in
-    record {
-      findings = fs;
-      found = found;
-      spelled = spelled;
-      denotes = denotes;
-      only = λ other d. one text other (documents tool fs) d denotes;
-    }
+    let it = stands_for tokens one (documents tool fs) text utf8 (e ∙ ap json_text is) in
+    record { findings = fs; found = found; spelled = it.spelled; denotes = it.denotes; only = it.only }
 
 -- the text where all sources always read
 read_text : (tool : List ℕ) (ts : Trees) (old new : List ℕ) → AppendsOne (IsLspOf tool ts) old new

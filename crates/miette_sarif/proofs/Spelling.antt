@@ -1,8 +1,9 @@
 -- The spelling of a log stands for it, and for no other value.
-use Rattle.std.proofs.Common.{◌≡◌, ℕ, List, ◌++◌, None, sym, ap, ◌∙◌, subst}
+use Rattle.std.proofs.Common.{◌≡◌, ℕ, List, ◌++◌, None, ap, ◌∙◌, subst}
 use Rattle.std.specs.Prelude.{IsUtf8}
 use Rattle.miette_json.specs.rules.Denotes.{Denotes, HasTokensOf}
 use Rattle.miette_json.specs.rules.Json.{Json, json_text}
+use Rattle.miette_json.proofs.Standing.{stands_for}
 use Rattle.miette_tree.specs.rules.Reads.{AllAlwaysRead}
 use Rattle.miette_tree.specs.rules.Tree.{Trees}
 use Rattle.miette_tree.specs.views.Handler.{AppendsOne}
@@ -17,16 +18,8 @@ pub is_log : ((v : Json) → HasTokensOf (json_text v) v)
     → (t : ToolName) (ts : Trees) (fs : List Finding) → AreFindingsOf ts fs → (value : Json) → value ≡ log t fs
     → (text : List ℕ) → IsUtf8 text → text ≡ json_text value → IsLogOf t ts text
 is_log tokens one t ts fs found value is text utf8 e =
-    let spelled : text ≡ json_text (log t fs) = e ∙ ap json_text is in
-    let denotes : Denotes text (log t fs) =
-    (utf8, subst (λ l. HasTokensOf l (log t fs)) (sym spelled) (tokens (log t fs))) in
-    record {
-      findings = fs;
-      found = found;
-      spelled = spelled;
-      denotes = denotes;
-      only = λ other d. one text other (log t fs) d denotes;
-    }
+    let it = stands_for tokens one (log t fs) text utf8 (e ∙ ap json_text is) in
+    record { findings = fs; found = found; spelled = it.spelled; denotes = it.denotes; only = it.only }
 
 -- the text where all sources always read
 pub read_text : (t : ToolName) (ts : Trees) (old new : List ℕ) → AppendsOne (IsLogOf t ts) old new → AllAlwaysRead ts
