@@ -16,10 +16,9 @@ use Rattle.miette_fix_rows.specs.laws.Whole.{all_bytes}
 use Rattle.miette_fix_rows.specs.rules.Blocks.{bytes_of, line_texts, onto_line}
 use Rattle.miette_fix_rows.specs.rules.Hunks.{common, common_behind, parted}
 use Rattle.miette_fix_rows.specs.steps.Parting.{new_until, old_until, staying}
-use Rattle.miette_fix_rows.proofs.Commons.{common_within, common_within_other}
 use Rattle.miette_fix_rows.proofs.Parting.{staying_new, staying_old}
 use Rattle.miette_fix_rows.proofs.PartsOfParts.{drop_front, drop_join, slice_front, slice_join}
-use Rattle.miette_diff_laws.proofs.Trimmed.{behind_is}
+use Rattle.miette_diff_laws.proofs.Trimmed.{behind_is, behind_within}
 
 -- ---- bytes of lines
 
@@ -85,14 +84,9 @@ pub ending_same : (olds news : List (List ℕ))
     → drop (old_until olds news) olds ≡ drop (new_until olds news) news
 ending_same olds news =
     let n : ℕ = common_behind olds news in
-    let low : n ≤ length olds = omega (arith, common_within (reverse olds) (reverse news), length-reverse olds) in
-    let high : n ≤ length news = omega (
-      arith,
-      common_within_other (reverse olds)
-          (reverse news),
-      length-reverse news,
-    ) in
-    ending_is n olds low ∙ ap reverse (common_same (reverse olds) (reverse news)) ∙ sym (ending_is n news high)
+    let within = behind_within olds news in
+    ending_is n olds within.0 ∙ ap reverse (common_same (reverse olds) (reverse news))
+    ∙ sym (ending_is n news within.1)
 
 drop_bytes : (k : ℕ) (ls : List (List ℕ)) → all_bytes (drop k ls) ≡ drop (bytes_of (take k ls)) (all_bytes ls)
 drop_bytes zero ls = refl

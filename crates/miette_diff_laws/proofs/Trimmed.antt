@@ -56,6 +56,14 @@ reverse_behind k ls =
     sym (ap (take (length ls - k)) (behind_is k ls)
     ∙ take_at (reverse (drop k ls)) (reverse (take k ls)) (length ls - k) m)
 
+-- at most all lines stay behind a change
+pub behind_within : (olds news : List (List ℕ)) → (common_behind olds news ≤ length olds)
+    × (common_behind olds news ≤ length news)
+behind_within olds news = (
+  omega (arith, common_within (reverse olds) (reverse news), length-reverse olds),
+  omega (arith, common_within_other (reverse olds) (reverse news), length-reverse news),
+)
+
 parted_ends : (olds news : List (List ℕ)) → common (reverse (parted olds news).removed)
     (reverse (parted olds news).added) ≡ 0
 parted_ends olds news =
@@ -63,15 +71,10 @@ parted_ends olds news =
     let b : ℕ = common_before olds news n in
     let ls : List (List ℕ) = take (length olds - n) olds in
     let ms : List (List ℕ) = take (length news - n) news in
-    let low : n ≤ length olds = omega (arith, common_within (reverse olds) (reverse news), length-reverse olds) in
-    let high : n ≤ length news = omega (
-      arith,
-      common_within_other (reverse olds)
-          (reverse news),
-      length-reverse news,
-    ) in
+    let within = behind_within olds news in
     let none : common (reverse ls) (reverse ms) ≡ 0 =
-    ap₂ common (reverse_front n olds low) (reverse_front n news high) ∙ common_rest (reverse olds) (reverse news) in
+    ap₂ common (reverse_front n olds within.0) (reverse_front n news within.1)
+    ∙ common_rest (reverse olds) (reverse news) in
     let cut : common (reverse (drop b ls)) (reverse (drop b ms))
     ≡ common (take (length ls - b) (reverse ls)) (take (length ms - b) (reverse ms)) =
     ap₂ common (reverse_behind b ls) (reverse_behind b ms) in
