@@ -6,7 +6,7 @@ use Rattle.std.specs.List.{list_all, list_any}
 use Rattle.std.specs.Prelude.{◌||◌}
 use Rattle.std.proofs.lemmas.Bool.{and_parts, lt-ltb}
 use Rattle.std.proofs.lemmas.Bool.Decides.{nat_tests}
-use Rattle.std.proofs.lemmas.List.{at_drop_more, at_drop_all, drop-drop, drop_all, length-drop, map-append}
+use Rattle.std.proofs.lemmas.List.{at_drop_more, at_drop_all, drop-drop, drop_all, length-drop}
 use Rattle.miette_style.specs.declared.style.Style.{Style}
 use Rattle.miette_style.specs.rules.Styles.{plain}
 use Rattle.miette_labels.specs.rules.Answers.{Highlight}
@@ -21,7 +21,7 @@ use Rattle.miette_cells.specs.views.Printable.{is_printable, plain_cells}
 use Rattle.miette_cells.proofs.Plaining.{plain_byte, printable_taken}
 use Rattle.miette_snippet_rules.specs.rules.Highlighting.{highlight_of}
 use Rattle.miette_snippet_rules.specs.rules.PrintedCells.{cells_beyond, cells_within, line_runs, printed_cells}
-use Rattle.miette_snippet_rules.specs.rules.PrintedCells.{printed_glyphs, text_bytes}
+use Rattle.miette_snippet_rules.specs.rules.PrintedCells.{text_bytes}
 use Rattle.miette_snippet_rules.specs.declared.line_text.LineText.{LineText}
 use Rattle.miette_line_columns.specs.views.Passing.{ComeFrom}
 use Rattle.miette_snippet_rules.specs.views.Cuts.{made_runs}
@@ -29,7 +29,7 @@ use Rattle.miette_snippet_rules.specs.declared.stretch.Stretch.{Stretch}
 use Rattle.miette_line_printing.proofs.CellPrints.{within_none, beyond_none}
 use Rattle.miette_snippet_rules.proofs.PlainCells.{dropped}
 use Rattle.miette_snippet_rules.proofs.PlainCells.{printable_cells}
-use Rattle.miette_line_printing.proofs.TextWithoutTabs.{printed_code}
+use Rattle.miette_line_printing.proofs.CutPlain.{plain_codes}
 use Rattle.miette_fix_rows.specs.rules.DiffTexts.{holds_byte, onto_painted, painted, Painted}
 use Rattle.miette_fix_drawing.specs.declared.paint.Painted.{Painted as MadePainted}
 use Rattle.miette_fix_drawing.specs.steps.Pieces.{onto}
@@ -177,17 +177,6 @@ beyond_plain (suc n) o c (b ∷ bs) h =
     (cells_beyond (suc n - text_bytes b) (plain_cells (o + 1) (c + 1) bs))) (is_some_more n)
     ∙ ap (λ k. cells_beyond k (plain_cells (o + 1) (c + 1) bs)) less
     ∙ beyond_plain n (o + 1) (c + 1) bs parts.1 ∙ ap₂ (λ p q. plain_cells p q (drop n bs)) at column
-
-plain_codes : (o c : ℕ) (bs : List ℕ) → list_all is_printable bs ≡ true
-    → map (λ (p : Glyph). p.code) (printed_cells (plain_cells o c bs)) ≡ bs
-plain_codes o c [] h = refl
-plain_codes o c (b ∷ bs) h =
-    let parts = and_parts (is_printable b) (list_all is_printable bs) h in
-    let cell : Cell = cell_of_byte b o c in
-    map-append (λ (p : Glyph). p.code) (printed_glyphs cell) (printed_cells (plain_cells (o + 1) (c + 1) bs))
-    ∙ ap (λ r. r ++ map (λ (p : Glyph). p.code) (printed_cells (plain_cells (o + 1) (c + 1) bs)))
-    (printed_code cell (plain_byte b parts.0).tab)
-    ∙ ap (λ r. b ∷ r) (plain_codes (o + 1) (c + 1) bs parts.1)
 
 pieces_shown : (hs : List Highlight) (o c : ℕ) (bs : List ℕ) → list_all is_printable bs ≡ true
     → pieces_told hs bs ≡ row_tokens (line_runs hs (plain_cells o c bs))

@@ -44,7 +44,8 @@ drop_plain (suc n) o c (b ∷ bs) =
     let column : c + 1 + n ≡ c + suc n = omega arith in
     drop_plain n (o + 1) (c + 1) bs ∙ ap₂ (λ p q. plain_cells p q (drop n bs)) at column
 
-plain_codes : (o c : ℕ) (bs : List ℕ) → list_all is_printable bs ≡ true
+-- the codes that are printed are the bytes
+pub plain_codes : (o c : ℕ) (bs : List ℕ) → list_all is_printable bs ≡ true
     → map (λ (p : Glyph). p.code) (printed_cells (plain_cells o c bs)) ≡ bs
 plain_codes o c [] h = refl
 plain_codes o c (b ∷ bs) h =
