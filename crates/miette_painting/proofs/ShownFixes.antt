@@ -31,19 +31,32 @@ rows_behind before rows over page out o p e =
 abbrev pub message_of : Settings → Proposal → List ℕ
 message_of s fix = wrapped_under s (fix_indent s) further_fix_indent (chars fix.message) ++ line_feed
 
+-- it stands behind a text
+abbrev IsToldBehind : Settings → List ℕ → List ℕ → List ℕ → Type 0
+IsToldBehind s text old told =
+    told ≡ old ++ (wrapped_under s (fix_indent s) further_fix_indent (chars text) ++ line_feed)
+
+message_told : (s : Settings) (fix : Proposal) (text old told : List ℕ) → text ≡ fix.message
+    → IsToldBehind s text old told → told ≡ old ++ message_of s fix
+message_told s fix text old told is e =
+    e ∙ ap (λ t. old ++ (wrapped_under s (fix_indent s) further_fix_indent (chars t) ++ line_feed)) is
+
 -- without a source
-pub fix_alone : (s : Settings) (source : Option Source) (fails : Bool) (fix : Proposal) (old new : List ℕ)
-    → source ≡ None → new ≡ old ++ message_of s fix → new ≡ old ++ fix_text s (drawn_fix s source fails fix)
-fix_alone s source fails fix old new none e =
-    e ∙ ap (λ t. old ++ t) (sym (append-nil (message_of s fix)))
+pub fix_alone : (s : Settings) (source : Option Source) (fails : Bool) (fix : Proposal) (text old new : List ℕ)
+    → source ≡ None → text ≡ fix.message → IsToldBehind s text old new
+    → new ≡ old ++ fix_text s (drawn_fix s source fails fix)
+fix_alone s source fails fix text old new none is e =
+    message_told s fix text old new is e ∙ ap (λ t. old ++ t) (sym (append-nil (message_of s fix)))
     ∙ ap (λ o. old ++ fix_text s (drawn_fix s o fails fix)) (sym none)
 
 -- over a source
-pub fix_behind : (s : Settings) (source : Option Source) (fails : Bool) (fix : Proposal) (old told new : List ℕ)
-    → told ≡ old ++ message_of s fix → new ≡ told ++ rows_text (rows_of_fix s source fails fix.edits)
+pub fix_behind : (s : Settings) (source : Option Source) (fails : Bool) (fix : Proposal) (text old told new : List ℕ)
+    → text ≡ fix.message → IsToldBehind s text old told
+    → new ≡ told ++ rows_text (rows_of_fix s source fails fix.edits)
     → new ≡ old ++ fix_text s (drawn_fix s source fails fix)
-fix_behind s source fails fix old told new e h =
-    behind old told new (message_of s fix) (rows_text (rows_of_fix s source fails fix.edits)) e h
+fix_behind s source fails fix text old told new is e h =
+    behind old told new (message_of s fix) (rows_text (rows_of_fix s source fails fix.edits))
+    (message_told s fix text old told is e) h
 
 -- ---- fixes without edits need no source
 
