@@ -324,10 +324,47 @@ before_13 : (k : ℕ) → k < 15 → (k ≡ 14 → ⊥) → (k == 13) ≡ false 
 before_13 k h e f = grind (arith, nat_tests)
 
 -- the kind of a code behind which the next row is known
-pub code-kind : (row c : ℕ) → row < 28 → c < 128 → next_of row (kind_of c) < 30
+code-kind : (row c : ℕ) → row < 28 → c < 128 → next_of row (kind_of c) < 30
     → (kind_of c < 14) × (character_of c ≡ kind_character (kind_of c))
 code-kind row c small below next =
     let l : kind_of c < 14 = step-some row (kind_of c) small (kind-small c below) next in (l, kind-character c below l)
+
+-- a code in a row, by the row that is known behind it: none breaks before it
+pub code-within : (row c : ℕ) → row < 28 → c < 128 → next_of row (kind_of c) < 28
+    → (is_printable c ≡ true) × ((c == 45) ≡ false) × (break_in (row_state row) (character_of c) ≡ None)
+    × (state_behind (row_state row) (character_of c) ≡ row_state (next_of row (kind_of c)))
+code-within row c small below next =
+    let at = code-kind row c small below (omega (arith, next)) in
+    let w = step-within row (kind_of c) small at.0 next in (
+      kind-printable c below at.0,
+      kind-other c below w.1,
+      ap (break_in (row_state row)) at.1 ∙ w.0,
+      ap (state_behind (row_state row)) at.1 ∙ w.2,
+    )
+
+-- a line may break before it
+pub code-broken : (row c : ℕ) → row < 28 → c < 128 → next_of row (kind_of c) ≡ 28
+    → (is_printable c ≡ true) × (is_some (break_in (row_state row) (character_of c)) ≡ true)
+    × (state_behind (row_state row) (character_of c) ≡ row_state (kind_of c))
+code-broken row c small below next =
+    let at = code-kind row c small below (omega (arith, next)) in
+    let w = step-broken row (kind_of c) small at.0 next in (
+      kind-printable c below at.0,
+      ap (λ y. is_some (break_in (row_state row) y)) at.1 ∙ w.0,
+      ap (state_behind (row_state row)) at.1 ∙ w.1,
+    )
+
+-- it is a hyphen
+pub code-hyphen : (row c : ℕ) → row < 28 → c < 128 → next_of row (kind_of c) ≡ 29
+    → (c ≡ 45) × (break_in (row_state row) (character_of c) ≡ None)
+    × (state_behind (row_state row) (character_of c) ≡ row_state (kind_of c))
+code-hyphen row c small below next =
+    let at = code-kind row c small below (omega (arith, next)) in
+    let w = step-hyphen row (kind_of c) small at.0 next in (
+      kind-hyphen c below w.0,
+      ap (break_in (row_state row)) at.1 ∙ w.1,
+      ap (state_behind (row_state row)) at.1 ∙ w.2,
+    )
 
 -- a character of a kind but the space's
 pub kind-behind : (s : State) (c : ℕ) → c < 128 → (c ≡ 32 → ⊥) → (kind_of c ≡ 14 → ⊥) → ends_hebrew s ≡ false →
