@@ -22,11 +22,21 @@ array_opened : (d : ℕ) (r s : List Token) (t k : read.Token) → r ≡ token_o
 array_opened d r s t k first is bracket some =
     ap (value d) (begun r s t k first is ∙ ap (λ x. x ∷ s) bracket) ∙ value-begin_array d s some
 
+array_fails : (d : ℕ) (r s : List Token) (t k : read.Token) → r ≡ token_of t ∷ s → t ≡ k
+    → token_of k ≡ Token.begin_array → 0 < d → items (value (d - 1)) (length s) s ≡ None → value d r ≡ None
+array_fails d r s t k first is bracket some failed =
+    array_opened d r s t k first is bracket some ∙ ap (parse_map array) failed
+
 -- behind that of an object its members
 object_opened : (d : ℕ) (r s : List Token) (t k : read.Token) → r ≡ token_of t ∷ s → t ≡ k
     → token_of k ≡ Token.begin_object → 0 < d → value d r ≡ parse_map object (members (value (d - 1)) (length s) s)
 object_opened d r s t k first is bracket some =
     ap (value d) (begun r s t k first is ∙ ap (λ x. x ∷ s) bracket) ∙ value-begin_object d s some
+
+object_fails : (d : ℕ) (r s : List Token) (t k : read.Token) → r ≡ token_of t ∷ s → t ≡ k
+    → token_of k ≡ Token.begin_object → 0 < d → members (value (d - 1)) (length s) s ≡ None → value d r ≡ None
+object_fails d r s t k first is bracket some failed =
+    object_opened d r s t k first is bracket some ∙ ap (parse_map object) failed
 
 -- a value of one token
 leaf : (d : ℕ) (r s : List Token) (k : Token) (v : Value Global) (j : Json) → r ≡ k ∷ s → value_view v ≡ j
@@ -47,9 +57,8 @@ read_value-returns-then-depth-eq0-clause-description t c never =
 pub read_value-returns-in_err-read_items-in-BeginArray-clause-description :
     goal.read_value-returns-in_err-read_items-in-BeginArray-clause-description
 read_value-returns-in_err-read_items-in-BeginArray-clause-description t c invalid =
-    let failed : items (value (c.args.depth - 1)) (length c.next.new.self) c.next.new.self ≡ None = grind arith in
-    array_opened c.args.depth c.args.reader.now c.next.new.self c.in-Some.token _ (grind arith) c.in-BeginArray.is
-    refl (omega arith) ∙ ap (parse_map array) failed
+    array_fails c.args.depth c.args.reader.now c.next.new.self c.in-Some.token _ (grind arith) c.in-BeginArray.is refl
+    (omega arith) (grind arith)
 
 pub read_value-returns-then-depth-eq0-2-clause-description : goal.read_value-returns-then-depth-eq0-2-clause-description
 unfolding value
@@ -60,9 +69,8 @@ read_value-returns-then-depth-eq0-2-clause-description t c never =
 pub read_value-returns-in_err-read_members-in-BeginObject-clause-description :
     goal.read_value-returns-in_err-read_members-in-BeginObject-clause-description
 read_value-returns-in_err-read_members-in-BeginObject-clause-description t c invalid =
-    let failed : members (value (c.args.depth - 1)) (length c.next.new.self) c.next.new.self ≡ None = grind arith in
-    object_opened c.args.depth c.args.reader.now c.next.new.self c.in-Some.token _ (grind arith) c.in-BeginObject.is
-    refl (omega arith) ∙ ap (parse_map object) failed
+    object_fails c.args.depth c.args.reader.now c.next.new.self c.in-Some.token _ (grind arith) c.in-BeginObject.is
+    refl (omega arith) (grind arith)
 
 pub read_value-returns-in-String-clause-ok : goal.read_value-returns-in-String-clause-ok
 read_value-returns-in-String-clause-ok t c =
