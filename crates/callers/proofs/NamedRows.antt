@@ -5,6 +5,7 @@ use Rattle.std.specs.Fmt.{digits}
 use Rattle.std.specs.List.{AllByRecursion, Contains}
 use Rattle.std.specs.Str.{chars}
 use Rattle.bstr.specs.Utf8.{pieces_from}
+use lib.Utf8.{encode}
 use Rattle.unicode_width.specs.Width.{char_width}
 use Rattle.unicode_width.proofs.Computing.{unicode_width}
 use Rattle.miette_runs.specs.rules.Cells.{columns_of}
@@ -30,7 +31,7 @@ abbrev row_at : ℕ → List Fragment
 row_at k = slice_index_or own k []
 
 many : length own ≡ 12
-unfolding ends_line line_of line_start line_end column_of terminators_in pieces_from digits chars lib.Utf8.encode char_width
+unfolding ends_line line_of line_start line_end column_of terminators_in pieces_from digits chars encode char_width
 many = refl
 
 -- a row among them, of which the codes are known
@@ -38,26 +39,17 @@ stands : (text line : List ℕ) (row : List Fragment) → RowsStand text → Con
     → print row ++ line_feed ≡ line → StandsIn (encode_utf8_all line) text
 stands text line row rows there is = subst (λ line. StandsIn (encode_utf8_all line) text) is (rows row there)
 
-abbrev cut_row : List ℕ
-cut_row = codes " 7 │     … total …+\n"
+cut_stands : (text : List ℕ) → RowsStand text → StandsIn (encode_utf8_all (codes " 7 │     … total …+\n")) text
+unfolding ends_line line_of line_start line_end column_of terminators_in pieces_from digits chars encode char_width
+cut_stands text rows = stands text _ (row_at 7) rows (7, omega (arith, many), refl) refl
 
-cut_stands : (text : List ℕ) → RowsStand text → StandsIn (encode_utf8_all cut_row) text
-unfolding ends_line line_of line_start line_end column_of terminators_in pieces_from digits chars lib.Utf8.encode char_width
-cut_stands text rows = stands text cut_row (row_at 7) rows (7, omega (arith, many), refl) refl
+end_stands : (text : List ℕ) → RowsStand text → StandsIn (encode_utf8_all (codes "   ·       ──┬──   ▲\n")) text
+unfolding ends_line line_of line_start line_end column_of terminators_in pieces_from digits chars encode char_width
+end_stands text rows = stands text _ (row_at 8) rows (8, omega (arith, many), refl) refl
 
-abbrev end_row : List ℕ
-end_row = codes "   ·       ──┬──   ▲\n"
-
-end_stands : (text : List ℕ) → RowsStand text → StandsIn (encode_utf8_all end_row) text
-unfolding ends_line line_of line_start line_end column_of terminators_in pieces_from digits chars lib.Utf8.encode char_width
-end_stands text rows = stands text end_row (row_at 8) rows (8, omega (arith, many), refl) refl
-
-abbrev break_row : List ℕ
-break_row = codes "...│ │\n"
-
-break_stands : (text : List ℕ) → RowsStand text → StandsIn (encode_utf8_all break_row) text
-unfolding ends_line line_of line_start line_end column_of terminators_in pieces_from digits chars lib.Utf8.encode char_width
-break_stands text rows = stands text break_row (row_at 3) rows (3, omega (arith, many), refl) refl
+break_stands : (text : List ℕ) → RowsStand text → StandsIn (encode_utf8_all (codes "...│ │\n")) text
+unfolding ends_line line_of line_start line_end column_of terminators_in pieces_from digits chars encode char_width
+break_stands text rows = stands text _ (row_at 3) rows (3, omega (arith, many), refl) refl
 
 -- ---- of its cause's
 
@@ -65,7 +57,7 @@ abbrev depth_row : List ℕ
 depth_row = codes " 1 │ depth = 1"
 
 depth_among : AreAmong cause_text (cause_arrow ∷ []) (depth_row ∷ [])
-unfolding ends_line line_of line_start line_end column_of terminators_in pieces_from digits chars lib.Utf8.encode char_width
+unfolding ends_line line_of line_start line_end column_of terminators_in pieces_from digits chars encode char_width
 depth_among = record {
   above = codes "   ╭─[app.toml:1:9]" ∷ [];
   below = codes "   ·         ┬" ∷ codes "   ·         ╰── set here" ∷ codes "   ╰────" ∷ [];
