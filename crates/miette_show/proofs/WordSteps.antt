@@ -1,6 +1,6 @@
 -- What the words in front ask for, word by word.
 use Rattle.std.proofs.Common.{◌≡◌, ℕ, List, [], ◌∷◌, Bool, true, false, Option, Some, None, refl, sym, ap, ◌∙◌, codes}
-use Rattle.std.proofs.Common.{bytes_eq}
+use Rattle.std.proofs.Common.{bytes_eq, map}
 use Rattle.std.specs.Prelude.{◌||◌, if◌then◌else◌, option_and_then}
 use Rattle.miette_show.specs.rules.ShowWords.{ShowRequest, asked_from, format_named, is_front}
 use Rattle.miette_show.specs.declared.words.Format.{Format}
@@ -10,6 +10,11 @@ pick b x y e = rw e refl
 
 skip : {A : Type 0} (b : Bool) (x y : A) → b ≡ false → (if b then x else y) ≡ y
 skip b x y e = rw e refl
+
+-- two words that are taken, and those behind them
+pub words_left : {A : Type 0} (bytes : A → List ℕ) (rest more after : List A) (word value : A) → rest ≡ word ∷ more
+    → more ≡ value ∷ after → map bytes rest ≡ bytes word ∷ (bytes value ∷ map bytes after)
+words_left bytes rest more after word value is next = ap (map bytes) (is ∙ ap (λ m. word ∷ m) next)
 
 module _ (root : Option (List ℕ)) (from : Format) (fix : Bool) (rest : List (List ℕ)) (word : List ℕ) where
   abbrev asked : List (List ℕ) → Option ShowRequest

@@ -12,25 +12,28 @@ use Rattle.miette_show.proofs.show.show_on.Goals as goal
 pub returns-clause-ok : goal.returns-clause-ok
 returns-clause-ok g c =
     let it = c.in_ok-settings.settings in
+    let old = c.args.streams.now in
+    let new = c.show_rows.new.streams in
+    let wrote = g.W.Write.contents in
+    let noted = g.E.Write.contents in
     call_shows _ (request_of c.args.asked.now) it.choice it.options it.terminal c.in_ok-handler.handler
-    c.in_ok-settings.ensures.table c.in_ok-handler.ensures
-    (IsFoundBy g.F.Files.found g.F.Loader.knows c.args.files.now) (left_of g.R.Read.remaining c.args.streams.now.rows)
-    (λ text notes. Appends (g.W.Write.contents c.args.streams.now.writer.inner)
-    (g.W.Write.contents c.show_rows.new.streams.writer.inner) text
-    × Appends (g.E.Write.contents c.args.streams.now.faults.inner)
-    (g.E.Write.contents c.show_rows.new.streams.faults.inner) notes) c.show_rows.result c.show_rows.ensures.ok
+    c.in_ok-settings.ensures.table c.in_ok-handler.ensures (IsFoundBy g.F.Files.found g.F.Loader.knows c.args.files.now)
+    (left_of g.R.Read.remaining old.rows) (λ text notes. Appends (wrote old.writer.inner) (wrote new.writer.inner) text
+    × Appends (noted old.faults.inner) (noted new.faults.inner) notes) c.show_rows.result c.show_rows.ensures.ok
 
 pub returns-clause-beginning : goal.returns-clause-beginning
 returns-clause-beginning g c =
     let it = c.in_ok-settings.settings in
+    let old = c.args.streams.now in
+    let new = c.show_rows.new.streams in
+    let wrote = g.W.Write.contents in
+    let noted = g.E.Write.contents in
     call_first _ (request_of c.args.asked.now) it.choice it.options it.terminal c.in_ok-handler.handler
-    c.in_ok-settings.ensures.table c.in_ok-handler.ensures
-    (IsFoundBy g.F.Files.found g.F.Loader.knows c.args.files.now) (left_of g.R.Read.remaining c.args.streams.now.rows)
-    (λ text notes. TakesBeginning (g.W.Write.contents c.args.streams.now.writer.inner)
-    (g.W.Write.contents c.show_rows.new.streams.writer.inner) text
-    × TakesBeginning (g.E.Write.contents c.args.streams.now.faults.inner)
-    (g.E.Write.contents c.show_rows.new.streams.faults.inner) notes) c.show_rows.result
-    (c.show_rows.new.streams ≡ c.args.streams.now) c.show_rows.ensures.beginning
+    c.in_ok-settings.ensures.table c.in_ok-handler.ensures (IsFoundBy g.F.Files.found g.F.Loader.knows c.args.files.now)
+    (left_of g.R.Read.remaining old.rows)
+    (λ text notes. TakesBeginning (wrote old.writer.inner) (wrote new.writer.inner) text
+    × TakesBeginning (noted old.faults.inner) (noted new.faults.inner) notes) c.show_rows.result (new ≡ old)
+    c.show_rows.ensures.beginning
 
 pub returns-clause-right : goal.returns-clause-right
 returns-clause-right g c =

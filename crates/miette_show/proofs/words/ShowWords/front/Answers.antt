@@ -3,7 +3,7 @@ use Rattle.std.proofs.Common.{rules, tests}
 use Rattle.std.specs.Option.{option_copied}
 use Rattle.std.proofs.lemmas.List.{nil_from_length}
 use Rattle.miette_show.specs.rules.ShowWords.{asked_from, format_named}
-use Rattle.miette_show.proofs.WordSteps.{fix_passed, from_passed, none_left, others, root_passed}
+use Rattle.miette_show.proofs.WordSteps.{fix_passed, from_passed, none_left, others, root_passed, words_left}
 use Rattle.miette_show.proofs.words.ShowWords.front.Goals.{in-Some+in_default-as_str, in_default}
 use Rattle.miette_show.proofs.words.ShowWords.front.Goals as goal
 
@@ -20,17 +20,13 @@ loop-word-preserved-then-str_eq c =
 pub loop-word-preserved-then-str_eq-2 : goal.loop-word-preserved-then-str_eq-2
 loop-word-preserved-then-str_eq-2 c =
     let l = c.loop-word in
-    let word = string_bytes c.in-Some.word.now in
-    let value = string_bytes c.in_ok-value-in-text-2.value.now in
-    let after = map string_bytes c.in_ok-value-in-text-2.after.now in
-    let rest : map string_bytes l.rest.now ≡ word ∷ (value ∷ after) =
-    ap (map string_bytes) (c.in-Some.ensures.cases.0
-    ∙ ap (λ m. c.in-Some.word.now ∷ m) c.in_ok-value-in-text-2.ensures.cases.0)
-    in
+    let after = c.in_ok-value-in-text-2.after.now in
+    let rest = words_left string_bytes _ _ after _ _ c.in-Some.ensures.cases.0
+    c.in_ok-value-in-text-2.ensures.cases.0 in
     let no : bytes_eq c.as_str.result.now (codes "--fix") ≡ false = search (rules, tests) in
     let here : bytes_eq c.as_str.result.now (codes "--root") ≡ true = search (rules, tests) in
-    ap (λ v. asked_from (Some v) l.from l.fix after) c.as_str-in-text-2.ensures.value
-    ∙ root_passed (option_copied l.root) l.from l.fix (map string_bytes l.rest.now) word value after rest
+    ap (λ v. asked_from (Some v) l.from l.fix (map string_bytes after)) c.as_str-in-text-2.ensures.value
+    ∙ root_passed (option_copied l.root) l.from l.fix (map string_bytes l.rest.now) _ _ (map string_bytes after) rest
     (ap (λ w. bytes_eq w (codes "--fix")) (sym c.as_str.ensures.value) ∙ no)
     (ap (λ w. bytes_eq w (codes "--root")) (sym c.as_str.ensures.value) ∙ here)
     ∙ l.invariant
@@ -38,17 +34,13 @@ loop-word-preserved-then-str_eq-2 c =
 pub loop-word-preserved : goal.loop-word-preserved
 loop-word-preserved c =
     let l = c.loop-word in
-    let word = string_bytes c.in-Some.word.now in
-    let value = string_bytes c.in_ok-value-in-text-3.value.now in
-    let after = map string_bytes c.in_ok-value-in-text-3.after.now in
-    let rest : map string_bytes l.rest.now ≡ word ∷ (value ∷ after) =
-    ap (map string_bytes) (c.in-Some.ensures.cases.0
-    ∙ ap (λ m. c.in-Some.word.now ∷ m) c.in_ok-value-in-text-3.ensures.cases.0)
-    in
+    let after = c.in_ok-value-in-text-3.after.now in
+    let rest = words_left string_bytes _ _ after _ _ c.in-Some.ensures.cases.0
+    c.in_ok-value-in-text-3.ensures.cases.0 in
     let no : bytes_eq c.as_str.result.now (codes "--fix") ≡ false = search (rules, tests) in
     let nor : bytes_eq c.as_str.result.now (codes "--root") ≡ false = search (rules, tests) in
     let here : bytes_eq c.as_str.result.now (codes "--from") ≡ true = search (rules, tests) in
-    from_passed (option_copied l.root) l.from l.fix (map string_bytes l.rest.now) word value after
+    from_passed (option_copied l.root) l.from l.fix (map string_bytes l.rest.now) _ _ (map string_bytes after)
     c.in_ok-from-in-text-3.from rest
     (ap (λ w. bytes_eq w (codes "--fix")) (sym c.as_str.ensures.value) ∙ no)
     (ap (λ w. bytes_eq w (codes "--root")) (sym c.as_str.ensures.value) ∙ nor)
