@@ -1,6 +1,6 @@
 -- What a run of `show --fix` comes to.
 use Rattle.std.proofs.Common.{◌≡◌, ℕ, List, [], ◌++◌, map, Option, Some, None, IfSome, subst, sym, ◌∙◌}
-use Rattle.std.proofs.Common.{append-nil, string_bytes}
+use Rattle.std.proofs.Common.{All, append-nil, string_bytes}
 use Rattle.std.specs.List.{flat_map}
 use Rattle.std.specs.Io.KnownBytes.{Appends}
 use Rattle.std.proofs.KnownBytes.{Appends-trans}
@@ -25,9 +25,17 @@ change_by files refuses p q same c is =
     subst (λ (f : List Proposal). IsOutcome (files c.name) (refuses c.name) (leads_out c.name) f c.text c.taken)
     (same c.name) is
 
+-- what is done with the fixes that are held is done with those that rows give
+each_changed : (refuses : List ℕ → Type 0) (files : List ℕ → Option Source) (new : Gathered) (all : List FileFixes)
+    (changes : List Change) → HoldsAll new all → All (IsChange files refuses (fixes_at new.fixes)) changes
+    → All (IsChange files refuses (λ name. fixes_for name all)) changes
+each_changed refuses files new all changes held each =
+    All-weaker (IsChange files refuses (fixes_at new.fixes)) (IsChange files refuses (λ name. fixes_for name all))
+    (change_by files refuses (fixes_at new.fixes) (λ name. fixes_for name all) held.each) changes each
+
 module _ (found : (List ℕ → Option Source) → List (List ℕ) → Type 0) (refuses : List ℕ → Type 0)
     (files : List ℕ → Option Source) (verdict : Verdict) (old new : Gathered) where
-  -- what is done with the fixes that are held is done with those that rows give
+  -- what all rows come to
   pub mends_of : (first before after last : Option (List ℕ)) (done wrote said : List Change → Type 0)
       → IfSome first (λ bytes. Gives found bytes (λ all notes. Adds old new all × Appends before after notes) verdict)
       → HoldsAll old [] → found files (map string_bytes new.names.items)
@@ -47,10 +55,7 @@ module _ (found : (List ℕ → Option Source) → List (List ℕ) → Type 0) (
           (
             changes,
             named ∙ held.named,
-            All-weaker (IsChange files refuses (fixes_at new.fixes))
-                (IsChange files refuses (λ name. fixes_for name (given gives.0)))
-                (change_by files refuses (fixes_at new.fixes) (λ name. fixes_for name (given gives.0)) held.each)
-                changes each,
+            each_changed refuses files new (given gives.0) changes held each,
             (
               holds.0,
               holds.1,
@@ -85,10 +90,7 @@ module _ (found : (List ℕ → Option Source) → List (List ℕ) → Type 0) (
               changes,
               others,
               sym held.named ∙ named,
-              All-weaker (IsChange files refuses (fixes_at new.fixes))
-                  (IsChange files refuses (λ name. fixes_for name (given gives.0)))
-                  (change_by files refuses (fixes_at new.fixes) (λ name. fixes_for name (given gives.0)) held.each)
-                  changes each,
+              each_changed refuses files new (given gives.0) changes held each,
               (
                 holds.0,
                 holds.1,

@@ -19,16 +19,19 @@ returns-clause-ok g c =
     let last = c.load_held.new.files in
     let found = g.F.Files.found in
     let knows = g.F.Loader.knows in
+    let streams = c.args.streams.now in
+    let ended = c.mend_files.new.streams in
+    let stored = g.S.Store.written in
+    let wrote = g.W.Write.contents in
+    let noted = g.E.Write.contents in
     let names : c.names.result.now ≡ c.gather_rows.new.gathered.names.items = c.names.ensures in
     let known = subst (λ l. All (knows last) (map string_bytes l)) names c.in_ok-load_held.ensures.known in
     mends_of (IsFoundBy found knows first) g.S.Store.refuses (found last) c.in_ok-verdict.verdict
-    c.new-gathered.result c.gather_rows.new.gathered (left_of g.R.Read.remaining c.args.streams.now.rows)
-    (g.E.Write.contents c.args.streams.now.faults.inner) (g.E.Write.contents c.gather_rows.new.faults.inner)
-    (g.E.Write.contents c.mend_files.new.streams.faults.inner) (λ changes. c.in_ok-all.all ≡ list_all is_done changes)
-    (λ changes. Writes (g.S.Store.written c.args.store.now) (g.S.Store.written c.mend_files.new.store)
-    (flat_map written_of changes))
-    (λ changes. Appends (g.W.Write.contents c.args.streams.now.writer.inner)
-    (g.W.Write.contents c.mend_files.new.streams.writer.inner) (flat_map said_of changes))
+    c.new-gathered.result c.gather_rows.new.gathered (left_of g.R.Read.remaining streams.rows)
+    (noted streams.faults.inner) (noted c.gather_rows.new.faults.inner) (noted ended.faults.inner)
+    (λ changes. c.in_ok-all.all ≡ list_all is_done changes)
+    (λ changes. Writes (stored c.args.store.now) (stored c.mend_files.new.store) (flat_map written_of changes))
+    (λ changes. Appends (wrote streams.writer.inner) (wrote ended.writer.inner) (flat_map said_of changes))
     c.in_ok-verdict.ensures.ok c.new-gathered.ensures (
       last,
       goes_on (found first) (found mid) (found last) (knows first) (knows mid) (knows last)
@@ -45,17 +48,19 @@ returns-in_err-all-clause-first g c =
     let last = c.load_held.new.files in
     let found = g.F.Files.found in
     let knows = g.F.Loader.knows in
+    let streams = c.args.streams.now in
+    let ended = c.mend_files.new.streams in
+    let stored = g.S.Store.written in
+    let wrote = g.W.Write.contents in
+    let noted = g.E.Write.contents in
     let names : c.names.result.now ≡ c.gather_rows.new.gathered.names.items = c.names.ensures in
     let known = subst (λ l. All (knows last) (map string_bytes l)) names c.in_ok-load_held.ensures.known in
     on_err_of _ _
     (inr (first_of (IsFoundBy found knows first) g.S.Store.refuses (found last) c.in_ok-verdict.verdict
-    c.new-gathered.result c.gather_rows.new.gathered (left_of g.R.Read.remaining c.args.streams.now.rows)
-    (g.E.Write.contents c.args.streams.now.faults.inner) (g.E.Write.contents c.gather_rows.new.faults.inner)
-    (g.E.Write.contents c.mend_files.new.streams.faults.inner)
-    (λ changes. Writes (g.S.Store.written c.args.store.now) (g.S.Store.written c.mend_files.new.store)
-    (flat_map written_of changes))
-    (λ changes. TakesBeginning (g.W.Write.contents c.args.streams.now.writer.inner)
-    (g.W.Write.contents c.mend_files.new.streams.writer.inner) (flat_map said_of changes))
+    c.new-gathered.result c.gather_rows.new.gathered (left_of g.R.Read.remaining streams.rows)
+    (noted streams.faults.inner) (noted c.gather_rows.new.faults.inner) (noted ended.faults.inner)
+    (λ changes. Writes (stored c.args.store.now) (stored c.mend_files.new.store) (flat_map written_of changes))
+    (λ changes. TakesBeginning (wrote streams.writer.inner) (wrote ended.writer.inner) (flat_map said_of changes))
     c.in_ok-verdict.ensures.ok c.new-gathered.ensures (
       last,
       goes_on (found first) (found mid) (found last) (knows first) (knows mid) (knows last)
