@@ -7,7 +7,6 @@ use Rattle.miette_source_lines.specs.rules.Lines.{Line, IsCut}
 use Rattle.miette_highlight.specs.rules.HighlighterCalls.{Call}
 use Rattle.miette_page.specs.views.Tokens.{rows_tokens}
 use Rattle.miette_labels.specs.rules.Labels.{DrawnLabel}
-use Rattle.miette_source_lines.proofs.Cuts.{cut_le}
 use Rattle.miette_snippet_rules.specs.rules.Folds.{Spread, leaves_out}
 use Rattle.miette_snippet_rules.specs.rules.Highlighting.{ArePieces, decoded_text, line_calls}
 use Rattle.miette_snippet_rules.specs.rules.SnippetLayout.{line_or_break, left_out}
@@ -15,6 +14,7 @@ use Rattle.miette_folds.specs.declared.folds.LineStart.{LineStart}
 use Rattle.miette_frames.specs.views.LentRows.{cells_in, text_in, texts_in}
 use Rattle.miette_frames.proofs.ReadRows.{AreLinedBefore, AreLined}
 use Rattle.miette_folds.proofs.GapLines.{IsBetween}
+use Rattle.miette_folds.proofs.LeftOutGaps.{first_between}
 use Rattle.miette_folds.proofs.Starts.{Begins, RunOf, run_of}
 use Rattle.miette_snippet_rules.specs.rules.SnippetLayout.{snippet_context, rows_of_lines}
 use Rattle.miette_snippet_rules.specs.rules.Settings.{SnippetSettings}
@@ -69,13 +69,7 @@ each_out : (s : SnippetSettings) (ahead : ℕ) (lines : List Line) (spreads : Li
 each_out s ahead lines spreads from to outs [] at k number cut low first size e = tt
 each_out s ahead lines spreads from to outs (l ∷ run) at k number cut low first size e =
     let same : number - (ahead + 1) ≡ k = omega (arith, e) in
-    let own : IsBetween from to k l = record {
-      first = first;
-      last = omega (arith, size);
-      low = omega (arith, low, cut.0);
-      some = omega (arith, cut.0, cut.3);
-      high = cut_le l.end run to.offset cut.4;
-    } in (
+    let own = first_between from to l run at k cut low first size in (
       ap (λ n. leaves_out s.layout.label_lines lines spreads n l) same ∙ outs k l own,
       each_out s ahead lines spreads from to outs run l.end (k + 1) (number + 1) cut.4 (omega (arith, low, cut.3))
           (omega (arith, first)) (omega (arith, size)) (omega (arith, e)),

@@ -18,6 +18,17 @@ use Rattle.miette_folds.proofs.Starts.{Begins, RunOf, places_by, run_of}
 
 -- ---- the lines between two beginnings, by their numbers
 
+-- the first line of a run lies between where the run begins and ends
+pub first_between : (from to : LineStart) (l : Line) (run : List Line) (at k : ℕ) → IsCut at (l ∷ run) to.offset
+    → from.offset ≤ at → from.place ≤ k → k + length (l ∷ run) ≡ to.place → IsBetween from to k l
+first_between from to l run at k cut low first size = record {
+  first = first;
+  last = omega (arith, size);
+  low = omega (arith, low, cut.0);
+  some = omega (arith, cut.0, cut.3);
+  high = cut_le l.end run to.offset cut.4;
+}
+
 between_run : (from to : LineStart) (lines run rest : List Line) (at k j : ℕ) → drop k lines ≡ run ++ rest
     → IsCut at run to.offset → from.offset ≤ at → from.place ≤ k → k + length run ≡ to.place → k ≤ j → j < to.place
     → IsBetween from to j (line_at lines j)
@@ -29,13 +40,7 @@ between_run from to lines (l ∷ run) rest at k j parts cut low first size le lt
     (λ here.
     let same : k ≡ j = omega (arith, le, here) in
     let own : line_at lines k ≡ l = at_drop k lines (run ++ rest) l parts in
-    let it : IsBetween from to k l = record {
-      first = first;
-      last = omega (arith, size);
-      low = omega (arith, low, cut.0);
-      some = omega (arith, cut.0, cut.3);
-      high = cut_le l.end run to.offset cut.4;
-    } in
+    let it : IsBetween from to k l = first_between from to l run at k cut low first size in
     subst (λ (n : ℕ). IsBetween from to n (line_at lines n)) same
     (subst (λ (line : Line). IsBetween from to k line) (sym own) it))
     (cases_lt k j)
