@@ -92,37 +92,44 @@ write_message-requires-clause-sound g c = still_sound _ _ c.read_frame.ensures.w
 
 pub returns-in_err-write_message-in-Written-clause-begun : goal.returns-in_err-write_message-in-Written-clause-begun
 returns-in_err-write_message-in-Written-clause-begun g c =
-    let old = g.R.Read.remaining c.args.client.now.reader.inner in
-    let new = g.R.Read.remaining c.read_frame.new.client.reader.inner in
-    let w = g.W.Write.contents c.args.client.now.writer.inner in
-    let u = g.W.Write.contents c.write_message.new.client.writer.inner in
+    let remaining = g.R.Read.remaining in
+    let contents = g.W.Write.contents in
+    let asked = c.args.client.now in
+    let read = c.read_frame.new.client in
+    let told = c.write_message.new.client in
     let s = c.args.session.now in
     let t = c.step.new.self in
     let body = c.in-Some.body in
     let message = c.in-Written.message in
-    let part = subst (λ (x : Option (List ℕ)). TakesBeginning x u (framed (compact_text (view message))))
-    (held g.W.Write.contents _ _ c.read_frame.ensures.writer) c.in_err-write_message-in-Written.ensures.err in
-    let first : IsFirstFrame old new (Some body) =
-    subst (IsFirstFrame old new) c.in-Some.is c.in_ok-frame.ensures.frame in
+    let part = subst (λ (x : Option (List ℕ)). TakesBeginning x (contents told.writer.inner) (framed
+    (compact_text (view message)))) (held contents _ _ c.read_frame.ensures.writer)
+    c.in_err-write_message-in-Written.ensures.err in
+    let first = subst (IsFirstFrame (remaining asked.reader.inner) (remaining read.reader.inner)) c.in-Some.is
+    c.in_ok-frame.ensures.frame in
     let is = step_done s t _ body.items _ (Written message) c.as_slice.ensures.value c.in_ok-outcome.ensures
     c.in-Written.is in
-    on_err _ _ (begun_part s t old new w u body message first is part)
+    on_err _ _ (begun_part s t (remaining asked.reader.inner) (remaining read.reader.inner)
+    (contents asked.writer.inner) (contents told.writer.inner) body message first is part)
 
 pub returns-clause-served : goal.returns-clause-served
 returns-clause-served g c =
-    let old = g.R.Read.remaining c.args.client.now.reader.inner in
-    let new = g.R.Read.remaining c.write_message.new.client.reader.inner in
-    let w = g.W.Write.contents c.args.client.now.writer.inner in
-    let u = g.W.Write.contents c.write_message.new.client.writer.inner in
+    let remaining = g.R.Read.remaining in
+    let contents = g.W.Write.contents in
+    let asked = c.args.client.now in
+    let told = c.write_message.new.client in
     let s = c.args.session.now in
     let t = c.step.new.self in
     let body = c.in-Some.body in
     let message = c.in-Written.message in
+    let old = remaining asked.reader.inner in
+    let new = remaining told.reader.inner in
+    let w = contents asked.writer.inner in
+    let u = contents told.writer.inner in
     let put = subst (λ (x : Option (List ℕ)). Appends x u (framed (compact_text (view message))))
-    (held g.W.Write.contents _ _ c.read_frame.ensures.writer) c.in_ok-write_message-in-Written.ensures.ok in
+    (held contents _ _ c.read_frame.ensures.writer) c.in_ok-write_message-in-Written.ensures.ok in
     let first : IsFirstFrame old new (Some body) =
     subst (λ (x : Option (List ℕ)). IsFirstFrame old x (Some body))
-    (sym (left g.R.Read.remaining _ _ c.write_message.ensures.reader))
+    (sym (left remaining _ _ c.write_message.ensures.reader))
     (subst (IsFirstFrame old _) c.in-Some.is c.in_ok-frame.ensures.frame) in
     let is = step_done s t _ body.items _ (Written message) c.as_slice.ensures.value c.in_ok-outcome.ensures
     c.in-Written.is in
