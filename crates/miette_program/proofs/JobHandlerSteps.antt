@@ -103,6 +103,13 @@ graphical-accepts h it t reads refused =
     let no : true ≡ false =
     sym (labels_of_all (diagnostics_of it.settings t) (printed-reads it.settings t reads)) ∙ refused in cc
 
+-- what the handler that it is gives
+given-as : {H : Type 0} (is_blank : H → Bool) (may_follow : H → List Call → Type 0) (h k : JobHandler H) (t : Tree)
+    (old new : List ℕ) → h ≡ k → AppendsOne (IsGiven is_blank may_follow k t) old new
+    → AppendsOne (IsGiven is_blank may_follow h t) old new
+given-as is_blank may_follow h k t old new is one =
+    subst (λ j. AppendsOne (IsGiven is_blank may_follow j t) old new) (sym is) one
+
 pub narrated-given : {A E H : Type 0} (is_blank : H → Bool) (may_follow : H → List Call → Type 0) (h : JobHandler H)
     (s : narrated.NarrationSettings)
     (t : Tree) (old new : List ℕ) (r : Result A E) → h ≡ Built (handler.Narrated s) → AlwaysReads t
@@ -111,13 +118,11 @@ pub narrated-given : {A E H : Type 0} (is_blank : H → Bool) (may_follow : H �
     → OnOk r (AppendsOne (IsGiven is_blank may_follow h t) old new)
 narrated-given is_blank may_follow h s t old new (Err e) is reads text only = tt
 narrated-given is_blank may_follow h s t old new (Ok x) is reads text only =
-    let one : AppendsOne (IsGiven is_blank may_follow (Built (handler.Narrated s)) t) old new =
-    record {
+    given-as is_blank may_follow h (Built (handler.Narrated s)) t old new is (record {
       text = narrated.narration s t narrated.unlisted;
       is_given = (told-accepted t text.is_given.answers reads text.is_given.possible, refl);
       appended = only (told_reads t reads) (told-fixed t reads);
-    } in
-    subst (λ k. AppendsOne (IsGiven is_blank may_follow k t) old new) (sym is) one
+    })
 
 pub brief-given : {A E H : Type 0} (is_blank : H → Bool) (may_follow : H → List Call → Type 0) (h : JobHandler H)
     (s : brief.BriefSettings)
@@ -127,13 +132,11 @@ pub brief-given : {A E H : Type 0} (is_blank : H → Bool) (may_follow : H → L
     → OnOk r (AppendsOne (IsGiven is_blank may_follow h t) old new)
 brief-given is_blank may_follow h s t old new (Err e) is reads text only = tt
 brief-given is_blank may_follow h s t old new (Ok x) is reads text only =
-    let one : AppendsOne (IsGiven is_blank may_follow (Built (handler.Brief s)) t) old new =
-    record {
+    given-as is_blank may_follow h (Built (handler.Brief s)) t old new is (record {
       text = brief.brief s t brief.unlisted;
       is_given = (brief-accepted t text.is_given.answers reads text.is_given.possible, refl);
       appended = only reads;
-    } in
-    subst (λ k. AppendsOne (IsGiven is_blank may_follow k t) old new) (sym is) one
+    })
 
 pub brief-refuses : {H : Type 0} (h : JobHandler H) (s : brief.BriefSettings) (t : Tree) → h
     ≡ Built (handler.Brief s) → report_accepted t ≡ false → MayRefuse h t
