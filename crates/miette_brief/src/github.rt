@@ -1,13 +1,11 @@
 //! A report as a workflow command of GitHub.
 
-ghost use Rattle.std.specs.Prelude.{◌≡◌, ◌++◌, ◌∷◌, ◌<◌, ◌&&◌, [], false, codes, OnOk, IfOk, string_bytes, map, length};
+ghost use Rattle.std.specs.Prelude.{◌≡◌, ◌++◌, ◌∷◌, ◌<◌, [], false, codes, OnOk, IfOk, string_bytes, map, length};
 ghost use Rattle.std.specs.Prelude.{◌+◌, Some, drop, option_copied, slice_range, take, IfSome};
 ghost use Rattle.std.specs.Option.{option_map};
 ghost use Rattle.miette_tree.specs.views.Report.{tree_of};
 ghost use Rattle.miette_tree.specs.views.Owned.{shown_source};
 ghost use Rattle.miette_tree.specs.rules.Tree.{head, cause_of, causes_of};
-ghost use Rattle.miette_tree.specs.rules.DiagnosticParts.{given_labels};
-ghost use Rattle.miette_tree.specs.rules.Reads.{accepts, holds_further};
 ghost use Rattle.miette_brief.specs.declared.form.Form.TheVariants.{Github};
 ghost use Rattle.miette_brief.specs.rules.Commands.{escaped, sayings_text};
 ghost use Rattle.miette_brief.specs.rules.Github.{advice_sayings, cause_sayings, fix_saying, nonempty, note_saying};
@@ -15,8 +13,8 @@ ghost use Rattle.miette_brief.specs.rules.Github.{note_sayings, saying, saying_i
 ghost use Rattle.miette_brief.specs.rules.Marks.{with_first};
 ghost use Rattle.miette_brief.specs.steps.AppendedParts.{AppendsOwn};
 ghost use Rattle.miette_brief.specs.steps.CommandParts.{mark_of};
+ghost use Rattle.miette_brief.specs.steps.Reads.{labels_accepted};
 ghost use Rattle.miette_brief.specs.steps.Wholes.{IsWhole};
-ghost use Rattle.miette_labels.specs.rules.Groups.{in_order};
 
 use crate::commands::{Site, push_head, push_saying};
 use crate::escapes::{Part, push_escaped};
@@ -218,9 +216,8 @@ pub(crate) fn push_command<'a, D: Diagnostic, S: SourceCode>(
         (option_map (shown_source S.source) source.entry) (head (tree_of D.meaning S.source report.now))
         (cause_of (tree_of D.meaning S.source report.now)) (string_bytes out.old) (string_bytes out.new)) }
     ensures refused { (result ≡ Err RenderError.Refused) →
-        (accepts (option_map (shown_source S.source) source.entry)
-        (in_order (given_labels (head (tree_of D.meaning S.source report.now)).labels))
-        && holds_further accepts (head (tree_of D.meaning S.source report.now)).snippets) ≡ false }
+        labels_accepted (option_map (shown_source S.source) source.entry)
+        (head (tree_of D.meaning S.source report.now)) ≡ false }
 {
     let marks = marks_of(*out.allocator(), report, source)?;
     let first = primary_at(&marks);

@@ -1,18 +1,17 @@
 //! The handler of brief reports.
 
-ghost use Rattle.std.specs.Prelude.{◌≡◌, ◌++◌, ◌&&◌, true, false, map, IfOk, OnOk, OnErr, string_bytes};
+ghost use Rattle.std.specs.Prelude.{◌≡◌, ◌++◌, true, false, map, IfOk, OnOk, OnErr, string_bytes};
 ghost use Rattle.std.specs.Option.{option_map};
-ghost use Rattle.miette_tree.specs.rules.DiagnosticParts.{given_labels};
 ghost use Rattle.miette_tree.specs.rules.Tree.{cause_of, head, source_of, trees};
 ghost use Rattle.miette_tree.specs.views.Owned.{shown_source};
 ghost use Rattle.miette_tree.specs.views.Report.{tree_of};
 ghost use Rattle.miette_tree.specs.views.Handler.{AppendsOne};
-ghost use Rattle.miette_tree.specs.rules.Reads.{AlwaysReads, accepts, holds_further, holds_of, holds_of_all};
+ghost use Rattle.miette_tree.specs.rules.Reads.{AlwaysReads, accepts, holds_of, holds_of_all};
 ghost use Rattle.miette_tree.specs.rules.Reads.{report_accepted};
-ghost use Rattle.miette_labels.specs.rules.Groups.{in_order};
 ghost use Rattle.miette_brief.specs.rules.Report.{default_settings, brief, unlisted};
 ghost use Rattle.miette_brief.specs.rules.PossibleAnswers.{IsBrief};
 ghost use Rattle.miette_brief.specs.steps.AppendedParts.{AppendsOwn, AppendsRelated, AppendsReport};
+ghost use Rattle.miette_brief.specs.steps.Reads.{labels_accepted};
 ghost use Rattle.miette_brief.specs.steps.Wholes.{IsOwnIn, IsWholeIn};
 
 use crate::form::Form;
@@ -166,9 +165,8 @@ impl BriefReportHandler {
             (head (tree_of D.meaning S.source report.now)) (cause_of (tree_of D.meaning S.source report.now))
             (string_bytes out.old) (string_bytes out.new)) }
         ensures refused { (result ≡ Err RenderError.Refused) →
-            (accepts (option_map (shown_source S.source) source.entry)
-            (in_order (given_labels (head (tree_of D.meaning S.source report.now)).labels))
-            && holds_further accepts (head (tree_of D.meaning S.source report.now)).snippets) ≡ false }
+            labels_accepted (option_map (shown_source S.source) source.entry)
+            (head (tree_of D.meaning S.source report.now)) ≡ false }
     {
         let chain = self.tells_causes();
         match self.form() {

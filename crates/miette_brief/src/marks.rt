@@ -1,6 +1,6 @@
 //! The labels of a diagnostic over all of its sources, and the primary one among them.
 
-ghost use Rattle.std.specs.Prelude.{◌≡◌, ◌<◌, ◌∷◌, ◌++◌, ◌&&◌, [], false, OnOk, IfOk, map, length, position, Some};
+ghost use Rattle.std.specs.Prelude.{◌≡◌, ◌<◌, ◌∷◌, ◌++◌, [], false, OnOk, IfOk, map, length, position, Some};
 ghost use Rattle.std.specs.List.{All};
 ghost use Rattle.std.specs.Option.{option_map};
 ghost use Rattle.miette_tree.specs.views.Attached.{section_of};
@@ -15,6 +15,7 @@ ghost use Rattle.miette_brief.specs.rules.Marks.{further_marks, is_marked, is_pl
 ghost use Rattle.miette_brief.specs.rules.Marks.{is_wanted, primary_at as primary_index};
 ghost use Rattle.miette_brief.specs.rules.PossibleAnswers.{HasAccepted, FurtherAccepted};
 ghost use Rattle.miette_brief.specs.steps.CommandParts.{mark_of};
+ghost use Rattle.miette_brief.specs.steps.Reads.{labels_accepted};
 
 use crate::places::label_place;
 use crate::spots::label_of;
@@ -120,9 +121,8 @@ pub(crate) fn marks_of<'a, D: Diagnostic, S: SourceCode>(
         (in_order (given_labels (head (tree_of D.meaning S.source report.now)).labels))
         × FurtherAccepted (head (tree_of D.meaning S.source report.now)).snippets) }
     ensures refused { (result ≡ Err RenderError.Refused) →
-        (accepts (option_map (shown_source S.source) source.entry)
-        (in_order (given_labels (head (tree_of D.meaning S.source report.now)).labels))
-        && holds_further accepts (head (tree_of D.meaning S.source report.now)).snippets) ≡ false }
+        labels_accepted (option_map (shown_source S.source) source.entry)
+        (head (tree_of D.meaning S.source report.now)) ≡ false }
 {
     let mut marks = Vec::new(alloc);
     push_sorted_marks(source, labels_of(report), &mut marks)?;

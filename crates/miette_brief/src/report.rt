@@ -1,6 +1,6 @@
 //! The brief text of a report, part by part.
 
-ghost use Rattle.std.specs.Prelude.{◌≡◌, ◌++◌, ◌∷◌, ◌<◌, ◌&&◌, [], false, OnOk, IfOk, string_bytes, map, length};
+ghost use Rattle.std.specs.Prelude.{◌≡◌, ◌++◌, ◌∷◌, ◌<◌, [], false, OnOk, IfOk, string_bytes, map, length};
 ghost use Rattle.std.specs.Prelude.{option_copied, true, Some};
 ghost use Rattle.std.specs.List.{All};
 ghost use Rattle.std.specs.Option.{option_map};
@@ -18,7 +18,7 @@ ghost use Rattle.miette_brief.specs.rules.Report.{help_rows};
 ghost use Rattle.miette_brief.specs.rules.Rows.{rows_text};
 ghost use Rattle.miette_brief.specs.steps.AppendedParts.{AppendsAdvice, AppendsCauses, AppendsLabelled, AppendsOwn};
 ghost use Rattle.miette_brief.specs.steps.Conversions.{place_of};
-ghost use Rattle.miette_brief.specs.steps.Reads.{AreKnown, IsUnread, IsReadAt};
+ghost use Rattle.miette_brief.specs.steps.Reads.{AreKnown, IsUnread, IsReadAt, labels_accepted};
 ghost use Rattle.miette_labels.specs.rules.Groups.{in_order};
 ghost use Rattle.miette_labels.specs.views.GivenLabels.{label_at};
 
@@ -200,9 +200,8 @@ fn push_labelled<'a, D: Diagnostic, S: SourceCode>(
     ensures text { IfOk result (λ at. AppendsLabelled (option_map (shown_source S.source) source.entry)
         (head (tree_of D.meaning S.source report.now)) (place_of at) (string_bytes out.old) (string_bytes out.new)) }
     ensures refused { (result ≡ Err RenderError.Refused) →
-        (accepts (option_map (shown_source S.source) source.entry)
-        (in_order (given_labels (head (tree_of D.meaning S.source report.now)).labels))
-        && holds_further accepts (head (tree_of D.meaning S.source report.now)).snippets) ≡ false }
+        labels_accepted (option_map (shown_source S.source) source.entry)
+        (head (tree_of D.meaning S.source report.now)) ≡ false }
 {
     let labels = labels_of(report);
     let further = report.further_snippets();
@@ -224,9 +223,8 @@ pub(crate) fn push_own<'a, D: Diagnostic, S: SourceCode>(
         (option_map (shown_source S.source) source.entry) (head (tree_of D.meaning S.source report.now))
         (cause_of (tree_of D.meaning S.source report.now)) (string_bytes out.old) (string_bytes out.new)) }
     ensures refused { (result ≡ Err RenderError.Refused) →
-        (accepts (option_map (shown_source S.source) source.entry)
-        (in_order (given_labels (head (tree_of D.meaning S.source report.now)).labels))
-        && holds_further accepts (head (tree_of D.meaning S.source report.now)).snippets) ≡ false }
+        labels_accepted (option_map (shown_source S.source) source.entry)
+        (head (tree_of D.meaning S.source report.now)) ≡ false }
 {
     let alloc = *out.allocator();
     let order = by_offset(alloc, labels_of(report))?;

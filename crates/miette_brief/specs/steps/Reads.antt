@@ -1,14 +1,16 @@
 -- What reads for places gave.
-use Rattle.std.specs.Prelude.{◌≡◌, List, Option, Some, None, Bool, false, ⊤}
+use Rattle.std.specs.Prelude.{◌≡◌, List, Option, Some, None, Bool, false, ◌&&◌, ⊤}
 use Rattle.miette_source_lines.specs.declared.near.KnownLines.{KnownLines}
 use Rattle.miette_source_lines.specs.views.Known.{IsKnown}
 use Rattle.miette_protocol.specs.views.Meaning.{Label}
 use Rattle.miette_protocol.specs.rules.Reading.{Span, Source, IsAccepted}
 use Rattle.miette_brief.specs.rules.Rows.{Place}
-use Rattle.miette_tree.specs.rules.Diagnosis.{Section}
+use Rattle.miette_labels.specs.rules.Groups.{in_order}
+use Rattle.miette_tree.specs.rules.Diagnosis.{Diagnosis, Section}
+use Rattle.miette_tree.specs.rules.DiagnosticParts.{given_labels}
 use Rattle.miette_brief.specs.rules.Places.{span_place, name_place, source_place, diagnostic_place, cause_place, Spot}
 use Rattle.miette_brief.specs.rules.Places.{source_of_spot}
-use Rattle.miette_tree.specs.rules.Reads.{MayMeet}
+use Rattle.miette_tree.specs.rules.Reads.{MayMeet, accepts, holds_further}
 use Rattle.miette_brief.specs.declared.spots.Found.{Found}
 use Rattle.miette_brief.specs.declared.spots.Found.TheVariants as found
 use Rattle.miette_brief.specs.steps.Conversions.{place_of}
@@ -17,6 +19,10 @@ use Rattle.miette_brief.specs.steps.Conversions.{place_of}
 abbrev pub IsUnread : Option Source → Span → Type 0
 IsUnread None span = ⊥
 IsUnread (Some source) span = IsAccepted source.bytes span → source.always_reads ≡ false
+
+-- whether the labels of a diagnostic over its own source, and those over further ones, are accepted
+abbrev pub labels_accepted : Option Source → Diagnosis → Bool
+labels_accepted source m = accepts source (in_order (given_labels m.labels)) && holds_further accepts m.snippets
 
 -- a span that was read, where there is a source
 abbrev pub IsReadAt : Option Source → Span → Type 0
