@@ -1,6 +1,6 @@
 //! The narrated text of a report, part by part.
 
-ghost use Rattle.std.specs.Prelude.{◌≡◌, ◌++◌, ◌&&◌, false, OnOk, IfOk, string_bytes, map, option_copied};
+ghost use Rattle.std.specs.Prelude.{◌≡◌, ◌++◌, false, OnOk, IfOk, string_bytes, map, option_copied};
 ghost use Rattle.std.specs.Option.{option_map};
 ghost use Rattle.miette_tree.specs.rules.Tree.{head, cause_of, causes_of, trees};
 ghost use Rattle.miette_tree.specs.views.Report.{tree_of};
@@ -8,10 +8,9 @@ ghost use Rattle.miette_tree.specs.views.Owned.{shown_source};
 ghost use Rattle.miette_narrated.specs.rules.Report.{severity_row, head_rows, titled_rows, cause_rows};
 ghost use Rattle.miette_narrated.specs.rules.Report.{causes_if, url_rows, blank_before};
 ghost use Rattle.miette_narrated.specs.steps.AppendedParts.{AppendsAdvice, AppendsBelow, AppendsReport};
-ghost use Rattle.miette_narrated.specs.steps.AppendedParts.{AppendsRelated};
+ghost use Rattle.miette_narrated.specs.steps.AppendedParts.{AppendsRelated, labels_accepted};
 ghost use Rattle.miette_narrated.specs.rules.PossibleAnswers.{IsNarrated};
-ghost use Rattle.miette_tree.specs.rules.DiagnosticParts.{given_labels};
-ghost use Rattle.miette_tree.specs.rules.Reads.{accepts, holds_of, holds_of_all, holds_further, report_accepted};
+ghost use Rattle.miette_tree.specs.rules.Reads.{accepts, holds_of, holds_of_all, report_accepted};
 ghost use Rattle.miette_narrated.specs.steps.NarrationSettings.{settings_of};
 
 use crate::fixes::push_fixes;
@@ -122,9 +121,8 @@ fn push_below<D: Diagnostic, S: SourceCode>(
     ensures text { OnOk result (AppendsBelow context (option_map (shown_source S.source) source.entry)
         (head (tree_of D.meaning S.source report.now)) (string_bytes out.old) (string_bytes out.new)) }
     ensures refused { (result ≡ Err RenderError.Refused) →
-        (accepts (option_map (shown_source S.source) source.entry)
-        (given_labels (head (tree_of D.meaning S.source report.now)).labels)
-        && holds_further accepts (head (tree_of D.meaning S.source report.now)).snippets) ≡ false }
+        labels_accepted (option_map (shown_source S.source) source.entry)
+        (head (tree_of D.meaning S.source report.now)) ≡ false }
 {
     push_all_snippets(alloc, context, report, source, out)?;
     push_advice(alloc, report, source, out)?;

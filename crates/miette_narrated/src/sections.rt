@@ -1,14 +1,14 @@
 //! The snippets of a report, over its first source and over further ones.
 
-ghost use Rattle.std.specs.Prelude.{◌≡◌, ◌&&◌, false, OnOk, string_bytes, map};
+ghost use Rattle.std.specs.Prelude.{◌≡◌, false, OnOk, string_bytes, map};
 ghost use Rattle.std.specs.Option.{option_map};
-ghost use Rattle.miette_tree.specs.rules.DiagnosticParts.{given_labels};
 ghost use Rattle.miette_tree.specs.rules.Reads.{accepts, holds_further};
 ghost use Rattle.miette_tree.specs.rules.Tree.{head};
 ghost use Rattle.miette_tree.specs.views.Attached.{section_of};
 ghost use Rattle.miette_tree.specs.views.Owned.{shown_source};
 ghost use Rattle.miette_tree.specs.views.Report.{tree_of};
 ghost use Rattle.miette_narrated.specs.steps.AppendedParts.{AppendsSnippets, AppendsFurther, AppendsAll};
+ghost use Rattle.miette_narrated.specs.steps.AppendedParts.{labels_accepted};
 
 use crate::snippets::push_snippets;
 use miette_protocol::error::RenderError;
@@ -66,9 +66,8 @@ pub(crate) fn push_all_snippets<D: Diagnostic, S: SourceCode>(
     ensures text { OnOk result (AppendsAll context (option_map (shown_source S.source) source.entry)
         (head (tree_of D.meaning S.source report.now)) (string_bytes out.old) (string_bytes out.new)) }
     ensures refused { (result ≡ Err RenderError.Refused) →
-        (accepts (option_map (shown_source S.source) source.entry)
-        (given_labels (head (tree_of D.meaning S.source report.now)).labels)
-        && holds_further accepts (head (tree_of D.meaning S.source report.now)).snippets) ≡ false }
+        labels_accepted (option_map (shown_source S.source) source.entry)
+        (head (tree_of D.meaning S.source report.now)) ≡ false }
 {
     push_snippets_of(alloc, context, labels_of(report), source, out)?;
     push_further(alloc, context, report.further_snippets(), out)

@@ -1,11 +1,11 @@
 -- What is appended for the parts of a report, under some answers.
-use Rattle.std.specs.Prelude.{◌≡◌, ℕ, Bool, List, ◌++◌, Option}
+use Rattle.std.specs.Prelude.{◌≡◌, ℕ, Bool, ◌&&◌, List, ◌++◌, Option}
 use Rattle.miette_protocol.specs.views.Meaning.{Label}
 use Rattle.miette_protocol.specs.rules.Reading.{Source}
 use Rattle.miette_fixes.specs.rules.Edits.{Proposal}
 use Rattle.miette_tree.specs.rules.Diagnosis.{Diagnosis, Section}
 use Rattle.miette_tree.specs.rules.DiagnosticParts.{given_labels}
-use Rattle.miette_tree.specs.rules.Reads.{MayMeet}
+use Rattle.miette_tree.specs.rules.Reads.{MayMeet, accepts, holds_further}
 use Rattle.miette_tree.specs.rules.Tree.{Tree, Trees}
 use Rattle.miette_tree.specs.rules.Answers.{AnswerTrees}
 use Rattle.miette_narrated.specs.rules.Report.{Answers, snippet_rows, related_report, related_reports}
@@ -13,6 +13,10 @@ use Rattle.miette_narrated.specs.rules.Report.{blank_before, ReadAnswers, furthe
 use Rattle.miette_narrated.specs.rules.Report.{rows_below}
 use Rattle.miette_narrated.specs.rules.Fixes.{fixed_source, fixes_rows}
 use Rattle.miette_narrated.specs.rules.PossibleAnswers.{IsAnswered, AreFurther, ArePossible, AreAnswers, AllAnswers}
+
+-- whether the labels of a diagnostic over its own source, and those over further ones, are accepted
+abbrev pub labels_accepted : Option Source → Diagnosis → Bool
+labels_accepted source m = accepts source (given_labels m.labels) && holds_further accepts m.snippets
 
 -- new is old and then the snippets of these labels, for some answers
 pub record AppendsSnippets (context : ℕ) (source : Option Source) (labels : List Label) (old new : List ℕ) : Type 0
