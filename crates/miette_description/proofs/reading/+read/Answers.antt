@@ -1,4 +1,4 @@
-use Rattle.std.proofs.Common.{◌≡◌, ℕ, ◌-◌, ◌<◌, List, [], ◌∷◌, ◌++◌, length, Some, None, sym, ap, ap₂}
+use Rattle.std.proofs.Common.{◌≡◌, ℕ, ◌-◌, ◌<◌, List, [], ◌∷◌, ◌++◌, length, Option, Some, None, sym, ap, ap₂}
 use Rattle.std.proofs.Common.{◌∙◌, Global, arith, refl, rules}
 use Rattle.json.specs.Token.{Token}
 use Rattle.json.specs.declared.token.Token as read
@@ -16,27 +16,21 @@ use Rattle.miette_description.proofs.reading.+read.Goals as goal
 begun : (r s : List Token) (t k : read.Token) → r ≡ token_of t ∷ s → t ≡ k → r ≡ token_of k ∷ s
 begun r s t k first is = first ∙ ap (λ x. token_of x ∷ s) is
 
--- behind the bracket of an array its items are read
-array_opened : (d : ℕ) (r s : List Token) (t k : read.Token) → r ≡ token_of t ∷ s → t ≡ k
-    → token_of k ≡ Token.begin_array → 0 < d → value d r ≡ parse_map array (items (value (d - 1)) (length s) s)
-array_opened d r s t k first is bracket some =
-    ap (value d) (begun r s t k first is ∙ ap (λ x. x ∷ s) bracket) ∙ value-begin_array d s some
+-- what is read behind a bracket
+opened : (d : ℕ) (r s : List Token) (t k : read.Token) (b : Token) (made : Option (Json × List Token))
+    → r ≡ token_of t ∷ s → t ≡ k → token_of k ≡ b → value d (b ∷ s) ≡ made → value d r ≡ made
+opened d r s t k b made first is bracket inside =
+    ap (value d) (begun r s t k first is ∙ ap (λ x. x ∷ s) bracket) ∙ inside
 
 array_fails : (d : ℕ) (r s : List Token) (t k : read.Token) → r ≡ token_of t ∷ s → t ≡ k
     → token_of k ≡ Token.begin_array → 0 < d → items (value (d - 1)) (length s) s ≡ None → value d r ≡ None
 array_fails d r s t k first is bracket some failed =
-    array_opened d r s t k first is bracket some ∙ ap (parse_map array) failed
-
--- behind that of an object its members
-object_opened : (d : ℕ) (r s : List Token) (t k : read.Token) → r ≡ token_of t ∷ s → t ≡ k
-    → token_of k ≡ Token.begin_object → 0 < d → value d r ≡ parse_map object (members (value (d - 1)) (length s) s)
-object_opened d r s t k first is bracket some =
-    ap (value d) (begun r s t k first is ∙ ap (λ x. x ∷ s) bracket) ∙ value-begin_object d s some
+    opened d r s t k _ _ first is bracket (value-begin_array d s some ∙ ap (parse_map array) failed)
 
 object_fails : (d : ℕ) (r s : List Token) (t k : read.Token) → r ≡ token_of t ∷ s → t ≡ k
     → token_of k ≡ Token.begin_object → 0 < d → members (value (d - 1)) (length s) s ≡ None → value d r ≡ None
 object_fails d r s t k first is bracket some failed =
-    object_opened d r s t k first is bracket some ∙ ap (parse_map object) failed
+    opened d r s t k _ _ first is bracket (value-begin_object d s some ∙ ap (parse_map object) failed)
 
 -- a value of one token
 leaf : (d : ℕ) (r s : List Token) (k : Token) (v : Value Global) (j : Json) → r ≡ k ∷ s → value_view v ≡ j
@@ -105,17 +99,17 @@ pub read_value-returns-in_ok-read_items-in-BeginArray-clause-ok :
     goal.read_value-returns-in_ok-read_items-in-BeginArray-clause-ok
 read_value-returns-in_ok-read_items-in-BeginArray-clause-ok t c =
     let found = c.in_ok-read_items-in-BeginArray in
-    array_opened c.args.depth c.args.reader.now c.next.new.self c.in-Some.token _ (grind arith) c.in-BeginArray.is
-    refl (omega arith) ∙ ap (parse_map array) found.ensures.ok
-    ∙ ap (λ j. Some (j, c.read_items.new.reader)) (sym (view-Array found.field-0))
+    opened c.args.depth c.args.reader.now c.next.new.self c.in-Some.token _ _ _ (grind arith) c.in-BeginArray.is refl
+    (value-begin_array c.args.depth c.next.new.self (omega arith) ∙ ap (parse_map array) found.ensures.ok
+    ∙ ap (λ j. Some (j, c.read_items.new.reader)) (sym (view-Array found.field-0)))
 
 pub read_value-returns-in_ok-read_members-in-BeginObject-clause-ok :
     goal.read_value-returns-in_ok-read_members-in-BeginObject-clause-ok
 read_value-returns-in_ok-read_members-in-BeginObject-clause-ok t c =
     let found = c.in_ok-read_members-in-BeginObject in
-    object_opened c.args.depth c.args.reader.now c.next.new.self c.in-Some.token _ (grind arith) c.in-BeginObject.is
-    refl (omega arith) ∙ ap (parse_map object) found.ensures.ok
-    ∙ ap (λ j. Some (j, c.read_members.new.reader)) (sym (view-Object found.field-0))
+    opened c.args.depth c.args.reader.now c.next.new.self c.in-Some.token _ _ _ (grind arith) c.in-BeginObject.is refl
+    (value-begin_object c.args.depth c.next.new.self (omega arith) ∙ ap (parse_map object) found.ensures.ok
+    ∙ ap (λ j. Some (j, c.read_members.new.reader)) (sym (view-Object found.field-0)))
 
 pub read_items-loop-alloc-init : goal.read_items-loop-alloc-init
 read_items-loop-alloc-init t c = (
