@@ -28,12 +28,15 @@ returns-in_err-frame-clause-begun g c =
 
 pub returns-in-None-clause-served : goal.returns-in-None-clause-served
 returns-in-None-clause-served g c =
-    let old = g.R.Read.remaining c.args.client.now.reader.inner in
-    let new = g.R.Read.remaining c.read_frame.new.client.reader.inner in
-    let w = g.W.Write.contents c.args.client.now.writer.inner in
-    subst (λ (v : Option (List ℕ)). IsServed c.args.session.now old w v 2)
-    (sym (held g.W.Write.contents _ _ c.read_frame.ensures.writer))
-    (served_none c.args.session.now old new w (subst (IsFirstFrame old new) c.in-None.is c.in_ok-frame.ensures.frame))
+    let remaining = g.R.Read.remaining in
+    let contents = g.W.Write.contents in
+    let asked = c.args.client.now in
+    let read = c.read_frame.new.client in
+    subst (λ (v : Option (List ℕ)). IsServed c.args.session.now (remaining asked.reader.inner)
+    (contents asked.writer.inner) v 2) (sym (held contents _ _ c.read_frame.ensures.writer))
+    (served_none c.args.session.now (remaining asked.reader.inner) (remaining read.reader.inner)
+    (contents asked.writer.inner) (subst (IsFirstFrame (remaining asked.reader.inner) (remaining read.reader.inner))
+    c.in-None.is c.in_ok-frame.ensures.frame))
 
 pub returns-in_err-outcome-clause-begun : goal.returns-in_err-outcome-clause-begun
 returns-in_err-outcome-clause-begun g c =
