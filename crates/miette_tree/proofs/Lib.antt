@@ -8,3 +8,4 @@ pub mod Leading
 pub mod WholeReads
 pub mod Refusals
 pub mod Escapes
+pub mod Prefixes
