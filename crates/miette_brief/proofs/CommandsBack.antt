@@ -10,6 +10,7 @@ use Rattle.miette_positions.specs.declared.place.Region.{Region}
 use Rattle.miette_protocol.specs.declared.protocol.Severity.{Severity}
 use Rattle.miette_protocol.specs.declared.protocol.Severity.TheVariants.{Advice, Warning, Error}
 use Rattle.miette_protocol.specs.rules.Reading.{Source}
+use Rattle.miette_tree.specs.rules.Answers.{AnswerTrees}
 use Rattle.miette_tree.specs.rules.Tree.{Tree, tree, Trees, no_trees, more_trees, effective}
 use Rattle.miette_brief.specs.declared.escapes.Part.{Part}
 use Rattle.miette_brief.specs.declared.escapes.Part.TheVariants.{Message, Property as InProperty}
@@ -26,7 +27,7 @@ use Rattle.miette_brief.specs.rules.Commands.{command_text, commands_text, escap
 use Rattle.miette_brief.specs.rules.Commands.{is_escaped, percent, properties, properties_text, property_text}
 use Rattle.miette_brief.specs.rules.Commands.{region_properties, saying_text, sayings_text, site_properties}
 use Rattle.miette_brief.specs.rules.Commands.{title_properties}
-use Rattle.miette_brief.specs.rules.Report.{Answers, BriefSettings, RelatedAnswers, brief, first_answers, later_answers}
+use Rattle.miette_brief.specs.rules.Report.{Answers, BriefSettings, brief, first_answers, later_answers, ReadAnswers}
 use Rattle.miette_brief.specs.rules.Report.{related_answers, related_commands, report_commands, text_in}
 use Rattle.miette_brief.proofs.Clean.{both_pass}
 use Rattle.miette_brief.proofs.Counting.{counted_behind}
@@ -358,7 +359,7 @@ mutual
   commands_counted chain inherited a (tree m own c r) =
       (let h = related_counted chain (effective own inherited) (related_answers a) r in omega (arith, h))
 
-  related_counted : (chain : Bool) (inherited : Option Source) (more : RelatedAnswers) (ts : Trees)
+  related_counted : (chain : Bool) (inherited : Option Source) (more : AnswerTrees ReadAnswers) (ts : Trees)
       → length (related_commands chain inherited more ts) ≡ all_diagnostics_in ts
   related_counted chain inherited more no_trees = refl
   related_counted chain inherited more (more_trees t ts) =

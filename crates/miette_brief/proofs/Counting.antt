@@ -12,6 +12,7 @@ use Rattle.miette_protocol.specs.views.Meaning.{Label}
 use Rattle.miette_fixes.specs.declared.error.FixError.{FixError}
 use Rattle.miette_fixes.specs.rules.Applying.{by_offset, put_edit, refusal}
 use Rattle.miette_fixes.specs.rules.Edits.{Proposal, Replacement, is_behind}
+use Rattle.miette_tree.specs.rules.Answers.{AnswerTrees}
 use Rattle.miette_tree.specs.rules.Tree.{Tree, tree, Cause, diagnostic, texts, causes_of, chain_of, Trees, no_trees}
 use Rattle.miette_tree.specs.rules.Tree.{more_trees, effective}
 use Rattle.miette_tree.specs.rules.DiagnosticParts.{given_labels}
@@ -22,7 +23,7 @@ use Rattle.miette_brief.specs.rules.Fixes.{FixedSource, no_source, unread, read,
 use Rattle.miette_brief.specs.rules.Fixes.{failed_rows, reason_text, applied_rows, rows_over, fix_rows, fixes_rows}
 use Rattle.miette_brief.specs.rules.Rows.{Place, ReportRow, row_text, rows_text}
 use Rattle.miette_brief.specs.rules.Places.{label_place, diagnostic_place}
-use Rattle.miette_brief.specs.rules.Report.{BriefSettings, Answers, RelatedAnswers, own_answer, cause_answers}
+use Rattle.miette_brief.specs.rules.Report.{BriefSettings, Answers, own_answer, cause_answers, ReadAnswers}
 use Rattle.miette_brief.specs.rules.Report.{related_answers, first_answers, later_answers, note_rows_of, note_rows}
 use Rattle.miette_brief.specs.rules.Report.{cause_row, cause_rows, caused_rows, cause_rows_if, help_rows, own_rows}
 use Rattle.miette_brief.specs.rules.Report.{report_rows, related_rows, brief, further_notes, labelled_rows, advice_rows}
@@ -192,7 +193,7 @@ mutual
       let whole = length-append (own_rows chain from a m c) (related_rows chain from (related_answers a) r) in
       omega (arith, tail, more, whole)
 
-  related_counted : (chain : Bool) (inherited : Option Source) (more : RelatedAnswers) (ts : Trees)
+  related_counted : (chain : Bool) (inherited : Option Source) (more : AnswerTrees ReadAnswers) (ts : Trees)
       → length (related_rows chain inherited more ts) ≡ all_parts chain inherited more ts
   related_counted chain inherited more no_trees = refl
   related_counted chain inherited more (more_trees t ts) =

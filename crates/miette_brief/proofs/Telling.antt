@@ -6,6 +6,7 @@ use Rattle.std.proofs.lemmas.List.{drop_all}
 use Rattle.miette_fixes.specs.rules.Edits.{Proposal}
 use Rattle.miette_protocol.specs.rules.Reading.{Source}
 use Rattle.miette_protocol.specs.views.Meaning.{Label}
+use Rattle.miette_tree.specs.rules.Answers.{AnswerTrees}
 use Rattle.miette_tree.specs.rules.Diagnosis.{Diagnosis, Section}
 use Rattle.miette_tree.specs.rules.Tree.{Tree, tree, Cause, diagnostic, texts, Trees, no_trees, more_trees, trees}
 use Rattle.miette_tree.specs.rules.Tree.{effective, head, source_of, cause_of, related_of}
@@ -17,7 +18,7 @@ use Rattle.miette_tree.proofs.Readings.{fault_free}
 use Rattle.miette_labels.specs.rules.Groups.{in_order}
 use Rattle.miette_brief.specs.rules.Rows.{Place, ReportRow, rows_text}
 use Rattle.miette_brief.specs.rules.Places.{diagnostic_place, cause_place, primary_spot, source_of_spot}
-use Rattle.miette_brief.specs.rules.Report.{BriefSettings, Answers, RelatedAnswers, unlisted, listed, no_more, and_more}
+use Rattle.miette_brief.specs.rules.Report.{BriefSettings, Answers, unlisted, listed, no_more, and_more}
 use Rattle.miette_brief.specs.rules.Report.{cause_answers, related_answers, first_answers, later_answers, finding_row}
 use Rattle.miette_brief.specs.rules.Report.{note_rows, cause_row, cause_rows, caused_rows, cause_rows_if, help_rows}
 use Rattle.miette_brief.specs.rules.Report.{rows_at, own_rows, report_rows, related_rows, brief, further_notes}
@@ -163,7 +164,8 @@ report_joined Github chain inherited a m s c rs =
     let from = effective s inherited in
     commands_joined (own_command chain from a m c ∷ []) (related_commands chain from (related_answers a) rs)
 
-related_joined : (f : Form) (chain : Bool) (inherited : Option Source) (more : RelatedAnswers) (t : Tree) (ts : Trees)
+related_joined : (f : Form) (chain : Bool) (inherited : Option Source) (more : AnswerTrees ReadAnswers) (t : Tree)
+    (ts : Trees)
     → related_text f chain inherited more (more_trees t ts) ≡ text_in f chain inherited (first_answers more) t
     ++ related_text f chain inherited (later_answers more) ts
 related_joined Gcc chain inherited more t ts =
@@ -173,13 +175,14 @@ related_joined Github chain inherited more t ts =
     commands_joined (report_commands chain inherited (first_answers more) t)
     (related_commands chain inherited (later_answers more) ts)
 
-none_related : (f : Form) (chain : Bool) (inherited : Option Source) (more : RelatedAnswers)
+none_related : (f : Form) (chain : Bool) (inherited : Option Source) (more : AnswerTrees ReadAnswers)
     → related_text f chain inherited more no_trees ≡ []
 none_related Gcc chain inherited more = refl
 none_related Github chain inherited more = refl
 
 -- of the answers for a report those for its own part are used there
-own_listed : (f : Form) (chain : Bool) (source : Option Source) (a : Answers) (more : RelatedAnswers) (m : Diagnosis)
+own_listed : (f : Form) (chain : Bool) (source : Option Source) (a : Answers) (more : AnswerTrees ReadAnswers)
+    (m : Diagnosis)
     (c : Cause) → own_text f chain source (listed (own_answer a) (cause_answers a) more) m c
     ≡ own_text f chain source a m c
 own_listed Gcc chain source a more m c = refl
@@ -330,7 +333,7 @@ mutual
         ap₂ (λ b cs. command chain from b m c ∷ cs) place more.1,
       )
 
-  same_related : (chain : Bool) (inherited : Option Source) (more : RelatedAnswers) (ts : Trees)
+  same_related : (chain : Bool) (inherited : Option Source) (more : AnswerTrees ReadAnswers) (ts : Trees)
       → AllAnswers inherited more ts → ToldAllRead inherited ts
       → (related_rows chain inherited more ts ≡ related_rows chain inherited no_more ts)
       × (related_commands chain inherited more ts ≡ related_commands chain inherited no_more ts)

@@ -196,7 +196,7 @@ mutual
       (and_from _ _ (one_kept source _ here k.0.0) (trees_kept source (brief.related_answers a) r here q.2 k.3))
       (sections_kept m.snippets q.3 k.0.1)
 
-  trees_kept : (inherited : Option Source) (more : brief.RelatedAnswers) (ts : Trees) → Reads inherited
+  trees_kept : (inherited : Option Source) (more : AnswerTrees brief.ReadAnswers) (ts : Trees) → Reads inherited
       → AllAlwaysRead ts → briefly.AllAnswers inherited more ts → holds_of_all accepts inherited ts ≡ true
   trees_kept inherited more no_trees p q k = refl
   trees_kept inherited more (more_trees t ts) p q k =

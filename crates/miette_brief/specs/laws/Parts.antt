@@ -9,11 +9,12 @@ use Rattle.miette_fixes.specs.rules.Applying.{refusal}
 use Rattle.miette_fixes.specs.rules.Edits.{Proposal}
 use Rattle.miette_protocol.specs.rules.Reading.{Source}
 use Rattle.miette_protocol.specs.views.Meaning.{Label}
+use Rattle.miette_tree.specs.rules.Answers.{AnswerTrees}
 use Rattle.miette_tree.specs.rules.Diagnosis.{Diagnosis, Section}
 use Rattle.miette_tree.specs.rules.Tree.{Tree, tree, causes_of, Trees, no_trees, more_trees, effective}
 use Rattle.miette_tree.specs.rules.DiagnosticParts.{given_labels}
 use Rattle.miette_brief.specs.rules.Fixes.{FixedSource, no_source, unread, read, fixed_source}
-use Rattle.miette_brief.specs.rules.Report.{Answers, RelatedAnswers, own_answer, related_answers, first_answers}
+use Rattle.miette_brief.specs.rules.Report.{Answers, own_answer, related_answers, first_answers, ReadAnswers}
 use Rattle.miette_brief.specs.rules.Report.{later_answers}
 use Rattle.miette_brief.specs.rules.PossibleAnswers.{AreAnswers}
 
@@ -60,7 +61,7 @@ abbrev mutual
       + (told_causes chain (causes_of c) + advice_parts (effective own inherited) (own_answer a).fixes m)))
       + all_parts chain (effective own inherited) (related_answers a) r
 
-  pub all_parts : Bool → Option Source → RelatedAnswers → Trees → ℕ
+  pub all_parts : Bool → Option Source → AnswerTrees ReadAnswers → Trees → ℕ
   all_parts chain inherited more no_trees = 0
   all_parts chain inherited more (more_trees t ts) =
       parts_below chain inherited (first_answers more) t + all_parts chain inherited (later_answers more) ts

@@ -3,12 +3,13 @@ use Rattle.std.specs.Prelude.{◌≡◌, ℕ, List, [], ◌∷◌, Option, Some,
 use Rattle.std.specs.Prelude.{⊤}
 use Rattle.miette_protocol.specs.views.Meaning.{Label}
 use Rattle.miette_protocol.specs.rules.Reading.{Source}
+use Rattle.miette_tree.specs.rules.Answers.{AnswerTrees}
 use Rattle.miette_tree.specs.rules.Diagnosis.{Section}
 use Rattle.miette_tree.specs.rules.Tree.{Tree, tree, Cause, diagnostic, texts, Trees, no_trees, more_trees, effective}
 use Rattle.miette_tree.specs.rules.DiagnosticParts.{given_labels}
 use Rattle.miette_tree.specs.rules.Reads.{MayMeet}
 use Rattle.miette_labels.specs.rules.Groups.{in_order, AreAccepted}
-use Rattle.miette_brief.specs.rules.Report.{BriefSettings, Answers, RelatedAnswers, own_answer, cause_answers}
+use Rattle.miette_brief.specs.rules.Report.{BriefSettings, Answers, own_answer, cause_answers, ReadAnswers}
 use Rattle.miette_brief.specs.rules.Report.{related_answers, first_answers, later_answers}
 use Rattle.miette_brief.specs.rules.Report.{brief}
 use Rattle.miette_brief.specs.rules.Places.{primary_spot, source_of_spot}
@@ -46,7 +47,7 @@ abbrev mutual
       × AllAnswers (effective own inherited) (related_answers a) r
       × MayMeet (effective own inherited) (own_answer a).fixes
 
-  pub AllAnswers : Option Source → RelatedAnswers → Trees → Type 0
+  pub AllAnswers : Option Source → AnswerTrees ReadAnswers → Trees → Type 0
   AllAnswers inherited more no_trees = ⊤
   AllAnswers inherited more (more_trees t ts) =
       AreAnswers inherited (first_answers more) t × AllAnswers inherited (later_answers more) ts

@@ -40,9 +40,6 @@ none_failed = record { place = false; fixes = false }
 abbrev pub Answers : Type 0
 Answers = AnswerTree ReadAnswers
 
-abbrev pub RelatedAnswers : Type 0
-RelatedAnswers = AnswerTrees ReadAnswers
-
 abbrev pub own_answer : Answers → ReadAnswers
 own_answer a = own_or none_failed a
 
@@ -123,7 +120,7 @@ abbrev mutual
       own_rows chain (effective own inherited) a m c
       ++ related_rows chain (effective own inherited) (related_answers a) r
 
-  pub related_rows : Bool → Option Source → RelatedAnswers → Trees → List ReportRow
+  pub related_rows : Bool → Option Source → AnswerTrees ReadAnswers → Trees → List ReportRow
   related_rows chain inherited more no_trees = []
   related_rows chain inherited more (more_trees t ts) =
       report_rows chain inherited (first_answers more) t ++ related_rows chain inherited (later_answers more) ts
@@ -140,7 +137,7 @@ abbrev mutual
       own_command chain (effective own inherited) a m c
       ∷ related_commands chain (effective own inherited) (related_answers a) r
 
-  pub related_commands : Bool → Option Source → RelatedAnswers → Trees → List Command
+  pub related_commands : Bool → Option Source → AnswerTrees ReadAnswers → Trees → List Command
   related_commands chain inherited more no_trees = []
   related_commands chain inherited more (more_trees t ts) =
       report_commands chain inherited (first_answers more) t ++ related_commands chain inherited (later_answers more) ts

@@ -1,6 +1,7 @@
 -- What is appended for the parts of a report, under some answers.
 use Rattle.std.specs.Prelude.{◌≡◌, ℕ, Bool, List, [], ◌∷◌, ◌++◌, Option}
 use Rattle.miette_fixes.specs.rules.Edits.{Proposal}
+use Rattle.miette_tree.specs.rules.Answers.{AnswerTrees}
 use Rattle.miette_tree.specs.rules.Diagnosis.{Diagnosis}
 use Rattle.miette_protocol.specs.rules.Reading.{Source}
 use Rattle.miette_tree.specs.rules.Tree.{Tree, Cause, Trees}
@@ -11,7 +12,7 @@ use Rattle.miette_brief.specs.rules.Rows.{Place, rows_text}
 use Rattle.miette_brief.specs.declared.form.Form.{Form}
 use Rattle.miette_brief.specs.declared.form.Form.TheVariants.{Gcc, Github}
 use Rattle.miette_brief.specs.rules.Commands.{commands_text}
-use Rattle.miette_brief.specs.rules.Report.{Answers, RelatedAnswers, BriefSettings, cause_answers, cause_rows_if}
+use Rattle.miette_brief.specs.rules.Report.{Answers, BriefSettings, cause_answers, cause_rows_if, ReadAnswers}
 use Rattle.miette_brief.specs.rules.Report.{finding_row, own_answer, own_rows, related_rows, labelled_rows, advice_rows}
 use Rattle.miette_brief.specs.rules.Report.{own_command, related_commands, text_in}
 use Rattle.miette_brief.specs.rules.Fixes.{fixed_source, fixes_rows}
@@ -51,7 +52,7 @@ own_text Gcc chain source a m c = rows_text (own_rows chain source a m c)
 own_text Github chain source a m c = commands_text (own_command chain source a m c ∷ [])
 
 -- related reports, in a form
-abbrev pub related_text : Form → Bool → Option Source → RelatedAnswers → Trees → List ℕ
+abbrev pub related_text : Form → Bool → Option Source → AnswerTrees ReadAnswers → Trees → List ℕ
 related_text Gcc chain inherited a ts = rows_text (related_rows chain inherited a ts)
 related_text Github chain inherited a ts = commands_text (related_commands chain inherited a ts)
 
@@ -74,6 +75,6 @@ pub record AppendsReport (s : BriefSettings) (inherited : Option Source) (t : Tr
 -- new is old and then related reports, for some answers
 pub record AppendsRelated (s : BriefSettings) (inherited : Option Source) (ts : Trees) (old new : List ℕ) : Type 0
   where
-    pub answers : RelatedAnswers
+    pub answers : AnswerTrees ReadAnswers
     pub possible : AllAnswers inherited answers ts
     pub appended : new ≡ old ++ related_text s.form s.chain inherited answers ts
