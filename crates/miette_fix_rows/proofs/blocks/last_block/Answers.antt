@@ -14,34 +14,23 @@ use Rattle.miette_fix_rows.proofs.blocks.last_block.Goals as goal
 pub start_of_line-start-requires : goal.start_of_line-start-requires
 start_of_line-start-requires c =
     let ls = c.args.edits.now in
-    omega (
-      arith,
-      c.offset.ensures,
-      ends_within (length c.args.source.now) ls (length ls - 1)
-          c.index-edits-edits.result c.requires.fit (omega (arith, c.requires.some)) c.index-edits-edits.is,
-    )
+    let within = ends_within (length c.args.source.now) ls (length ls - 1) c.index-edits-edits.result c.requires.fit
+    (omega (arith, c.requires.some)) c.index-edits-edits.is in
+    omega (arith, c.offset.ensures, within)
 
 pub overflow_add-offset : goal.overflow_add-offset
 overflow_add-offset c =
     let ls = c.args.edits.now in
-    omega (
-      arith,
-      c.offset-2.ensures,
-      c.len.ensures,
-      ends_within (length c.args.source.now) ls (length ls - 1)
-          c.index-edits-edits.result c.requires.fit (omega (arith, c.requires.some)) c.index-edits-edits.is,
-    )
+    let within = ends_within (length c.args.source.now) ls (length ls - 1) c.index-edits-edits.result c.requires.fit
+    (omega (arith, c.requires.some)) c.index-edits-edits.is in
+    omega (arith, c.offset-2.ensures, c.len.ensures, within)
 
 pub end_of_line-to-requires : goal.end_of_line-to-requires
 end_of_line-to-requires c =
     let ls = c.args.edits.now in
-    omega (
-      arith,
-      c.offset-2.ensures,
-      c.len.ensures,
-      ends_within (length c.args.source.now) ls (length ls - 1)
-          c.index-edits-edits.result c.requires.fit (omega (arith, c.requires.some)) c.index-edits-edits.is,
-    )
+    let within = ends_within (length c.args.source.now) ls (length ls - 1) c.index-edits-edits.result c.requires.fit
+    (omega (arith, c.requires.some)) c.index-edits-edits.is in
+    omega (arith, c.offset-2.ensures, c.len.ensures, within)
 
 pub loop-low-init : goal.loop-low-init
 loop-low-init c =
