@@ -1,12 +1,14 @@
 -- How many lines two lists have in common, by places.
 use Rattle.std.proofs.Common.{ℕ, zero, suc, ◌+◌, ◌-◌, ◌<◌, ◌≤◌, ◌≡◌, Bool, true, false, cond, List, [], ◌∷◌, length}
 use Rattle.std.proofs.Common.{drop}
-use Rattle.std.proofs.Common.{get_or, min, reverse, refl, ap, ap₂, ◌∙◌, add-one, inl, inr, arith}
+use Rattle.std.proofs.Common.{get_or, min, reverse, refl, sym, ap, ap₂, ◌∙◌, add-one, inl, inr, arith}
 use Rattle.std.specs.Str.{bytes_eq}
 use Rattle.std.proofs.lemmas.Bool.{cases_lt}
 use Rattle.std.proofs.lemmas.List.{drop_all, get_or-reverse, length-map, length-reverse}
 use Rattle.miette_fix_rows.specs.rules.Hunks.{common}
-use Rattle.miette_fix_rows.specs.views.LineLists.{texts_of}
+use Rattle.miette_fix_rows.specs.views.LineLists.{met_from, texts_of}
+use Rattle.miette_fix_rows.specs.declared.line_lists.Side.{Side}
+use Rattle.miette_fix_rows.specs.declared.line_lists.Side.TheVariants.{Front, Back}
 use denote.Ref.{Bor}
 
 within_step : (x : Bool) (m n : ℕ) → m ≤ n → cond x (suc m) 0 ≤ suc n
@@ -57,7 +59,7 @@ common_within_other (l ∷ ls) (m ∷ ms) =
 abbrev none : Bor (List ℕ)
 none = record { ref_ptr = (0, 0); now = [] }
 
-text_at : (ls : List (Bor (List ℕ))) (i : ℕ) → get_or (texts_of ls) i [] ≡ (get_or ls i none).now
+pub text_at : (ls : List (Bor (List ℕ))) (i : ℕ) → get_or (texts_of ls) i [] ≡ (get_or ls i none).now
 text_at [] zero = refl
 text_at [] (suc i) = refl
 text_at (l ∷ ls) zero = refl
@@ -87,65 +89,42 @@ stands_stop : (i n : ℕ) (ls ms : List (List ℕ)) → i < min (length ls) (len
 stands_stop i n ls ms lt e h =
     omega (arith, h, common_stops i ls ms (omega (arith, lt)) (omega (arith, lt)) e)
 
-pub front_ends : (i : ℕ) (ls ms : List (Bor (List ℕ))) → i ≡ min (length ls) (length ms)
-    → Stands (texts_of ls) (texts_of ms) i (common (texts_of ls) (texts_of ms))
-    → i ≡ common (texts_of ls) (texts_of ms)
-front_ends i ls ms e h =
-    stands_end i (common (texts_of ls) (texts_of ms)) (texts_of ls) (texts_of ms)
-    (omega (arith, e, length-map ls (λ l. l.now), length-map ms (λ l. l.now))) h
+-- ---- met from a side
 
-pub front_goes_on : (i : ℕ) (ls ms : List (Bor (List ℕ))) → i < min (length ls) (length ms)
-    → bytes_eq (get_or ls i none).now (get_or ms i none).now ≡ true
-    → Stands (texts_of ls) (texts_of ms) i (common (texts_of ls) (texts_of ms))
-    → Stands (texts_of ls) (texts_of ms) (i + 1) (common (texts_of ls) (texts_of ms))
-front_goes_on i ls ms lt e h =
-    stands_more i (common (texts_of ls) (texts_of ms)) (texts_of ls) (texts_of ms)
-    (omega (arith, lt, length-map ls (λ l. l.now), length-map ms (λ l. l.now)))
-    (ap₂ bytes_eq (text_at ls i) (text_at ms i) ∙ e) h
+abbrev met : Side → List (Bor (List ℕ)) → List (List ℕ)
+met side ls = met_from side (texts_of ls)
 
-pub front_stops : (i : ℕ) (ls ms : List (Bor (List ℕ))) → i < min (length ls) (length ms)
-    → bytes_eq (get_or ls i none).now (get_or ms i none).now ≡ false
-    → Stands (texts_of ls) (texts_of ms) i (common (texts_of ls) (texts_of ms))
-    → i ≡ common (texts_of ls) (texts_of ms)
-front_stops i ls ms lt e h =
-    stands_stop i (common (texts_of ls) (texts_of ms)) (texts_of ls) (texts_of ms)
-    (omega (arith, lt, length-map ls (λ l. l.now), length-map ms (λ l. l.now)))
-    (ap₂ bytes_eq (text_at ls i) (text_at ms i) ∙ e) h
+met_length : (side : Side) (ls : List (Bor (List ℕ))) → length (met side ls) ≡ length ls
+met_length Front ls = length-map ls (λ l. l.now)
+met_length Back ls = length-reverse (texts_of ls) ∙ length-map ls (λ l. l.now)
 
--- the same from the ends
-
-abbrev back : List (Bor (List ℕ)) → List (List ℕ)
-back ls = reverse (texts_of ls)
-
-back_length : (ls : List (Bor (List ℕ))) → length (back ls) ≡ length ls
-back_length ls = length-reverse (texts_of ls) ∙ length-map ls (λ l. l.now)
-
-back_at : (ls : List (Bor (List ℕ))) (i : ℕ) → i < length ls
-    → get_or (back ls) i [] ≡ (get_or ls (length ls - 1 - i) none).now
+pub back_at : (ls : List (Bor (List ℕ))) (i : ℕ) → i < length ls
+    → get_or (reverse (texts_of ls)) i [] ≡ (get_or ls (length ls - 1 - i) none).now
 back_at ls i lt =
     let n : length (texts_of ls) ≡ length ls = length-map ls (λ l. l.now) in
     get_or-reverse (texts_of ls) i [] (omega (arith, lt, n))
     ∙ ap (λ m. get_or (texts_of ls) (m - 1 - i) []) n ∙ text_at ls (length ls - 1 - i)
 
-pub back_ends : (i : ℕ) (ls ms : List (Bor (List ℕ))) → i ≡ min (length ls) (length ms)
-    → Stands (back ls) (back ms) i (common (back ls) (back ms)) → i ≡ common (back ls) (back ms)
-back_ends i ls ms e h =
-    stands_end i (common (back ls) (back ms)) (back ls) (back ms)
-    (omega (arith, e, back_length ls, back_length ms)) h
+-- a place at which a sweep from a side stands
+abbrev StandsFrom : Side → List (Bor (List ℕ)) → List (Bor (List ℕ)) → ℕ → Type 0
+StandsFrom side ls ms i = Stands (met side ls) (met side ms) i (common (met side ls) (met side ms))
 
-pub back_goes_on : (i : ℕ) (ls ms : List (Bor (List ℕ))) → i < min (length ls) (length ms)
-    → bytes_eq (get_or ls (length ls - 1 - i) none).now (get_or ms (length ms - 1 - i) none).now ≡ true
-    → Stands (back ls) (back ms) i (common (back ls) (back ms))
-    → Stands (back ls) (back ms) (i + 1) (common (back ls) (back ms))
-back_goes_on i ls ms lt e h =
-    stands_more i (common (back ls) (back ms)) (back ls) (back ms)
-    (omega (arith, lt, back_length ls, back_length ms))
-    (ap₂ bytes_eq (back_at ls i (omega (arith, lt))) (back_at ms i (omega (arith, lt))) ∙ e) h
+pub side_ends : (side : Side) (i : ℕ) (ls ms : List (Bor (List ℕ))) → i ≡ min (length ls) (length ms)
+    → StandsFrom side ls ms i → i ≡ common (met side ls) (met side ms)
+side_ends side i ls ms e h =
+    stands_end i (common (met side ls) (met side ms)) (met side ls) (met side ms)
+    (omega (arith, e, met_length side ls, met_length side ms)) h
 
-pub back_stops : (i : ℕ) (ls ms : List (Bor (List ℕ))) → i < min (length ls) (length ms)
-    → bytes_eq (get_or ls (length ls - 1 - i) none).now (get_or ms (length ms - 1 - i) none).now ≡ false
-    → Stands (back ls) (back ms) i (common (back ls) (back ms)) → i ≡ common (back ls) (back ms)
-back_stops i ls ms lt e h =
-    stands_stop i (common (back ls) (back ms)) (back ls) (back ms)
-    (omega (arith, lt, back_length ls, back_length ms))
-    (ap₂ bytes_eq (back_at ls i (omega (arith, lt))) (back_at ms i (omega (arith, lt))) ∙ e) h
+pub side_goes_on : (side : Side) (i : ℕ) (ls ms : List (Bor (List ℕ))) (line other : List ℕ)
+    → i < min (length ls) (length ms) → line ≡ get_or (met side ls) i [] → other ≡ get_or (met side ms) i []
+    → bytes_eq line other ≡ true → StandsFrom side ls ms i → StandsFrom side ls ms (i + 1)
+side_goes_on side i ls ms line other lt is at e h =
+    stands_more i (common (met side ls) (met side ms)) (met side ls) (met side ms)
+    (omega (arith, lt, met_length side ls, met_length side ms)) (ap₂ bytes_eq (sym is) (sym at) ∙ e) h
+
+pub side_stops : (side : Side) (i : ℕ) (ls ms : List (Bor (List ℕ))) (line other : List ℕ)
+    → i < min (length ls) (length ms) → line ≡ get_or (met side ls) i [] → other ≡ get_or (met side ms) i []
+    → bytes_eq line other ≡ false → StandsFrom side ls ms i → i ≡ common (met side ls) (met side ms)
+side_stops side i ls ms line other lt is at e h =
+    stands_stop i (common (met side ls) (met side ms)) (met side ls) (met side ms)
+    (omega (arith, lt, met_length side ls, met_length side ms)) (ap₂ bytes_eq (sym is) (sym at) ∙ e) h

@@ -13,7 +13,7 @@ ghost use Rattle.miette_fix_rows.specs.steps.Sharing.{IsBlock};
 ghost use Rattle.miette_fix_rows.specs.views.LineLists.{texts_of};
 
 use crate::blocks::{block_start, last_block};
-use crate::line_lists::{common, common_behind, lines, total};
+use crate::line_lists::{Side, common, lines, total};
 use miette_fixes::apply::{checked, spliced};
 use miette_fixes::fix::{Edit, Fix, FixError};
 use std::alloc::{AllocError, Global};
@@ -109,10 +109,10 @@ fn sizes_of(olds: &[&[u8]], news: &[&[u8]]) -> Sizes
     requires new { bytes_of (texts_of news.now) < 2 ^ 64 }
     ensures { AreSizes (texts_of olds.now) (texts_of news.now) result }
 {
-    let behind = common_behind(olds, news);
+    let behind = common(Side::Back, olds, news);
     let old_kept = &olds[..olds.len() - behind];
     let new_kept = &news[..news.len() - behind];
-    let before = common(old_kept, new_kept);
+    let before = common(Side::Front, old_kept, new_kept);
     Sizes {
         removed_from: total(&olds[..before]),
         removed_to: total(old_kept),

@@ -1,10 +1,10 @@
 //! Lines in lists.
 
-ghost use Rattle.std.specs.Prelude.{◌≡◌, ◌<◌, ◌≤◌, ◌^◌, length, IfOk};
+ghost use Rattle.std.specs.Prelude.{◌≡◌, ◌<◌, ◌≤◌, ◌^◌, [], get_or, length, IfOk};
 ghost use Rattle.std.specs.Str.{bytes_eq};
 ghost use Rattle.miette_fix_rows.specs.rules.Blocks.{bytes_of, line_texts};
-ghost use Rattle.miette_fix_rows.specs.rules.Hunks.{common, common_behind};
-ghost use Rattle.miette_fix_rows.specs.views.LineLists.{texts_of};
+ghost use Rattle.miette_fix_rows.specs.rules.Hunks.{common};
+ghost use Rattle.miette_fix_rows.specs.views.LineLists.{met_from, texts_of};
 
 use miette_source_lines::lines::first_line;
 use std::alloc::{AllocError, Global};
@@ -32,30 +32,35 @@ fn are_same(line: &[u8], other: &[u8]) -> bool
     line == other
 }
 
-/// How many lines two lists have in common at their fronts.
-pub(crate) fn common(lines: &[&[u8]], others: &[&[u8]]) -> usize
-    ensures common { result ≡ common (texts_of lines.now) (texts_of others.now) }
-    ensures within { result ≤ length lines.now }
-    ensures other { result ≤ length others.now }
-{
-    let most = lines.len().min(others.len());
-    for i in 0..most {
-        if !are_same(lines[i], others[i]) {
-            return i;
-        }
-    }
-    most
+/// From which side of a list its lines are met.
+#[derive(Clone, Copy)]
+pub(crate) enum Side {
+    Front,
+    Back,
 }
 
-/// How many lines two lists have in common at their ends.
-pub(crate) fn common_behind(lines: &[&[u8]], others: &[&[u8]]) -> usize
-    ensures common { result ≡ common_behind (texts_of lines.now) (texts_of others.now) }
+// The line of a list that is met behind so many others.
+fn line_from<'a>(side: Side, lines: &[&'a [u8]], i: usize) -> &'a [u8]
+    requires { i < length lines.now }
+    ensures { result.now ≡ get_or (met_from side (texts_of lines.now)) i [] }
+{
+    match side {
+        Side::Front => lines[i],
+        Side::Back => lines[lines.len() - 1 - i],
+    }
+}
+
+/// How many lines two lists have in common from a side on.
+pub(crate) fn common(side: Side, lines: &[&[u8]], others: &[&[u8]]) -> usize
+    ensures common { result ≡ common (met_from side (texts_of lines.now)) (met_from side (texts_of others.now)) }
     ensures within { result ≤ length lines.now }
     ensures other { result ≤ length others.now }
 {
     let most = lines.len().min(others.len());
     for i in 0..most {
-        if !are_same(lines[lines.len() - 1 - i], others[others.len() - 1 - i]) {
+        let line = line_from(side, lines, i);
+        let other = line_from(side, others, i);
+        if !are_same(line, other) {
             return i;
         }
     }
