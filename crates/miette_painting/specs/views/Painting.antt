@@ -1,11 +1,9 @@
 -- What a painter prints, and what of it stays.
-use Rattle.std.specs.Prelude.{◌≡◌, ℕ, Bool, List, Option, option_map}
-use Rattle.miette_protocol.specs.rules.Reading.{Source}
+use Rattle.std.specs.Prelude.{◌≡◌, ℕ, Bool, List}
 use Rattle.miette_highlight.specs.rules.HighlighterCalls.{Call, Leads}
 use Rattle.miette_snippet_rules.specs.rules.Highlighting.{follows, leaves_plain}
 use Rattle.miette_tree.specs.views.Handler.{AppendsOne}
-use Rattle.miette_tree.specs.views.Owned.{shown_source}
-use Rattle.miette_tree.specs.declared.owned.SourceRef.{SourceRef}
+pub use Rattle.miette_tree.specs.views.Owned.{source_shown}
 use Rattle.miette_picture_rules.specs.rules.Settings.{Settings}
 use Rattle.miette_picture_rules.specs.views.SettingsView.{handler_settings}
 use Rattle.miette_painting.specs.declared.painter.Painter.{Painter}
@@ -15,10 +13,6 @@ use Rattle.miette_style.specs.rules.Themes.{theme_of}
 -- the handler's settings, with the painter's width
 abbrev pub settings_of : {H : Type 0} → Painter H → Settings
 settings_of painter = record (handler_settings painter.settings.now) { width = painter.width }
-
--- the source that a report is printed over, where there is one
-abbrev pub source_shown : {S : Type 0} → (S → Source) → Option (SourceRef S) → Option Source
-source_shown is = option_map (shown_source is)
 
 -- the same with a theme and a layout of their own
 abbrev pub settings_with : Settings → Look → Settings

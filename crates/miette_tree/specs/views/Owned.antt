@@ -1,5 +1,5 @@
 -- What an owned source means, and what the place means where a report keeps its source.
-use Rattle.std.specs.Prelude.{ℕ, List}
+use Rattle.std.specs.Prelude.{ℕ, List, Option, option_map}
 use Rattle.miette_protocol.specs.rules.Reading.{Source, plain_source, named_source}
 use Rattle.miette_protocol.specs.views.Named.{inner_of, name_of, given_language}
 use Rattle.miette_tree.specs.declared.owned.Bytes.{Bytes}
@@ -32,3 +32,7 @@ kept_source is (kept.Owned it) = owned_source it
 -- the source that a reference to such a place shows
 abbrev pub shown_source : {S : Type 0} → (S → Source) → SourceRef S → Source
 shown_source is it = kept_source is it.place.now
+
+-- the same where there may be none
+abbrev pub source_shown : {S : Type 0} → (S → Source) → Option (SourceRef S) → Option Source
+source_shown is = option_map (shown_source is)
