@@ -1,8 +1,8 @@
 //! Labels in the order of their offsets.
 
-ghost use Rattle.std.specs.Prelude.{◌≡◌, ◌<◌, map, length, IfOk};
+ghost use Rattle.std.specs.Prelude.{◌≡◌, ◌<◌, length, IfOk};
 ghost use Rattle.std.specs.List.{All};
-ghost use Rattle.miette_labels.specs.views.GivenLabels.{label_at};
+ghost use Rattle.miette_labels.specs.views.GivenLabels.{label_at, turned};
 ghost use Rattle.miette_labels.specs.rules.Groups.{in_order};
 
 use miette_protocol::protocol::LabeledSpan;
@@ -19,7 +19,7 @@ pub struct Turn {
 
 // The labels in the order as given.
 fn turns(alloc: Global, labels: &[LabeledSpan]) -> Result<Vec<Turn>, AllocError>
-    ensures labels { IfOk result (λ v. map (λ turn. label_at labels.now turn.index) v.items ≡ labels.now) }
+    ensures labels { IfOk result (λ v. turned labels.now v.items ≡ labels.now) }
     ensures offsets { IfOk result (λ v. All (λ turn. turn.offset ≡ (label_at labels.now turn.index).span.offset)
         v.items) }
     ensures inside { IfOk result (λ v. All (λ turn. turn.index < length labels.now) v.items) }
@@ -34,7 +34,7 @@ fn turns(alloc: Global, labels: &[LabeledSpan]) -> Result<Vec<Turn>, AllocError>
 
 /// The labels by offset, ties as given: the number of each in the list as given. `AllocError` where memory is refused.
 pub fn by_offset(alloc: Global, labels: &[LabeledSpan]) -> Result<Vec<Turn>, AllocError>
-    ensures order { IfOk result (λ v. map (λ turn. label_at labels.now turn.index) v.items ≡ in_order labels.now) }
+    ensures order { IfOk result (λ v. turned labels.now v.items ≡ in_order labels.now) }
     ensures inside { IfOk result (λ v. All (λ turn. turn.index < length labels.now) v.items) }
 {
     let mut turns = turns(alloc, labels)?;

@@ -1,7 +1,8 @@
 -- Labels as a program gives them.
-use Rattle.std.specs.Prelude.{ℕ, false, List, Option, None, slice_get, unwrap_or}
+use Rattle.std.specs.Prelude.{ℕ, false, List, Option, None, map, slice_get, unwrap_or}
 use Rattle.std.specs.Option.{option_copied, option_map_or}
 use Rattle.miette_protocol.specs.views.Meaning.{Label}
+use Rattle.miette_labels.specs.declared.order.Turn.{Turn}
 use Rattle.miette_labels.specs.declared.sweep.PlacedLabel.{PlacedLabel}
 use Rattle.miette_labels.specs.rules.Labels.{DrawnLabel, parts_of}
 
@@ -23,3 +24,7 @@ drawn_of p = record {
 abbrev pub label_at : List Label → ℕ → Label
 label_at labels i = unwrap_or (slice_get labels i)
     (record { text = None; span = record { offset = 0; len = 0 }; primary = false; context = None })
+
+-- the labels that turns name, in their order
+abbrev pub turned : List Label → List Turn → List Label
+turned labels turns = map (λ turn. label_at labels turn.index) turns
