@@ -1,12 +1,9 @@
 -- Labels in the order in which they are told.
-use Rattle.std.proofs.Common.{◌≡◌, ◌∙◌, List, ap, map}
+use Rattle.std.proofs.Common.{◌≡◌, ◌∙◌, List, ap}
 use Rattle.miette_protocol.specs.views.Meaning.{Label}
 use Rattle.miette_labels.specs.rules.Groups.{in_order}
-use Rattle.miette_labels.specs.views.GivenLabels.{label_at}
+use Rattle.miette_labels.specs.views.GivenLabels.{turned}
 use Rattle.miette_labels.specs.declared.order.Turn.{Turn}
-
-abbrev turned : List Label → List Turn → List Label
-turned labels order = map (λ turn. label_at labels turn.index) order
 
 -- the same turns as a slice
 pub order_kept : (labels : List Label) (slice turns : List Turn) → slice ≡ turns → turned labels turns ≡ in_order labels

@@ -3,10 +3,9 @@
 ghost use Rattle.std.specs.Prelude.{◌≡◌, ◌++◌, ◌∷◌, ◌≤◌, [], false, length, map, IfOk, OnOk, string_bytes};
 ghost use Rattle.std.specs.Prelude.{option_copied};
 ghost use Rattle.std.specs.List.{list_any};
-ghost use Rattle.std.specs.Option.{option_map};
 ghost use Rattle.miette_fixes.specs.rules.Edits.{ends_behind};
 ghost use Rattle.miette_fixes.specs.views.Ordered.{edits_of};
-ghost use Rattle.miette_tree.specs.views.Owned.{shown_source};
+ghost use Rattle.miette_tree.specs.views.Owned.{source_shown};
 ghost use Rattle.miette_brief.specs.rules.Fixes.{position_of as position_in, byte_of as byte_in, edit_row, fix_row};
 ghost use Rattle.miette_brief.specs.rules.Fixes.{failed_rows, rows_in, applied_rows, fix_rows, fixes_rows, read};
 ghost use Rattle.miette_brief.specs.rules.Rows.{rows_text};
@@ -217,7 +216,7 @@ pub(crate) fn push_fixes<S: SourceCode>(
     source: Option<SourceRef<'_, S>>,
     out: &mut String,
 ) -> Result<(), AllocError>
-    ensures { OnOk result (AppendsFixes (place_of at.entry) (option_map (shown_source S.source) source.entry)
+    ensures { OnOk result (AppendsFixes (place_of at.entry) (source_shown S.source source.entry)
         fixes.now (string_bytes out.old) (string_bytes out.new)) }
 {
     if fixes.is_empty() {

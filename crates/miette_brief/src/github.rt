@@ -2,9 +2,8 @@
 
 ghost use Rattle.std.specs.Prelude.{◌≡◌, ◌++◌, ◌∷◌, ◌<◌, [], false, codes, OnOk, IfOk, string_bytes, map, length};
 ghost use Rattle.std.specs.Prelude.{◌+◌, Some, drop, option_copied, slice_range, take, IfSome};
-ghost use Rattle.std.specs.Option.{option_map};
 ghost use Rattle.miette_tree.specs.views.Report.{tree_of};
-ghost use Rattle.miette_tree.specs.views.Owned.{shown_source};
+ghost use Rattle.miette_tree.specs.views.Owned.{source_shown};
 ghost use Rattle.miette_tree.specs.rules.Tree.{head, cause_of, causes_of};
 ghost use Rattle.miette_brief.specs.declared.form.Form.TheVariants.{Github};
 ghost use Rattle.miette_brief.specs.rules.Commands.{escaped, sayings_text};
@@ -211,13 +210,12 @@ pub(crate) fn push_command<'a, D: Diagnostic, S: SourceCode>(
     whole: &Whole<'a>,
     out: &mut String,
 ) -> Result<(), RenderError>
-    requires { IsWhole (option_map (shown_source S.source) source) whole.now }
+    requires { IsWhole (source_shown S.source source) whole.now }
     ensures text { OnOk result (AppendsOwn (record { chain = chain; form = Github })
-        (option_map (shown_source S.source) source.entry) (head (tree_of D.meaning S.source report.now))
+        (source_shown S.source source.entry) (head (tree_of D.meaning S.source report.now))
         (cause_of (tree_of D.meaning S.source report.now)) (string_bytes out.old) (string_bytes out.new)) }
     ensures refused { (result ≡ Err RenderError.Refused) →
-        labels_accepted (option_map (shown_source S.source) source.entry)
-        (head (tree_of D.meaning S.source report.now)) ≡ false }
+        labels_accepted (source_shown S.source source.entry) (head (tree_of D.meaning S.source report.now)) ≡ false }
 {
     let marks = marks_of(*out.allocator(), report, source)?;
     let first = primary_at(&marks);

@@ -1,9 +1,8 @@
 //! The handler of brief reports.
 
 ghost use Rattle.std.specs.Prelude.{◌≡◌, ◌++◌, true, false, map, IfOk, OnOk, OnErr, string_bytes};
-ghost use Rattle.std.specs.Option.{option_map};
 ghost use Rattle.miette_tree.specs.rules.Tree.{cause_of, head, source_of, trees};
-ghost use Rattle.miette_tree.specs.views.Owned.{shown_source};
+ghost use Rattle.miette_tree.specs.views.Owned.{source_shown};
 ghost use Rattle.miette_tree.specs.views.Report.{tree_of};
 ghost use Rattle.miette_tree.specs.views.Handler.{AppendsOne};
 ghost use Rattle.miette_tree.specs.rules.Reads.{AlwaysReads, accepts, holds_of, holds_of_all};
@@ -160,12 +159,11 @@ impl BriefReportHandler {
         whole: &Whole<'a>,
         out: &mut String,
     ) -> Result<(), RenderError>
-        requires { IsWholeIn self.now.form (option_map (shown_source S.source) source) whole.now }
-        ensures text { OnOk result (AppendsOwn self.now (option_map (shown_source S.source) source.entry)
+        requires { IsWholeIn self.now.form (source_shown S.source source) whole.now }
+        ensures text { OnOk result (AppendsOwn self.now (source_shown S.source source.entry)
             (head (tree_of D.meaning S.source report.now)) (cause_of (tree_of D.meaning S.source report.now))
             (string_bytes out.old) (string_bytes out.new)) }
-        ensures refused { (result ≡ Err RenderError.Refused) →
-            labels_accepted (option_map (shown_source S.source) source.entry)
+        ensures refused { (result ≡ Err RenderError.Refused) → labels_accepted (source_shown S.source source.entry)
             (head (tree_of D.meaning S.source report.now)) ≡ false }
     {
         let chain = self.tells_causes();
@@ -199,12 +197,11 @@ impl BriefReportHandler {
         whole: &Whole<'a>,
         out: &mut String,
     ) -> Result<(), RenderError>
-        requires { IsWholeIn self.now.form (option_map (shown_source S.source) inherited) whole.now }
-        ensures text { OnOk result (AppendsReport self.now (option_map (shown_source S.source) inherited.entry)
+        requires { IsWholeIn self.now.form (source_shown S.source inherited) whole.now }
+        ensures text { OnOk result (AppendsReport self.now (source_shown S.source inherited.entry)
             (tree_of D.meaning S.source report.now) (string_bytes out.old) (string_bytes out.new)) }
         ensures refused { (result ≡ Err RenderError.Refused) →
-            holds_of accepts (option_map (shown_source S.source) inherited.entry)
-            (tree_of D.meaning S.source report.now) ≡ false }
+            holds_of accepts (source_shown S.source inherited.entry) (tree_of D.meaning S.source report.now) ≡ false }
     {
         let source = own_or(report, inherited);
         let own = self.own_whole(*out.allocator(), report)?;
@@ -222,11 +219,10 @@ impl BriefReportHandler {
         whole: &Whole<'a>,
         out: &mut String,
     ) -> Result<(), RenderError>
-        requires { IsWholeIn self.now.form (option_map (shown_source S.source) source) whole.now }
-        ensures text { OnOk result (AppendsRelated self.now (option_map (shown_source S.source) source.entry)
+        requires { IsWholeIn self.now.form (source_shown S.source source) whole.now }
+        ensures text { OnOk result (AppendsRelated self.now (source_shown S.source source.entry)
             (trees (map (tree_of D.meaning S.source) reports.now)) (string_bytes out.old) (string_bytes out.new)) }
-        ensures refused { (result ≡ Err RenderError.Refused) →
-            holds_of_all accepts (option_map (shown_source S.source) source.entry)
+        ensures refused { (result ≡ Err RenderError.Refused) → holds_of_all accepts (source_shown S.source source.entry)
             (trees (map (tree_of D.meaning S.source) reports.now)) ≡ false }
     {
         for report in reports {

@@ -2,15 +2,14 @@
 
 ghost use Rattle.std.specs.Prelude.{◌≡◌, ◌<◌, ◌∷◌, ◌++◌, [], false, OnOk, IfOk, map, length, position, Some};
 ghost use Rattle.std.specs.List.{All};
-ghost use Rattle.std.specs.Option.{option_map};
 ghost use Rattle.miette_tree.specs.views.Attached.{section_of};
-ghost use Rattle.miette_tree.specs.views.Owned.{shown_source};
+ghost use Rattle.miette_tree.specs.views.Owned.{source_shown};
 ghost use Rattle.miette_tree.specs.views.Report.{tree_of};
 ghost use Rattle.miette_tree.specs.rules.Tree.{head};
 ghost use Rattle.miette_tree.specs.rules.DiagnosticParts.{given_labels};
 ghost use Rattle.miette_tree.specs.rules.Reads.{accepts, holds_further};
 ghost use Rattle.miette_labels.specs.rules.Groups.{in_order};
-ghost use Rattle.miette_labels.specs.views.GivenLabels.{label_at};
+ghost use Rattle.miette_labels.specs.views.GivenLabels.{turned};
 ghost use Rattle.miette_brief.specs.rules.Marks.{further_marks, is_marked, is_placed, mark_over, marks};
 ghost use Rattle.miette_brief.specs.rules.Marks.{is_wanted, primary_at as primary_index};
 ghost use Rattle.miette_brief.specs.rules.PossibleAnswers.{HasAccepted, FurtherAccepted};
@@ -56,13 +55,10 @@ fn push_marks<'a, S: SourceCode>(
 ) -> Result<(), RenderError>
     requires inside { All (λ turn. turn.index < length labels.now) order.now }
     ensures marks { OnOk result (map (mark_of S.source) marks.new.items ≡ map (mark_of S.source) marks.old.items
-        ++ map (mark_over (option_map (shown_source S.source) source.entry))
-        (map (λ turn. label_at labels.now turn.index) order.now)) }
-    ensures accepted { OnOk result (HasAccepted (option_map (shown_source S.source) source.entry)
-        (map (λ turn. label_at labels.now turn.index) order.now)) }
+        ++ map (mark_over (source_shown S.source source.entry)) (turned labels.now order.now)) }
+    ensures accepted { OnOk result (HasAccepted (source_shown S.source source.entry) (turned labels.now order.now)) }
     ensures refused { (result ≡ Err RenderError.Refused) →
-        accepts (option_map (shown_source S.source) source.entry)
-        (map (λ turn. label_at labels.now turn.index) order.now) ≡ false }
+        accepts (source_shown S.source source.entry) (turned labels.now order.now) ≡ false }
 {
     let mut known = START;
     for turn in order {
@@ -80,11 +76,10 @@ fn push_sorted_marks<'a, S: SourceCode>(
     marks: &mut Vec<Mark<'a, S>>,
 ) -> Result<(), RenderError>
     ensures marks { OnOk result (map (mark_of S.source) marks.new.items ≡ map (mark_of S.source) marks.old.items
-        ++ map (mark_over (option_map (shown_source S.source) source.entry)) (in_order labels.now)) }
-    ensures accepted { OnOk result (HasAccepted (option_map (shown_source S.source) source.entry)
-        (in_order labels.now)) }
+        ++ map (mark_over (source_shown S.source source.entry)) (in_order labels.now)) }
+    ensures accepted { OnOk result (HasAccepted (source_shown S.source source.entry) (in_order labels.now)) }
     ensures refused { (result ≡ Err RenderError.Refused) →
-        accepts (option_map (shown_source S.source) source.entry) (in_order labels.now) ≡ false }
+        accepts (source_shown S.source source.entry) (in_order labels.now) ≡ false }
 {
     let order = by_offset(*marks.allocator(), labels)?;
     push_marks(source, labels, &order, marks)
@@ -115,14 +110,12 @@ pub(crate) fn marks_of<'a, D: Diagnostic, S: SourceCode>(
     source: Option<SourceRef<'a, S>>,
 ) -> Result<Vec<Mark<'a, S>>, RenderError>
     ensures marks { IfOk result (λ its. map (mark_of S.source) its.items
-        ≡ marks (option_map (shown_source S.source) source.entry) (head (tree_of D.meaning S.source report.now))) }
-    ensures accepted { OnOk result (
-        HasAccepted (option_map (shown_source S.source) source.entry)
+        ≡ marks (source_shown S.source source.entry) (head (tree_of D.meaning S.source report.now))) }
+    ensures accepted { OnOk result (HasAccepted (source_shown S.source source.entry)
         (in_order (given_labels (head (tree_of D.meaning S.source report.now)).labels))
         × FurtherAccepted (head (tree_of D.meaning S.source report.now)).snippets) }
     ensures refused { (result ≡ Err RenderError.Refused) →
-        labels_accepted (option_map (shown_source S.source) source.entry)
-        (head (tree_of D.meaning S.source report.now)) ≡ false }
+        labels_accepted (source_shown S.source source.entry) (head (tree_of D.meaning S.source report.now)) ≡ false }
 {
     let mut marks = Vec::new(alloc);
     push_sorted_marks(source, labels_of(report), &mut marks)?;

@@ -1,7 +1,7 @@
 //! Where the parts of a report lie, by reads of its sources without context.
 
-ghost use Rattle.std.specs.Prelude.{◌≡◌, ◌<◌, ◌+◌, ◌&&◌, false, Some, None, IfOk, OnOk, map, length, option_map};
-ghost use Rattle.miette_tree.specs.views.Owned.{shown_source};
+ghost use Rattle.std.specs.Prelude.{◌≡◌, ◌<◌, ◌+◌, ◌&&◌, false, Some, None, IfOk, OnOk, map, length};
+ghost use Rattle.miette_tree.specs.views.Owned.{shown_source, source_shown};
 ghost use Rattle.miette_brief.specs.rules.Rows.{nowhere};
 ghost use Rattle.miette_brief.specs.rules.Places.{label_place as place_of_label};
 ghost use Rattle.std.specs.List.{All};
@@ -12,7 +12,7 @@ ghost use Rattle.miette_brief.specs.steps.Reads.{IsSourcePlace, IsCausePlace};
 ghost use Rattle.miette_brief.specs.rules.Places.{span_place as begin_of_span, primary_spot as primary_of};
 ghost use Rattle.miette_labels.specs.rules.Groups.{in_order};
 ghost use Rattle.miette_protocol.specs.rules.Reading.{IsAccepted};
-ghost use Rattle.miette_labels.specs.views.GivenLabels.{label_at};
+ghost use Rattle.miette_labels.specs.views.GivenLabels.{turned};
 ghost use Rattle.miette_brief.specs.steps.Conversions.{place_of};
 
 use crate::rows::Place;
@@ -60,13 +60,11 @@ pub(crate) fn label_place<'a, S: SourceCode>(
     span: &SourceSpan,
     known: &mut KnownLines,
 ) -> Result<Place<'a>, RenderError>
-    requires { AreKnown (option_map (shown_source S.source) source) known.old }
-    ensures known { AreKnown (option_map (shown_source S.source) source.entry) known.new }
-    ensures place { IfOk result (λ at.
-        place_of at ≡ place_of_label (option_map (shown_source S.source) source.entry) span.now) }
-    ensures accepted { OnOk result (IsReadAt (option_map (shown_source S.source) source.entry) span.now) }
-    ensures refused { (result ≡ Err RenderError.Refused) →
-        IsUnread (option_map (shown_source S.source) source.entry) span.now }
+    requires { AreKnown (source_shown S.source source) known.old }
+    ensures known { AreKnown (source_shown S.source source.entry) known.new }
+    ensures place { IfOk result (λ at. place_of at ≡ place_of_label (source_shown S.source source.entry) span.now) }
+    ensures accepted { OnOk result (IsReadAt (source_shown S.source source.entry) span.now) }
+    ensures refused { (result ≡ Err RenderError.Refused) → IsUnread (source_shown S.source source.entry) span.now }
 {
     match source {
         Some(source) => span_place(source, span, known),
@@ -90,7 +88,7 @@ fn name_place<'a, S: SourceCode>(source: SourceRef<'a, S>) -> Place<'a>
 
 /// The name of a source alone, nowhere without one.
 pub(crate) fn source_place<'a, S: SourceCode>(source: Option<SourceRef<'a, S>>) -> Place<'a>
-    ensures { IsSourcePlace (option_map (shown_source S.source) source.entry) (place_of result) }
+    ensures { IsSourcePlace (source_shown S.source source.entry) (place_of result) }
 {
     match source {
         Some(source) => name_place(source),
@@ -108,13 +106,10 @@ pub(crate) fn diagnostic_place<'a, S: SourceCode>(
     further: &'a [Snippets<S>],
 ) -> Result<Place<'a>, RenderError>
     requires inside { All (λ turn. turn.index < length labels.now) order.now }
-    ensures place { IfOk result (λ at. IsDiagnosticPlace (option_map (shown_source S.source) source.entry)
-        (map (λ turn. label_at labels.now turn.index) order.now) (map (section_of S.source) further.now)
-        (place_of at)) }
-    ensures refused { (result ≡ Err RenderError.Refused) →
-        (accepts (option_map (shown_source S.source) source.entry)
-        (map (λ turn. label_at labels.now turn.index) order.now)
-        && holds_further accepts (map (section_of S.source) further.now)) ≡ false }
+    ensures place { IfOk result (λ at. IsDiagnosticPlace (source_shown S.source source.entry)
+        (turned labels.now order.now) (map (section_of S.source) further.now) (place_of at)) }
+    ensures refused { (result ≡ Err RenderError.Refused) → (accepts (source_shown S.source source.entry)
+        (turned labels.now order.now) && holds_further accepts (map (section_of S.source) further.now)) ≡ false }
 {
     match primary_found(alloc, source, labels, order, further)? {
         Found::At(at) => Ok(at),
@@ -132,7 +127,7 @@ pub(crate) fn cause_place<'a, S: SourceCode>(
     at: Place<'a>,
 ) -> Result<Place<'a>, AllocError>
     ensures { IfOk result (λ own. IsCausePlace (place_of at.entry)
-        (primary_of (option_map (shown_source S.source) source.entry) (in_order labels.now)
+        (primary_of (source_shown S.source source.entry) (in_order labels.now)
         (map (section_of S.source) further.now)) (place_of own)) }
 {
     match primary_label(alloc, source, labels, further)? {

@@ -3,10 +3,9 @@
 ghost use Rattle.std.specs.Prelude.{◌≡◌, ◌++◌, ◌∷◌, ◌<◌, [], false, OnOk, IfOk, string_bytes, map, length};
 ghost use Rattle.std.specs.Prelude.{option_copied, true, Some};
 ghost use Rattle.std.specs.List.{All};
-ghost use Rattle.std.specs.Option.{option_map};
 ghost use Rattle.miette_tree.specs.views.Report.{tree_of};
 ghost use Rattle.miette_tree.specs.views.Attached.{section_of};
-ghost use Rattle.miette_tree.specs.views.Owned.{shown_source};
+ghost use Rattle.miette_tree.specs.views.Owned.{shown_source, source_shown};
 ghost use Rattle.miette_tree.specs.rules.Tree.{head, cause_of};
 ghost use Rattle.miette_tree.specs.rules.DiagnosticParts.{given_labels};
 ghost use Rattle.miette_tree.specs.rules.Reads.{accepts, holds_further};
@@ -20,7 +19,7 @@ ghost use Rattle.miette_brief.specs.steps.AppendedParts.{AppendsAdvice, AppendsC
 ghost use Rattle.miette_brief.specs.steps.Conversions.{place_of};
 ghost use Rattle.miette_brief.specs.steps.Reads.{AreKnown, IsUnread, IsReadAt, labels_accepted};
 ghost use Rattle.miette_labels.specs.rules.Groups.{in_order};
-ghost use Rattle.miette_labels.specs.views.GivenLabels.{label_at};
+ghost use Rattle.miette_labels.specs.views.GivenLabels.{turned};
 
 use crate::fixes::push_fixes;
 use crate::places::{cause_place, diagnostic_place, label_place};
@@ -54,13 +53,13 @@ fn push_note<S: SourceCode>(
     known: &mut KnownLines,
     out: &mut String,
 ) -> Result<(), RenderError>
-    requires { AreKnown (option_map (shown_source S.source) source) known.old }
-    ensures known { AreKnown (option_map (shown_source S.source) source.entry) known.new }
+    requires { AreKnown (source_shown S.source source) known.old }
+    ensures known { AreKnown (source_shown S.source source.entry) known.new }
     ensures text { OnOk result (string_bytes out.new ≡ string_bytes out.old ++ rows_text (note_rows_of
-        (place_of_label (option_map (shown_source S.source) source.entry) label.now.span) label.now.text)) }
-    ensures accepted { OnOk result (IsReadAt (option_map (shown_source S.source) source.entry) label.now.span) }
+        (place_of_label (source_shown S.source source.entry) label.now.span) label.now.text)) }
+    ensures accepted { OnOk result (IsReadAt (source_shown S.source source.entry) label.now.span) }
     ensures refused { (result ≡ Err RenderError.Refused) →
-        IsUnread (option_map (shown_source S.source) source.entry) label.now.span }
+        IsUnread (source_shown S.source source.entry) label.now.span }
 {
     let at = label_place(source, label.inner(), known)?;
     let Some(text) = label.label() else {
@@ -79,13 +78,10 @@ fn push_notes<S: SourceCode>(
 ) -> Result<(), RenderError>
     requires inside { All (λ turn. turn.index < length labels.now) order.now }
     ensures text { OnOk result (string_bytes out.new ≡ string_bytes out.old
-        ++ rows_text (note_rows (option_map (shown_source S.source) source.entry)
-        (map (λ turn. label_at labels.now turn.index) order.now))) }
-    ensures accepted { OnOk result (HasAccepted (option_map (shown_source S.source) source.entry)
-        (map (λ turn. label_at labels.now turn.index) order.now)) }
+        ++ rows_text (note_rows (source_shown S.source source.entry) (turned labels.now order.now))) }
+    ensures accepted { OnOk result (HasAccepted (source_shown S.source source.entry) (turned labels.now order.now)) }
     ensures refused { (result ≡ Err RenderError.Refused) →
-        accepts (option_map (shown_source S.source) source.entry)
-        (map (λ turn. label_at labels.now turn.index) order.now) ≡ false }
+        accepts (source_shown S.source source.entry) (turned labels.now order.now) ≡ false }
 {
     let mut known = START;
     for turn in order {
@@ -147,7 +143,7 @@ fn push_causes<'a, D: Diagnostic, S: SourceCode>(
     source: Option<SourceRef<'a, S>>,
     out: &mut String,
 ) -> Result<(), AllocError>
-    ensures { OnOk result (AppendsCauses true (place_of at.entry) (option_map (shown_source S.source) source.entry)
+    ensures { OnOk result (AppendsCauses true (place_of at.entry) (source_shown S.source source.entry)
         (cause_of (tree_of D.meaning S.source report.now)) (string_bytes out.old) (string_bytes out.new)) }
 {
     let mut above = report;
@@ -178,7 +174,7 @@ fn push_advice<D: Diagnostic, S: SourceCode>(
     source: Option<SourceRef<'_, S>>,
     out: &mut String,
 ) -> Result<(), AllocError>
-    ensures { OnOk result (AppendsAdvice (place_of at.entry) (option_map (shown_source S.source) source.entry)
+    ensures { OnOk result (AppendsAdvice (place_of at.entry) (source_shown S.source source.entry)
         (head (tree_of D.meaning S.source report.now)) (string_bytes out.old) (string_bytes out.new)) }
 {
     push_help(out, at, report.help())?;
@@ -195,13 +191,12 @@ fn push_labelled<'a, D: Diagnostic, S: SourceCode>(
 ) -> Result<Place<'a>, RenderError>
     requires inside { All (λ turn. turn.index
         < length (given_labels (head (tree_of D.meaning S.source report.now)).labels)) order.now }
-    requires ordered { map (λ turn. label_at (given_labels (head (tree_of D.meaning S.source report.now)).labels)
-        turn.index) order.now ≡ in_order (given_labels (head (tree_of D.meaning S.source report.now)).labels) }
-    ensures text { IfOk result (λ at. AppendsLabelled (option_map (shown_source S.source) source.entry)
+    requires ordered { turned (given_labels (head (tree_of D.meaning S.source report.now)).labels) order.now
+        ≡ in_order (given_labels (head (tree_of D.meaning S.source report.now)).labels) }
+    ensures text { IfOk result (λ at. AppendsLabelled (source_shown S.source source.entry)
         (head (tree_of D.meaning S.source report.now)) (place_of at) (string_bytes out.old) (string_bytes out.new)) }
     ensures refused { (result ≡ Err RenderError.Refused) →
-        labels_accepted (option_map (shown_source S.source) source.entry)
-        (head (tree_of D.meaning S.source report.now)) ≡ false }
+        labels_accepted (source_shown S.source source.entry) (head (tree_of D.meaning S.source report.now)) ≡ false }
 {
     let labels = labels_of(report);
     let further = report.further_snippets();
@@ -220,11 +215,10 @@ pub(crate) fn push_own<'a, D: Diagnostic, S: SourceCode>(
     out: &mut String,
 ) -> Result<(), RenderError>
     ensures text { OnOk result (AppendsOwn (record { chain = chain; form = Gcc })
-        (option_map (shown_source S.source) source.entry) (head (tree_of D.meaning S.source report.now))
+        (source_shown S.source source.entry) (head (tree_of D.meaning S.source report.now))
         (cause_of (tree_of D.meaning S.source report.now)) (string_bytes out.old) (string_bytes out.new)) }
     ensures refused { (result ≡ Err RenderError.Refused) →
-        labels_accepted (option_map (shown_source S.source) source.entry)
-        (head (tree_of D.meaning S.source report.now)) ≡ false }
+        labels_accepted (source_shown S.source source.entry) (head (tree_of D.meaning S.source report.now)) ≡ false }
 {
     let alloc = *out.allocator();
     let order = by_offset(alloc, labels_of(report))?;

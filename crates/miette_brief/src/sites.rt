@@ -4,7 +4,7 @@ ghost use Rattle.std.specs.Prelude.{◌≡◌, IfOk, Some, None, false, true, ma
 ghost use Rattle.std.specs.Option.{option_map};
 ghost use Rattle.miette_positions.specs.declared.place.PositionEncoding.TheVariants.{Utf16};
 ghost use Rattle.miette_positions.specs.rules.Regions.{region_of};
-ghost use Rattle.miette_tree.specs.views.Owned.{shown_source};
+ghost use Rattle.miette_tree.specs.views.Owned.{shown_source, source_shown};
 ghost use Rattle.miette_brief.specs.rules.Github.{site_in};
 ghost use Rattle.miette_brief.specs.steps.CommandParts.{mark_of, site_of};
 ghost use Rattle.miette_brief.specs.steps.Marking.{IsChosenSite, IsSourceSite, spot_at, spot_of_mark};
@@ -41,7 +41,7 @@ fn whole_region(span: SourceSpan, source: &[u8]) -> Option<Region>
 
 /// The name of a source alone.
 fn source_site<'a, S: SourceCode>(source: Option<SourceRef<'a, S>>) -> Option<Site<'a>>
-    ensures { IsSourceSite (option_map (shown_source S.source) source.entry) (option_map site_of result) }
+    ensures { IsSourceSite (source_shown S.source source.entry) (option_map site_of result) }
 {
     site_in(source_place(source).name, None)
 }
@@ -70,7 +70,7 @@ fn mark_site<'a, S: SourceCode>(
     source: Option<SourceRef<'a, S>>,
     mark: &Mark<'a, S>,
 ) -> Result<Option<Site<'a>>, RenderError>
-    ensures site { IfOk result (λ site. IsChosenSite (option_map (shown_source S.source) source.entry)
+    ensures site { IfOk result (λ site. IsChosenSite (source_shown S.source source.entry)
         (spot_of_mark (mark_of S.source mark.now)) (option_map site_of site)) }
     ensures refused { (result ≡ Err RenderError.Refused) → IsSpotUnread (spot_of_mark (mark_of S.source mark.now)) }
 {
@@ -115,10 +115,9 @@ fn label_site<'a, S: SourceCode>(
     is_own: bool,
     mark: &Mark<'a, S>,
 ) -> Result<Option<Site<'a>>, RenderError>
-    requires whole { IsWhole (option_map (shown_source S.source) source) whole.now }
-    requires own { is_own ≡ true → (mark_of S.source mark.now).source
-        ≡ option_map (shown_source S.source) source }
-    ensures site { IfOk result (λ site. IsChosenSite (option_map (shown_source S.source) source.entry)
+    requires whole { IsWhole (source_shown S.source source) whole.now }
+    requires own { is_own ≡ true → (mark_of S.source mark.now).source ≡ source_shown S.source source }
+    ensures site { IfOk result (λ site. IsChosenSite (source_shown S.source source.entry)
         (spot_of_mark (mark_of S.source mark.now)) (option_map site_of site)) }
     ensures refused { (result ≡ Err RenderError.Refused) → IsSpotUnread (spot_of_mark (mark_of S.source mark.now)) }
 {
@@ -138,9 +137,9 @@ pub(crate) fn chosen_site<'a, S: SourceCode>(
     marks: &[Mark<'a, S>],
     at: Option<usize>,
 ) -> Result<Option<Site<'a>>, RenderError>
-    requires whole { IsWhole (option_map (shown_source S.source) source) whole.now }
-    requires own { AreOver (option_map (shown_source S.source) source) own (map (mark_of S.source) marks.now) }
-    ensures site { IfOk result (λ site. IsChosenSite (option_map (shown_source S.source) source.entry)
+    requires whole { IsWhole (source_shown S.source source) whole.now }
+    requires own { AreOver (source_shown S.source source) own (map (mark_of S.source) marks.now) }
+    ensures site { IfOk result (λ site. IsChosenSite (source_shown S.source source.entry)
         (spot_at at (map (mark_of S.source) marks.now)) (option_map site_of site)) }
     ensures refused { (result ≡ Err RenderError.Refused) →
         IsSpotUnread (spot_at at (map (mark_of S.source) marks.now)) }

@@ -3,9 +3,9 @@
 ghost use Rattle.std.specs.Prelude.{◌≡◌, ◌<◌, ◌+◌, Some, IfOk, map, length, option_map};
 ghost use Rattle.std.specs.List.{All};
 ghost use Rattle.miette_tree.specs.views.Attached.{section_of};
-ghost use Rattle.miette_tree.specs.views.Owned.{shown_source};
+ghost use Rattle.miette_tree.specs.views.Owned.{shown_source, source_shown};
 ghost use Rattle.miette_labels.specs.rules.Groups.{in_order};
-ghost use Rattle.miette_labels.specs.views.GivenLabels.{label_at};
+ghost use Rattle.miette_labels.specs.views.GivenLabels.{label_at, turned};
 ghost use Rattle.miette_brief.specs.rules.Places.{marked_in, first_in, spot_over, else_spot, found_further};
 ghost use Rattle.miette_brief.specs.rules.Places.{primary_spot as primary_of};
 ghost use Rattle.miette_brief.specs.steps.Conversions.{chosen_in, place_of};
@@ -129,7 +129,7 @@ pub(crate) fn label_of(labels: &[LabeledSpan], turn: Turn) -> &LabeledSpan
 /// Of labels in this order the span of the first one that is marked as primary.
 fn marked_span(labels: &[LabeledSpan], order: &[Turn]) -> Option<SourceSpan>
     requires inside { All (λ turn. turn.index < length labels.now) order.now }
-    ensures { result ≡ marked_in (map (λ turn. label_at labels.now turn.index) order.now) }
+    ensures { result ≡ marked_in (turned labels.now order.now) }
 {
     for turn in order {
         let label = label_of(labels, *turn);
@@ -143,7 +143,7 @@ fn marked_span(labels: &[LabeledSpan], order: &[Turn]) -> Option<SourceSpan>
 /// Of labels in this order the span of the first one.
 fn first_span(labels: &[LabeledSpan], order: &[Turn]) -> Option<SourceSpan>
     requires inside { All (λ turn. turn.index < length labels.now) order.now }
-    ensures { result ≡ first_in (map (λ turn. label_at labels.now turn.index) order.now) }
+    ensures { result ≡ first_in (turned labels.now order.now) }
 {
     if order.is_empty() {
         return None;
@@ -164,8 +164,7 @@ fn read_over<'a, S: SourceCode>(
     source: Option<SourceRef<'a, S>>,
     span: Option<SourceSpan>,
 ) -> Result<Found<'a>, AllocError>
-    ensures { IfOk result (λ found.
-        IsFound (spot_over (option_map (shown_source S.source) source.entry) span) found) }
+    ensures { IfOk result (λ found. IsFound (spot_over (source_shown S.source source.entry) span) found) }
 {
     let Some(source) = source else {
         return Ok(Found::Nothing);
@@ -180,7 +179,7 @@ fn read_over<'a, S: SourceCode>(
 /// Of labels in this order the span of the one that is chosen.
 fn chosen_span(choice: Choice, labels: &[LabeledSpan], order: &[Turn]) -> Option<SourceSpan>
     requires inside { All (λ turn. turn.index < length labels.now) order.now }
-    ensures { result ≡ chosen_in choice (map (λ turn. label_at labels.now turn.index) order.now) }
+    ensures { result ≡ chosen_in choice (turned labels.now order.now) }
 {
     match choice {
         Choice::Marked => marked_span(labels, order),
@@ -227,8 +226,7 @@ fn chosen_found<'a, S: SourceCode>(
     own: Option<SourceSpan>,
     further: &'a [Snippets<S>],
 ) -> Result<Found<'a>, AllocError>
-    ensures { IfOk result (λ found.
-        IsFound (else_spot (spot_over (option_map (shown_source S.source) source.entry) own)
+    ensures { IfOk result (λ found. IsFound (else_spot (spot_over (source_shown S.source source.entry) own)
         (found_further (chosen_in choice) (map (section_of S.source) further.now))) found) }
 {
     let found = read_over(source, own)?;
@@ -249,8 +247,8 @@ pub(crate) fn primary_found<'a, S: SourceCode>(
     further: &'a [Snippets<S>],
 ) -> Result<Found<'a>, AllocError>
     requires inside { All (λ turn. turn.index < length labels.now) order.now }
-    ensures { IfOk result (λ found. IsFound (primary_of (option_map (shown_source S.source) source.entry)
-        (map (λ turn. label_at labels.now turn.index) order.now) (map (section_of S.source) further.now)) found) }
+    ensures { IfOk result (λ found. IsFound (primary_of (source_shown S.source source.entry)
+        (turned labels.now order.now) (map (section_of S.source) further.now)) found) }
 {
     let marked_own = marked_span(labels, order);
     let marked = chosen_found(alloc, Choice::Marked, source, marked_own, further)?;
@@ -269,7 +267,7 @@ pub(crate) fn primary_label<'a, S: SourceCode>(
     labels: &[LabeledSpan],
     further: &'a [Snippets<S>],
 ) -> Result<Found<'a>, AllocError>
-    ensures { IfOk result (λ found. IsFound (primary_of (option_map (shown_source S.source) source.entry)
+    ensures { IfOk result (λ found. IsFound (primary_of (source_shown S.source source.entry)
         (in_order labels.now) (map (section_of S.source) further.now)) found) }
 {
     let order = by_offset(alloc, labels)?;

@@ -1,21 +1,15 @@
-use Rattle.std.proofs.Common.{◌≡◌, ◌∙◌, ap, subst, map, List}
+use Rattle.std.proofs.Common.{List, map, subst}
 use Rattle.std.specs.Option.{option_map}
 use Rattle.miette_protocol.specs.views.Meaning.{Label}
 use Rattle.miette_tree.specs.views.Attached.{section_of}
 use Rattle.miette_tree.specs.views.Owned.{shown_source}
-use Rattle.miette_labels.specs.declared.order.Turn.{Turn}
-use Rattle.miette_labels.specs.rules.Groups.{in_order}
-use Rattle.miette_labels.specs.views.GivenLabels.{label_at}
 use Rattle.miette_brief.specs.rules.Places.{primary_spot}
 use Rattle.miette_brief.specs.steps.Reads.{IsFound}
+use Rattle.miette_brief.proofs.LabelOrder.{order_kept}
 use Rattle.miette_brief.proofs.spots.primary_label.Goals as goal
-
-abbrev turned : List Label → List Turn → List Label
-turned labels order = map (λ turn. label_at labels turn.index) order
 
 pub returns : goal.returns
 returns g c =
-    let ordered : turned c.args.labels.now c.deref.result.now ≡ in_order c.args.labels.now =
-    ap (turned c.args.labels.now) c.deref.ensures.value ∙ c.in_ok-order.ensures.order in
+    let ordered = order_kept c.args.labels.now _ _ c.deref.ensures.value c.in_ok-order.ensures.order in
     subst (λ (ls : List Label). IsFound (primary_spot (option_map (shown_source g.S.SourceCode.source) c.args.source) ls
     (map (section_of g.S.SourceCode.source) c.args.further.now)) c.in_ok-found.found) ordered c.in_ok-found.ensures
