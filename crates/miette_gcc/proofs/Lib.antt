@@ -1,4 +1,3 @@
 pub mod Arrays
-pub mod Events
 pub mod Reports
 pub mod Steps

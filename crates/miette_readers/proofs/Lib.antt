@@ -5,6 +5,7 @@ pub mod Holding
 pub mod Kept
 pub mod MessageRows
 pub mod NameSteps
+pub mod Numbered
 pub mod Parts
 pub mod ReportsRead
 pub mod RowLists

@@ -1,7 +1,6 @@
 pub mod BaseSteps
 pub mod BeginSteps
 pub mod Finding
-pub mod FlowSteps
 pub mod HelpSteps
 pub mod Kept
 pub mod LogsHold

@@ -1,22 +1,23 @@
-use Rattle.std.proofs.Common.{◌++◌, Bor, List, ap, ◌∙◌, rules}
+use Rattle.std.proofs.Common.{◌++◌, Bor, List, ap, ◌∙◌, refl, rules}
 use Rattle.std.proofs.lemmas.List.{take_all}
 use Rattle.serde_json.specs.View.{view}
 use Rattle.serde_json.specs.declared.value.Value.{Value}
 use Rattle.miette_readers.specs.views.Values.{seen}
-use Rattle.miette_sarif_reader.specs.rules.Results.{steps_told}
+use Rattle.miette_readers.proofs.Numbered.{one_more_told}
+use Rattle.miette_sarif_reader.specs.rules.Results.{step_told, steps_told}
 use Rattle.miette_sarif_reader.specs.views.Grounds.{ground_in}
-use Rattle.miette_sarif_reader.proofs.FlowSteps.{more_steps}
 use Rattle.miette_sarif_reader.proofs.ground.Ground.push_steps.Goals as goal
 
 pub loop-step-preserved : goal.loop-step-preserved
 loop-step-preserved g c =
     let l = c.loop-step in
+    let ground = ground_in g.F.Files.found c.args.self.now in
     record {
       next = search rules;
-      told = more_steps (λ (v : Bor Value). view v.now) c.args.steps.now l.step-index c.step-item.result
-          c.loop-step-test.true c.step-item.is (ground_in g.F.Files.found c.args.self.now) c.args.list.now.items
-          l.list.items c.push_item.new.list.items l.number c.in_ok-spot.spot l.invariant.next c.in_ok-spot.ensures
-          c.in_ok-push_item.ensures l.invariant.told;
+      told = one_more_told (step_told ground) (steps_told ground) (λ n. refl) (λ n d ds. refl)
+          (λ (v : Bor Value). view v.now) c.args.steps.now l.step-index c.step-item.result c.loop-step-test.true
+          c.step-item.is c.args.list.now.items l.list.items c.push_item.new.list.items l.number c.in_ok-spot.spot
+          l.invariant.next c.in_ok-spot.ensures c.in_ok-push_item.ensures l.invariant.told;
     }
 
 pub returns : goal.returns
