@@ -8,6 +8,7 @@ use Rattle.std.proofs.lemmas.Bool.{or_parts}
 use Rattle.std.proofs.lemmas.Bool.Decides.{nat_tests}
 use Rattle.miette_basics.specs.rules.Lists.{is_nil}
 use Rattle.miette_fixes.specs.rules.Edits.{Proposal, Replacement}
+use Rattle.miette_fix_rows.specs.rules.DiffRows.{fix_rows}
 use Rattle.miette_page.specs.rules.Rows.{Row}
 use Rattle.miette_page.specs.views.Printouts.{Printout, ended_text, printout_of, ◌⊕◌}
 use Rattle.miette_page.specs.views.Tokens.{rows_tokens}
@@ -15,8 +16,10 @@ use Rattle.miette_protocol.specs.rules.Reading.{Source}
 use Rattle.miette_picture_rules.specs.rules.DiagnosticText.{fix_text, fixes_text, line_feed, rows_text}
 use Rattle.miette_picture_rules.specs.rules.Indents.{fix_indent, further_fix_indent, wrapped_under}
 use Rattle.miette_picture_rules.specs.rules.Settings.{Settings}
-use Rattle.miette_picture_rules.specs.rules.Snippets.{drawn_fix, rows_of_fix, runs_of_row}
+use Rattle.miette_picture_rules.specs.rules.Snippets.{drawn_fix, rows_of_fix, runs_of_row, snippet_settings}
 use Rattle.miette_picture_rules.specs.rules.Sources.{has_edits}
+use Rattle.miette_snippet_rules.specs.rules.Settings.{SnippetSettings}
+use Rattle.miette_painting.specs.steps.FixSources.{fix_rows_over}
 use Rattle.miette_painting.specs.views.PartTexts.{AppendsFixes}
 use Rattle.miette_picture_rules.proofs.PrintedRows.{rows_printed}
 use Rattle.miette_painting.proofs.Steps.{behind}
@@ -26,6 +29,19 @@ pub rows_behind : (before : List ℕ) (rows : List Row) (over page : Printout) (
     → page ≡ over ⊕ rows_tokens rows → out ≡ ended_text page → out ≡ before ++ rows_text (map runs_of_row rows)
 rows_behind before rows over page out o p e =
     e ∙ ap ended_text (p ∙ ap (λ x. x ⊕ rows_tokens rows) o) ∙ rows_printed before rows
+
+-- rows over a source, if there is one
+pub rows_printed_over : (s : SnippetSettings) (source : Option Source) (whole : Source) (fails b : Bool)
+    (edits : List Replacement) (old new : Printout) → source ≡ Some whole → fails ≡ b
+    → new ≡ old ⊕ rows_tokens (fix_rows s whole b edits)
+    → new ≡ old ⊕ rows_tokens (fix_rows_over s source fails edits)
+rows_printed_over s source whole fails b edits old new is f h =
+    h ∙ ap₂ (λ o v. old ⊕ rows_tokens (fix_rows_over s o v edits)) (sym is) (sym f)
+
+rows_shown : (s : Settings) (source : Option Source) (fails : Bool) (edits : List Replacement)
+    → map runs_of_row (fix_rows_over (snippet_settings s) source fails edits) ≡ rows_of_fix s source fails edits
+rows_shown s None fails edits = refl
+rows_shown s (Some source) fails edits = refl
 
 -- a fix's message, wrapped
 abbrev pub message_of : Settings → Proposal → List ℕ
@@ -41,22 +57,16 @@ message_told : (s : Settings) (fix : Proposal) (text old told : List ℕ) → te
 message_told s fix text old told is e =
     e ∙ ap (λ t. old ++ (wrapped_under s (fix_indent s) further_fix_indent (chars t) ++ line_feed)) is
 
--- without a source
-pub fix_alone : (s : Settings) (source : Option Source) (fails : Bool) (fix : Proposal) (text old new : List ℕ)
-    → source ≡ None → text ≡ fix.message → IsToldBehind s text old new
+-- with rows below it that were printed by the same settings
+pub fix_behind : (s u : Settings) (source : Option Source) (fails : Bool) (fix : Proposal) (text old told new : List ℕ)
+    → text ≡ fix.message → IsToldBehind s text old told → u ≡ s
+    → new ≡ told ++ rows_text (map runs_of_row (fix_rows_over (snippet_settings u) source fails fix.edits))
     → new ≡ old ++ fix_text s (drawn_fix s source fails fix)
-fix_alone s source fails fix text old new none is e =
-    message_told s fix text old new is e ∙ ap (λ t. old ++ t) (sym (append-nil (message_of s fix)))
-    ∙ ap (λ o. old ++ fix_text s (drawn_fix s o fails fix)) (sym none)
-
--- over a source
-pub fix_behind : (s : Settings) (source : Option Source) (fails : Bool) (fix : Proposal) (text old told new : List ℕ)
-    → text ≡ fix.message → IsToldBehind s text old told
-    → new ≡ told ++ rows_text (rows_of_fix s source fails fix.edits)
-    → new ≡ old ++ fix_text s (drawn_fix s source fails fix)
-fix_behind s source fails fix text old told new is e h =
+fix_behind s u source fails fix text old told new is e same h =
     behind old told new (message_of s fix) (rows_text (rows_of_fix s source fails fix.edits))
-    (message_told s fix text old told is e) h
+    (message_told s fix text old told is e)
+    (h ∙ ap (λ v. told ++ rows_text (map runs_of_row (fix_rows_over (snippet_settings v) source fails fix.edits))) same
+    ∙ ap (λ rows. told ++ rows_text rows) (rows_shown s source fails fix.edits))
 
 -- ---- fixes without edits need no source
 
@@ -93,14 +103,3 @@ over_unneeded s source it fixes old new is none e = record {
 pub over_read : (s : Settings) (source : Option Source) (fixes : List Proposal) (old new : List ℕ)
     → new ≡ old ++ fixes_text s (map (drawn_fix s source false) fixes) → AppendsFixes s source fixes old new
 over_read s source fixes old new e = record { fails = false; possible = λ h. refl; appended = e }
-
--- ---- rows below a message, in whatever settings they were drawn
-
-pub moved_rows : (s u : Settings) (source : Option Source) (whole : Source) (fails b : Bool) (edits : List Replacement)
-    (before new : List ℕ) → u ≡ s → source ≡ Some whole → fails ≡ b
-    → new ≡ before ++ rows_text (rows_of_fix u (Some whole) b edits)
-    → new ≡ before ++ rows_text (rows_of_fix s source fails edits)
-moved_rows s u source whole fails b edits before new e is f h =
-    h ∙ ap (λ v. before ++ rows_text (rows_of_fix v (Some whole) b edits)) e
-    ∙ ap (λ o. before ++ rows_text (rows_of_fix s o b edits)) (sym is)
-    ∙ ap (λ v. before ++ rows_text (rows_of_fix s source v edits)) (sym f)

@@ -1,12 +1,14 @@
 //! The fixes of a diagnostic: each as its message, and what it changes.
 
-ghost use Rattle.std.specs.Prelude.{◌≡◌, ◌++◌, Bool, false, true, map, OnOk, Option, Some};
+ghost use Rattle.std.specs.Prelude.{◌≡◌, ◌++◌, Bool, map, OnOk, Option};
 ghost use Rattle.std.specs.List.{list_any};
-ghost use Rattle.std.specs.Option.{option_copied};
-ghost use Rattle.miette_picture_rules.specs.rules.DiagnosticText.{fix_text, fixes_text, rows_text};
-ghost use Rattle.miette_picture_rules.specs.rules.Snippets.{drawn_fix, rows_of_fix};
+ghost use Rattle.miette_page.specs.views.Printouts.{◌⊕◌};
+ghost use Rattle.miette_page.specs.views.Tokens.{rows_tokens};
+ghost use Rattle.miette_snippet_rules.specs.views.SettingsView.{settings_of as snippet_settings};
+ghost use Rattle.miette_picture_rules.specs.rules.DiagnosticText.{fix_text, fixes_text};
+ghost use Rattle.miette_picture_rules.specs.rules.Snippets.{drawn_fix};
 ghost use Rattle.miette_picture_rules.specs.rules.Sources.{has_edits};
-ghost use Rattle.miette_painting.specs.steps.FixSources.{AsksItself, IsGivenOver};
+ghost use Rattle.miette_painting.specs.steps.FixSources.{AsksItself, IsGivenOver, fix_rows_over};
 ghost use Rattle.miette_painting.specs.views.PartTexts.{AppendsFixes};
 ghost use Rattle.miette_painting.specs.views.Painting.{PrintsOnly, settings_of, source_shown};
 ghost use Rattle.miette_protocol.specs.rules.Reading.{Source};
@@ -32,46 +34,22 @@ pub(crate) enum FixSource<'a, S> {
     Whole(WholeSource<'a, S>),
 }
 
-// Appends the rows below a fix's message, over a source that was read as a whole.
-fn push_changes<S: SourceCode, H>(
-    painter: &mut Painter<'_, H>,
-    source: &WholeSource<'_, S>,
+// Prints the rows below a fix's message, where there is a source.
+fn push_changes<S: SourceCode>(
+    page: &mut Page<Output>,
+    settings: &SnippetSettings<'_>,
+    over: &FixSource<'_, S>,
     fix: &Fix,
 ) -> Result<(), AllocError>
-    requires { (S.source source.now.asked.now).bytes ≡ source.now.bytes.now }
-    ensures text { OnOk result ((whole : Source) → whole.bytes ≡ source.now.bytes.now →
-        whole.name ≡ option_copied source.now.name → painter.new.out ≡ painter.old.out
-        ++ rows_text (rows_of_fix (settings_of painter.old) (Some whole) false fix.now.edits)) }
-    ensures stays { PrintsOnly painter.old painter.new }
+    requires { AsksItself S.source over.now }
+    ensures { OnOk result ((source : Option Source) (fails : Bool) → IsGivenOver over.now source fails →
+        page.new ≡ page.old ⊕ rows_tokens (fix_rows_over (snippet_settings settings.now) source fails fix.now.edits)) }
 {
-    let settings = painter.settings;
-    let drawn_with = SnippetSettings {
-        alloc: painter.alloc,
-        theme: &settings.theme,
-        layout: &settings.layout,
-    };
-    let mut page = Page::over(mem::replace(&mut painter.out, Output::for_text(painter.alloc)));
-    push_fix_rows(&mut page, &drawn_with, source, fix)?;
-    painter.out = page.into_output()?;
-    Ok(())
-}
-
-// Appends the row below a fix's message, where its source could not be read.
-fn push_unread<H>(painter: &mut Painter<'_, H>, fix: &Fix) -> Result<(), AllocError>
-    ensures text { OnOk result ((whole : Source) → painter.new.out ≡ painter.old.out
-        ++ rows_text (rows_of_fix (settings_of painter.old) (Some whole) true fix.now.edits)) }
-    ensures stays { PrintsOnly painter.old painter.new }
-{
-    let settings = painter.settings;
-    let drawn_with = SnippetSettings {
-        alloc: painter.alloc,
-        theme: &settings.theme,
-        layout: &settings.layout,
-    };
-    let mut page = Page::over(mem::replace(&mut painter.out, Output::for_text(painter.alloc)));
-    push_unread_fix(&mut page, &drawn_with, fix)?;
-    painter.out = page.into_output()?;
-    Ok(())
+    match over {
+        FixSource::Nowhere => Ok(()),
+        FixSource::Unread => push_unread_fix(page, settings, fix),
+        FixSource::Whole(source) => push_fix_rows(page, settings, source, fix),
+    }
 }
 
 // Appends a fix: its message, and the rows below it.
@@ -87,11 +65,16 @@ fn push_fix<S: SourceCode, H>(
     ensures stays { PrintsOnly painter.old painter.new }
 {
     push_text(painter, TextKind::Fix, fix.message())?;
-    match over {
-        FixSource::Nowhere => Ok(()),
-        FixSource::Unread => push_unread(painter, fix),
-        FixSource::Whole(source) => push_changes(painter, source, fix),
-    }
+    let settings = painter.settings;
+    let drawn_with = SnippetSettings {
+        alloc: painter.alloc,
+        theme: &settings.theme,
+        layout: &settings.layout,
+    };
+    let mut page = Page::over(mem::replace(&mut painter.out, Output::for_text(painter.alloc)));
+    push_changes(&mut page, &drawn_with, over, fix)?;
+    painter.out = page.into_output()?;
+    Ok(())
 }
 
 // Appends fixes, in the order given.

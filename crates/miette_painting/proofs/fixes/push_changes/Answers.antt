@@ -1,16 +1,33 @@
-use Rattle.std.proofs.Common.{◌≡◌, false, rules}
-use Rattle.miette_fix_rows.specs.rules.DiffRows.{fix_rows}
-use Rattle.miette_page.specs.views.Printouts.{printout_of}
-use Rattle.miette_picture_rules.specs.rules.Snippets.{snippet_settings}
-use Rattle.miette_painting.specs.views.Painting.{settings_of}
-use Rattle.miette_painting.proofs.ShownFixes.{rows_behind}
+use Rattle.std.proofs.Common.{ap, sym, subst}
+use Rattle.std.proofs.lemmas.Result.{on_ok_weaker}
+use Rattle.miette_page.specs.views.Printouts.{◌⊕◌}
+use Rattle.miette_page.specs.views.Tokens.{rows_tokens}
+use Rattle.miette_snippet_rules.specs.views.SettingsView.{settings_of}
+use Rattle.miette_painting.specs.steps.FixSources.{AsksItself, IsGivenOver, fix_rows_over}
+use Rattle.miette_painting.proofs.ShownFixes.{rows_printed_over}
 use Rattle.miette_painting.proofs.fixes.push_changes.Goals as goal
 
-pub returns-clause-text : goal.returns-clause-text
-returns-clause-text g c = λ whole bytes name.
-    let before = c.args.painter.now.out in
-    let over : c.over-page.result ≡ printout_of before = search rules in
-    rows_behind before
-    (fix_rows (snippet_settings (settings_of c.args.painter.now)) whole false c.args.fix.now.edits)
-    c.over-page.result c.push_fix_rows.new.page _ over (c.in_ok-push_fix_rows.ensures whole bytes name)
-    c.in_ok-painter.ensures
+pub returns-in-Nowhere : goal.returns-in-Nowhere
+returns-in-Nowhere g c = λ source fails given.
+    let none = subst (λ o. IsGivenOver o source fails) c.in-Nowhere.is given in
+    let rows = λ o. fix_rows_over (settings_of c.args.settings.now) o fails c.args.fix.now.edits in
+    ap (λ o. c.args.page.now ⊕ rows_tokens (rows o)) (sym none)
+
+pub returns-in-Unread : goal.returns-in-Unread
+returns-in-Unread g c =
+    on_ok_weaker c.push_unread_fix.result (λ h source fails given.
+    let is = subst (λ o. IsGivenOver o source fails) c.in-Unread.is given in
+    rows_printed_over (settings_of c.args.settings.now) source is.0 fails _ c.args.fix.now.edits c.args.page.now
+    c.push_unread_fix.new.page is.1 is.2 (h is.0)) c.push_unread_fix.ensures
+
+pub returns-in-Whole : goal.returns-in-Whole
+returns-in-Whole g c =
+    on_ok_weaker c.push_fix_rows.result (λ h source fails given.
+    let is = subst (λ o. IsGivenOver o source fails) c.in-Whole.is given in
+    rows_printed_over (settings_of c.args.settings.now) source is.0 fails _ c.args.fix.now.edits c.args.page.now
+    c.push_fix_rows.new.page is.1 is.2 (h is.0 is.3 is.4)) c.push_fix_rows.ensures
+
+pub push_fix_rows-requires : goal.push_fix_rows-requires
+push_fix_rows-requires g c = record {
+  asked = subst (AsksItself g.S.SourceCode.source) c.in-Whole.is c.requires;
+}
