@@ -1,15 +1,20 @@
 -- Lines and their ends, one after another.
-use Rattle.std.proofs.Common.{◌≡◌, ℕ, zero, suc, ◌+◌, ◌-◌, ◌<◌, List, [], ◌∷◌, ◌++◌, length, get_or, map, take, drop}
-use Rattle.std.proofs.Common.{Bor, Option, Some, None, OnOk, Result, Ok, Err, arith, refl, sym, ap, ◌∙◌}
+use Rattle.std.proofs.Common.{◌≡◌, ℕ, zero, suc, ◌+◌, ◌-◌, ◌<◌, ◌≤◌, List, [], ◌∷◌, ◌++◌, length, get_or, map}
+use Rattle.std.proofs.Common.{Bor, drop, Option, Some, None, OnOk, Result, Ok, Err, arith, refl, sym, take, ap, ◌∙◌}
 use Rattle.std.specs.Prelude.{option_and_then}
 use Rattle.std.specs.List.{cons_option, filter_map}
 use Rattle.std.specs.Option.{option_copied}
-use Rattle.std.proofs.lemmas.List.{map-append, nil_from_length}
+use Rattle.std.proofs.lemmas.List.{length-drop, map-append, nil_from_length}
 use Rattle.std.proofs.lemmas.List.Elements.{filter_map-append}
 use Rattle.miette_readers.proofs.Steps.{next_taken}
 use Rattle.miette_readers.specs.views.Values.{texts}
 use Rattle.miette_sarif_reader.specs.rules.Newlines.{end_size, ended_by, line_behind, line_size, one_more}
 use Rattle.miette_sarif_reader.specs.rules.Newlines.{or_usual, text_size, usual_newlines}
+
+-- an offset in the bytes from another one on
+pub rest_within : (bytes rest : List ℕ) (at n : ℕ) → at ≤ length bytes → rest ≡ drop at bytes → n ≤ length rest
+    → at + n ≤ length bytes
+rest_within bytes rest at n room is le = omega (arith, room, le, ap length is, length-drop at bytes)
 
 -- ---- the sequences
 

@@ -1,11 +1,12 @@
 use Rattle.std.proofs.Common.{◌≡◌, ◌≤◌, ◌+◌, ℕ, List, ap, arith, drop, length, subst, true, rules}
 use Rattle.std.specs.List.{list_all}
-use Rattle.std.proofs.lemmas.List.{drop-drop, length-drop}
+use Rattle.std.proofs.lemmas.List.{drop-drop}
 use Rattle.memchr.specs.Find.{is_byte3}
 use Rattle.miette_readers.specs.views.Values.{texts}
 use Rattle.miette_sarif_reader.specs.rules.Newlines.{text_size}
 use Rattle.miette_sarif_reader.specs.views.Begins.{IsNoneBefore, begins_by}
 use Rattle.miette_sarif_reader.proofs.BeginSteps.{text_skips}
+use Rattle.miette_sarif_reader.proofs.NewlineSteps.{rest_within}
 use Rattle.miette_sarif_reader.proofs.begins.next_begin.Goals as goal
 
 pub returns-clause-value : goal.returns-clause-value
@@ -31,10 +32,5 @@ returns-clause-value c =
 
 pub returns-clause-within : goal.returns-clause-within
 returns-clause-within c =
-    omega (
-      arith,
-      c.requires,
-      c.bytes_before.ensures.within,
-      ap length c.rest_from.ensures,
-      length-drop c.args.at c.args.bytes.now,
-    )
+    rest_within c.args.bytes.now c.rest_from.result.now c.args.at c.bytes_before.result c.requires c.rest_from.ensures
+    c.bytes_before.ensures.within

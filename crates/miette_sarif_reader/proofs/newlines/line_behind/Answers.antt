@@ -1,8 +1,7 @@
-use Rattle.std.proofs.Common.{◌≡◌, ◌<◌, ◌∙◌, ap, arith, length, sym}
-use Rattle.std.proofs.lemmas.List.{length-drop}
+use Rattle.std.proofs.Common.{◌≡◌, ◌∙◌, ap, arith, sym}
 use Rattle.miette_readers.specs.views.Values.{texts}
 use Rattle.miette_sarif_reader.specs.rules.Newlines.{line_behind, line_size}
-use Rattle.miette_sarif_reader.proofs.NewlineSteps.{next_line, no_line}
+use Rattle.miette_sarif_reader.proofs.NewlineSteps.{next_line, no_line, rest_within}
 use Rattle.miette_sarif_reader.proofs.newlines.line_behind.Goals as goal
 
 pub loop-left-preserved : goal.loop-left-preserved
@@ -12,13 +11,8 @@ loop-left-preserved c =
     let bytes = c.args.bytes.now in
     let size = c.in-Some.size in
     record {
-      within = omega (
-        arith,
-        c.in-Some.ensures.within,
-        ap length c.rest_from.ensures,
-        length-drop l.at bytes,
-        l.invariant.within,
-      );
+      within = rest_within bytes c.rest_from.result.now l.at size l.invariant.within c.rest_from.ensures
+          c.in-Some.ensures.within;
       same = l.invariant.same
           ∙ next_line newlines bytes l.at l.left size c.loop-left-test.true
           (c.in-Some.ensures.value ∙ ap (line_size newlines) c.rest_from.ensures);

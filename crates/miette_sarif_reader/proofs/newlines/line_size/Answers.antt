@@ -1,8 +1,7 @@
-use Rattle.std.proofs.Common.{◌≡◌, ◌<◌, ◌+◌, ◌∙◌, Some, ap, arith, drop, length, subst, sym}
-use Rattle.std.proofs.lemmas.List.{length-drop}
+use Rattle.std.proofs.Common.{◌<◌, ◌+◌, ◌∙◌, Some, ap, arith, drop, subst, sym}
 use Rattle.miette_readers.specs.views.Values.{texts}
 use Rattle.miette_sarif_reader.specs.rules.Newlines.{end_size, text_size}
-use Rattle.miette_sarif_reader.proofs.NewlineSteps.{ends_with, not_ended}
+use Rattle.miette_sarif_reader.proofs.NewlineSteps.{ends_with, not_ended, rest_within}
 use Rattle.miette_sarif_reader.proofs.newlines.line_size.Goals as goal
 
 pub returns-then-end-eq0-clause-value : goal.returns-then-end-eq0-clause-value
@@ -32,10 +31,5 @@ returns-else-end-eq0-clause-value c =
 
 pub returns-else-end-eq0-clause-within : goal.returns-else-end-eq0-clause-within
 returns-else-end-eq0-clause-within c =
-    omega (
-      arith,
-      c.text_size-text.ensures.within,
-      c.end_size-end.ensures.within,
-      ap length c.rest_from.ensures,
-      length-drop c.text_size-text.result c.args.bytes.now,
-    )
+    rest_within c.args.bytes.now c.rest_from.result.now c.text_size-text.result c.end_size-end.result
+    c.text_size-text.ensures.within c.rest_from.ensures c.end_size-end.ensures.within

@@ -1,7 +1,7 @@
-use Rattle.std.proofs.Common.{◌+◌, ◌∙◌, ap, arith, length}
-use Rattle.std.proofs.lemmas.List.{length-drop}
+use Rattle.std.proofs.Common.{◌+◌, ◌∙◌, ap}
 use Rattle.miette_readers.specs.views.Values.{texts}
 use Rattle.miette_sarif_reader.specs.rules.Newlines.{text_size}
+use Rattle.miette_sarif_reader.proofs.NewlineSteps.{rest_within}
 use Rattle.miette_sarif_reader.proofs.regions.text_end.Goals as goal
 
 pub returns-clause-value : goal.returns-clause-value
@@ -11,10 +11,5 @@ returns-clause-value c =
 
 pub returns-clause-within : goal.returns-clause-within
 returns-clause-within c =
-    omega (
-      arith,
-      c.requires,
-      c.text_size.ensures.within,
-      ap length c.rest_from.ensures,
-      length-drop c.args.start c.args.bytes.now,
-    )
+    rest_within c.args.bytes.now c.rest_from.result.now c.args.start c.text_size.result c.requires c.rest_from.ensures
+    c.text_size.ensures.within
