@@ -11,11 +11,11 @@ ghost use Rattle.miette_snippet_rules.specs.rules.SnippetLayout.{text_of_cells};
 ghost use Rattle.miette_labels.specs.views.GivenLabels.{drawn_of};
 ghost use Rattle.miette_cells.specs.rules.Widths.{width_of};
 ghost use Rattle.miette_snippet_rules.specs.views.MadeMarks.{mark_of, IsAnchored};
-ghost use Rattle.miette_marks.specs.steps.Stops.{IsStop, first_from, last_from};
+ghost use Rattle.miette_marks.specs.steps.Stops.{IsStop, IsStopFor, column_in, stops_at};
 ghost use Rattle.miette_line_columns.specs.views.Passing.{ComeFrom};
 
 use miette_basics::sums::sum;
-use miette_cells::cells::{PlainCells, Walk};
+use miette_cells::cells::{Cell, PlainCells, Walk};
 use miette_cells::plain::plain_len;
 use miette_labels::sweep::PlacedLabel;
 use miette_line_columns::passing::{Passage, pass_cells, pass_plain};
@@ -62,30 +62,36 @@ impl<'a> Model for Columns<'a> {
     ghost invariant = { λ c. All (IsStop c.whole) c.stops.items };
 }
 
-// The first column of the first of these cells that ends behind an offset.
-fn column_behind(walk: Walk<'_>, offset: usize) -> Result<Option<usize>, AllocError>
-    ensures { IfOk result (λ found. (text_end width : ℕ) →
-        MatchOption found (first_of_cells [] text_end width offset ≡ first_of_cells walk.entry text_end width offset)
-        (λ column. column ≡ first_of_cells walk.entry text_end width offset)) }
-{
-    let mut walk = walk;
-    while let Some(cell) = walk.next()? {
-        if offset < cell.after {
-            return Ok(Some(cell.from));
-        }
-    }
-    Ok(None)
+// To which character's start the column of an offset inside a character is rounded: its own, or the next one's.
+#[derive(Clone, Copy)]
+enum Rounding {
+    Down,
+    Up,
 }
 
-// The first column of the first of these cells that doesn't begin before an offset.
-fn column_from(walk: Walk<'_>, offset: usize) -> Result<Option<usize>, AllocError>
-    ensures { IfOk result (λ found. (text_end width : ℕ) →
-        MatchOption found (last_of_cells [] text_end width offset ≡ last_of_cells walk.entry text_end width offset)
-        (λ column. column ≡ last_of_cells walk.entry text_end width offset)) }
+// Whether an offset's column is the first one of this cell, where it is that of no cell before it.
+fn stops_at(rounding: Rounding, cell: &Cell, offset: usize) -> bool
+    ensures { result ≡ stops_at rounding cell.now offset }
+{
+    match rounding {
+        Rounding::Down => offset < cell.after,
+        Rounding::Up => offset <= cell.start,
+    }
+}
+
+// The column of an offset among these cells, where it is that of one of them.
+fn column_among(
+    walk: Walk<'_>,
+    rounding: Rounding,
+    offset: usize,
+) -> Result<Option<usize>, AllocError>
+    ensures { IfOk result (λ found. (text_end width : ℕ) → MatchOption found
+        (column_in rounding [] text_end width offset ≡ column_in rounding walk.entry text_end width offset)
+        (λ column. column ≡ column_in rounding walk.entry text_end width offset)) }
 {
     let mut walk = walk;
     while let Some(cell) = walk.next()? {
-        if offset <= cell.start {
+        if stops_at(rounding, &cell, offset) {
             return Ok(Some(cell.from));
         }
     }
@@ -95,10 +101,7 @@ fn column_from(walk: Walk<'_>, offset: usize) -> Result<Option<usize>, AllocErro
 // The last of these stops that doesn't stand behind an offset, or one in front of all cells where none does.
 fn stop_to<'a>(whole: &Walk<'a>, stops: &[Stop<'a>], offset: usize) -> Stop<'a>
     requires { All (IsStop whole.now) stops.now }
-    ensures first { (text_end width : ℕ) → first_from result text_end width offset
-        ≡ first_of_cells whole.now text_end width offset }
-    ensures last { (text_end width : ℕ) → last_from result text_end width offset
-        ≡ last_of_cells whole.now text_end width offset }
+    ensures { IsStopFor whole.now result offset }
 {
     let passed = stops.partition_point(|stop| stop.offset <= offset);
     if passed > 0 && passed <= stops.len() {
@@ -186,11 +189,10 @@ impl<'a> Columns<'a> {
         sum(self.width, 1)
     }
 
-    /// The column of an offset, rounded down to a character's start. A column past the largest `usize` is refused as
-    /// want of memory.
-    pub fn first_column(&self, offset: usize) -> Result<usize, AllocError>
+    // The column of an offset that is rounded so. One past the largest `usize` is refused as want of memory.
+    fn column_of(&self, rounding: Rounding, offset: usize) -> Result<usize, AllocError>
         ensures { IfOk result (λ column. column
-            ≡ first_of_cells self.now.cells self.now.text_end self.now.width offset) }
+            ≡ column_in rounding self.now.cells self.now.text_end self.now.width offset) }
     {
         let at = offset.saturating_sub(self.start);
         if at < self.plain.len() {
@@ -201,10 +203,19 @@ impl<'a> Columns<'a> {
         if away < stop.plain.many {
             return sum(stop.plain.from, away);
         }
-        match column_behind(stop.walk, offset)? {
+        match column_among(stop.walk, rounding, offset)? {
             Some(column) => Ok(column),
             None => self.column_at_end(offset),
         }
+    }
+
+    /// The column of an offset, rounded down to a character's start. A column past the largest `usize` is refused as
+    /// want of memory.
+    pub fn first_column(&self, offset: usize) -> Result<usize, AllocError>
+        ensures { IfOk result (λ column. column
+            ≡ first_of_cells self.now.cells self.now.text_end self.now.width offset) }
+    {
+        self.column_of(Rounding::Down, offset)
     }
 
     /// The same, rounded up: `AllocError` too where that is past the largest `usize`.
@@ -212,19 +223,7 @@ impl<'a> Columns<'a> {
         ensures { IfOk result (λ column. column
             ≡ last_of_cells self.now.cells self.now.text_end self.now.width offset) }
     {
-        let at = offset.saturating_sub(self.start);
-        if at < self.plain.len() {
-            return Ok(at);
-        }
-        let stop = stop_to(&self.whole, &self.stops, offset);
-        let away = offset.saturating_sub(stop.plain.start);
-        if away < stop.plain.many {
-            return sum(stop.plain.from, away);
-        }
-        match column_from(stop.walk, offset)? {
-            Some(column) => Ok(column),
-            None => self.column_at_end(offset),
-        }
+        self.column_of(Rounding::Up, offset)
     }
 
     /// The column at which a label's mark begins, unless the mark before it ends behind that: the first one behind the
