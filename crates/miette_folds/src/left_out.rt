@@ -7,7 +7,7 @@ ghost use Rattle.miette_source_lines.specs.views.Walking.{line_of_text};
 ghost use Rattle.miette_snippet_rules.specs.rules.Folds.{hides, is_beside_hidden, is_hidden, leaves_out, line_at};
 ghost use Rattle.miette_folds.specs.views.Spreads.{spread_of};
 ghost use Rattle.miette_folds.specs.views.Folding.{fold_in, is_around_fold};
-ghost use Rattle.miette_folds.specs.views.LeftOut.{AreAmong, IsThere, lines_of_bytes, was_left_out};
+ghost use Rattle.miette_folds.specs.views.LeftOut.{AreAmong, IsPlaced, IsThere, lines_of_bytes, was_left_out};
 ghost use Rattle.miette_folds.specs.steps.Nearness.{is_near_fold};
 
 use crate::folds::{Fold, Spread, is_around};
@@ -85,10 +85,7 @@ fn is_hidden(limit: usize, folds: &Folds, place: usize, line: &LineOfText) -> bo
 
 // Whether the line behind a line is hidden.
 fn is_next_hidden(limit: usize, folds: &Folds, at: &PlacedLine<'_>) -> bool
-    requires small { at.now.start + length at.now.bytes.now < 2 ^ 64 }
-    requires place { at.now.place + 1 < 2 ^ 64 }
-    requires low { at.now.start ≤ at.now.line.end }
-    requires there { IsThere at.now }
+    requires { IsPlaced at.now }
     ensures { (labels : List Spread) → AreAmong at.now folds.now labels →
         result ≡ is_hidden limit (lines_of_bytes at.now) (map spread_of labels) (at.now.place + 1)
         (line_at (lines_of_bytes at.now) (at.now.place + 1)) }
@@ -103,10 +100,7 @@ fn is_next_hidden(limit: usize, folds: &Folds, at: &PlacedLine<'_>) -> bool
 
 // Whether a line is hidden beside one that is; whether the one before it is left out, and so hidden, is known.
 fn is_beside_hidden(limit: usize, folds: &Folds, at: &PlacedLine<'_>, gap: bool) -> bool
-    requires small { at.now.start + length at.now.bytes.now < 2 ^ 64 }
-    requires place { at.now.place + 1 < 2 ^ 64 }
-    requires low { at.now.start ≤ at.now.line.end }
-    requires there { IsThere at.now }
+    requires { IsPlaced at.now }
     ensures { (labels : List Spread) → AreAmong at.now folds.now labels →
         gap ≡ was_left_out (Some limit) at.now (map spread_of labels) →
         is_hidden limit (lines_of_bytes at.now) (map spread_of labels) at.now.place (line_of_text at.now.line)
@@ -121,10 +115,7 @@ fn is_beside_hidden(limit: usize, folds: &Folds, at: &PlacedLine<'_>, gap: bool)
 
 // Whether a line is left out where labels are folded to so many lines.
 fn is_left_out(limit: usize, folds: &Folds, at: &PlacedLine<'_>, gap: bool) -> bool
-    requires small { at.now.start + length at.now.bytes.now < 2 ^ 64 }
-    requires place { at.now.place + 1 < 2 ^ 64 }
-    requires low { at.now.start ≤ at.now.line.end }
-    requires there { IsThere at.now }
+    requires { IsPlaced at.now }
     ensures { (labels : List Spread) → AreAmong at.now folds.now labels →
         gap ≡ was_left_out (Some limit) at.now (map spread_of labels) →
         result ≡ leaves_out (Some limit) (lines_of_bytes at.now) (map spread_of labels) at.now.place

@@ -1,5 +1,5 @@
 -- A line of some bytes, as a program asks whether it is left out.
-use Rattle.std.specs.Prelude.{ℕ, ◌-◌, ◌≡◌, List, ◌∷◌, map, drop, Option, Bool}
+use Rattle.std.specs.Prelude.{ℕ, ◌+◌, ◌-◌, ◌^◌, ◌<◌, ◌≤◌, ◌≡◌, List, ◌∷◌, length, map, drop, Option, Bool}
 use Rattle.miette_source_lines.specs.rules.Lines.{Line, lines_from}
 use Rattle.miette_source_lines.specs.views.Walking.{line_of_text}
 use Rattle.miette_folds.specs.declared.folds.Fold.{Fold}
@@ -16,6 +16,13 @@ lines_of_bytes at = lines_from at.start at.bytes.now
 abbrev pub IsThere : PlacedLine → Type 0
 IsThere at = drop at.place (lines_of_bytes at)
     ≡ line_of_text at.line ∷ lines_from at.line.end (drop (at.line.end - at.start) at.bytes.now)
+
+-- so it is, and all numbers fit
+pub record IsPlaced (at : PlacedLine) : Type 0 where
+  pub small : at.start + length at.bytes.now < 2 ^ 64
+  pub place : at.place + 1 < 2 ^ 64
+  pub low : at.start ≤ at.line.end
+  pub there : IsThere at
 
 -- some folds are labels among these lines
 abbrev pub AreAmong : PlacedLine → List Fold → List MadeSpread → Type 0
