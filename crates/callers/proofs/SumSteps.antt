@@ -6,7 +6,7 @@ use Rattle.bstr.specs.Utf8.{pieces_from}
 use Rattle.unicode_width.specs.Width.{char_width}
 use Rattle.miette_runs.specs.rules.Runs.{print}
 use Rattle.miette_source_lines.specs.rules.Lines.{ends_line, line_end, line_of, line_start}
-use Rattle.miette_labels.specs.rules.Groups.{AreAccepted}
+use Rattle.miette_label_rules.specs.rules.Groups.{AreAccepted}
 use Rattle.miette_snippet_rules.specs.rules.PrintedCells.{cells_width}
 use Rattle.miette_tree.specs.rules.Tree.{Tree}
 use Rattle.miette_tree.specs.views.Handler.{AppendsOne}

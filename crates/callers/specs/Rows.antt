@@ -1,6 +1,6 @@
 -- The rows that callers ask for.
 use Rattle.std.specs.Prelude.{◌≡◌, ℕ, true, List, [], Some, chars, codes}
-use Rattle.miette_labels.specs.rules.Answers.{Answers, AlwaysReads}
+use Rattle.miette_label_rules.specs.rules.Answers.{Answers, AlwaysReads}
 use Rattle.miette_page.specs.views.Printouts.{ended_text, printout_of, ◌⊕◌}
 use Rattle.miette_page.specs.views.Tokens.{rows_tokens}
 use Rattle.miette_page.specs.rules.Rows.{Row}

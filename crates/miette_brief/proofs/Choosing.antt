@@ -14,7 +14,7 @@ use Rattle.miette_protocol.specs.views.Meaning.{Label}
 use Rattle.miette_tree.specs.rules.Diagnosis.{Section}
 use Rattle.miette_tree.specs.rules.Reads.{MayMeet, accepts, holds_further}
 use Rattle.miette_tree.proofs.Nesting.{Reads}
-use Rattle.miette_labels.specs.rules.Groups.{in_order}
+use Rattle.miette_label_rules.specs.rules.Groups.{in_order}
 use Rattle.miette_labels.proofs.OwnContexts.{order_all, order_nil}
 use Rattle.miette_brief.specs.rules.Rows.{Place}
 use Rattle.miette_brief.specs.rules.Places.{Spot, marked_in, first_in, spot_over, else_spot, found_further}

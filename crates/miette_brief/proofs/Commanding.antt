@@ -16,7 +16,7 @@ use Rattle.miette_tree.specs.rules.Diagnosis.{Diagnosis}
 use Rattle.miette_tree.specs.rules.Tree.{Tree, tree, Cause, diagnostic, texts, head, cause_of, causes_of}
 use Rattle.miette_tree.specs.rules.DiagnosticParts.{given_labels}
 use Rattle.miette_tree.specs.rules.Reads.{accepts, holds_further}
-use Rattle.miette_labels.specs.rules.Groups.{in_order}
+use Rattle.miette_label_rules.specs.rules.Groups.{in_order}
 use Rattle.miette_brief.specs.declared.escapes.Part.TheVariants.{Message, Property as InProperty}
 use Rattle.miette_brief.specs.declared.form.Form.{Form}
 use Rattle.miette_brief.specs.declared.form.Form.TheVariants.{Github}

@@ -17,7 +17,7 @@ use Rattle.miette_tree.specs.rules.Tree.{Tree, tree, Cause, diagnostic, texts, c
 use Rattle.miette_tree.specs.rules.Tree.{more_trees, effective}
 use Rattle.miette_tree.specs.rules.DiagnosticParts.{given_labels}
 use Rattle.miette_tree.specs.rules.Diagnosis.{Diagnosis, Section}
-use Rattle.miette_labels.specs.rules.Groups.{in_order, put_label}
+use Rattle.miette_label_rules.specs.rules.Groups.{in_order, put_label}
 use Rattle.miette_basics.proofs.Cases.{by_cases}
 use Rattle.miette_brief.specs.rules.Fixes.{FixedSource, no_source, unread, read, fixed_source, edit_row, fix_row}
 use Rattle.miette_brief.specs.rules.Fixes.{failed_rows, reason_text, applied_rows, rows_over, fix_rows, fixes_rows}

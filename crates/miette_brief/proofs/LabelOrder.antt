@@ -1,8 +1,8 @@
 -- Labels in the order in which they are told.
 use Rattle.std.proofs.Common.{◌≡◌, ◌∙◌, List, ap}
 use Rattle.miette_protocol.specs.views.Meaning.{Label}
-use Rattle.miette_labels.specs.rules.Groups.{in_order}
-use Rattle.miette_labels.specs.views.GivenLabels.{turned}
+use Rattle.miette_label_rules.specs.rules.Groups.{in_order}
+use Rattle.miette_labels.specs.views.Turns.{turned}
 use Rattle.miette_labels.specs.declared.order.Turn.{Turn}
 
 -- the same turns as a slice

@@ -14,7 +14,7 @@ use Rattle.miette_protocol.specs.rules.Reading.{Source, Span}
 use Rattle.miette_protocol.specs.views.Meaning.{Label}
 use Rattle.miette_tree.specs.rules.Diagnosis.{Diagnosis, Section}
 use Rattle.miette_tree.specs.rules.DiagnosticParts.{given_labels}
-use Rattle.miette_labels.specs.rules.Groups.{in_order}
+use Rattle.miette_label_rules.specs.rules.Groups.{in_order}
 use Rattle.miette_brief.specs.rules.Marks.{Mark, mark_over, further_marks, marks, else_at, is_placed, is_marked}
 use Rattle.miette_brief.specs.rules.Marks.{primary_at}
 use Rattle.miette_brief.specs.rules.Places.{Spot, spot_over, else_spot, marked_in, first_in, found_further}

@@ -9,7 +9,7 @@ use Rattle.std.proofs.lemmas.List.{drop_all}
 use Rattle.std.proofs.Math.Bool.{and-false}
 use Rattle.miette_protocol.specs.rules.Reading.{Source, Span, IsAccepted, is_accepted}
 use Rattle.miette_protocol.specs.views.Meaning.{Label}
-use Rattle.miette_labels.specs.rules.Contexts.{end_of_span}
+use Rattle.miette_label_rules.specs.rules.Contexts.{end_of_span}
 use Rattle.miette_brief.specs.rules.Rows.{rows_text}
 use Rattle.miette_brief.specs.rules.Places.{label_place}
 use Rattle.miette_brief.specs.rules.Report.{note_rows_of, note_rows}

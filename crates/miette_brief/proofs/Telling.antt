@@ -15,7 +15,7 @@ use Rattle.miette_tree.specs.rules.Reads.{AlwaysReads, holds_of, holds_of_all, a
 use Rattle.miette_tree.specs.rules.Reads.{holds_further}
 use Rattle.miette_tree.proofs.Nesting.{next_of}
 use Rattle.miette_tree.proofs.Readings.{fault_free}
-use Rattle.miette_labels.specs.rules.Groups.{in_order}
+use Rattle.miette_label_rules.specs.rules.Groups.{in_order}
 use Rattle.miette_brief.specs.rules.Rows.{Place, ReportRow, rows_text}
 use Rattle.miette_brief.specs.rules.Places.{diagnostic_place, cause_place, primary_spot, source_of_spot}
 use Rattle.miette_brief.specs.rules.Report.{BriefSettings, Answers, unlisted, listed, no_more, and_more}

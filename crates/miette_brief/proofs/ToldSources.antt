@@ -5,7 +5,7 @@ use Rattle.miette_tree.specs.rules.Tree.{Tree, tree, Cause, diagnostic, texts, T
 use Rattle.miette_tree.specs.rules.DiagnosticParts.{given_labels}
 use Rattle.miette_tree.specs.rules.Reads.{AlwaysReads, CauseAlwaysReads, AllAlwaysRead}
 use Rattle.miette_tree.proofs.Nesting.{Reads, effective_reads}
-use Rattle.miette_labels.specs.rules.Groups.{in_order}
+use Rattle.miette_label_rules.specs.rules.Groups.{in_order}
 use Rattle.miette_brief.specs.rules.ToldSources.{ToldReads, ToldAllRead, ToldCausesRead, ToldCauseReads}
 use Rattle.miette_brief.proofs.Choosing.{primary_reads}
 

@@ -12,7 +12,7 @@ use Rattle.miette_tree.specs.rules.Diagnosis.{Diagnosis}
 use Rattle.miette_tree.specs.rules.DiagnosticParts.{given_labels}
 use Rattle.miette_tree.specs.rules.Tree.{Tree, tree, Trees, effective, related_of}
 use Rattle.miette_tree.proofs.TreeSizes.{cause_size, tree_size, trees_size}
-use Rattle.miette_labels.specs.rules.Groups.{in_order, put_label}
+use Rattle.miette_label_rules.specs.rules.Groups.{in_order, put_label}
 use Rattle.miette_brief.specs.declared.form.Form.{Form}
 use Rattle.miette_brief.specs.declared.form.Form.TheVariants.{Gcc, Github}
 use Rattle.miette_brief.specs.declared.whole.Whole.{Whole}

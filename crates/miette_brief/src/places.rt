@@ -10,9 +10,9 @@ ghost use Rattle.miette_tree.specs.views.Attached.{section_of};
 ghost use Rattle.miette_brief.specs.steps.Reads.{AreKnown, IsUnread, IsReadAt, IsNamePlace, IsDiagnosticPlace};
 ghost use Rattle.miette_brief.specs.steps.Reads.{IsSourcePlace, IsCausePlace};
 ghost use Rattle.miette_brief.specs.rules.Places.{span_place as begin_of_span, primary_spot as primary_of};
-ghost use Rattle.miette_labels.specs.rules.Groups.{in_order};
+ghost use Rattle.miette_label_rules.specs.rules.Groups.{in_order};
 ghost use Rattle.miette_protocol.specs.rules.Reading.{IsAccepted};
-ghost use Rattle.miette_labels.specs.views.GivenLabels.{turned};
+ghost use Rattle.miette_labels.specs.views.Turns.{turned};
 ghost use Rattle.miette_brief.specs.steps.Conversions.{place_of};
 
 use crate::rows::Place;

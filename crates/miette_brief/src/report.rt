@@ -18,8 +18,8 @@ ghost use Rattle.miette_brief.specs.rules.Rows.{rows_text};
 ghost use Rattle.miette_brief.specs.steps.AppendedParts.{AppendsAdvice, AppendsCauses, AppendsLabelled, AppendsOwn};
 ghost use Rattle.miette_brief.specs.steps.Conversions.{place_of};
 ghost use Rattle.miette_brief.specs.steps.Reads.{AreKnown, IsUnread, IsReadAt, labels_accepted};
-ghost use Rattle.miette_labels.specs.rules.Groups.{in_order};
-ghost use Rattle.miette_labels.specs.views.GivenLabels.{turned};
+ghost use Rattle.miette_label_rules.specs.rules.Groups.{in_order};
+ghost use Rattle.miette_labels.specs.views.Turns.{turned};
 
 use crate::fixes::push_fixes;
 use crate::places::{cause_place, diagnostic_place, label_place};

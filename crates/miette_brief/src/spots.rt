@@ -4,8 +4,9 @@ ghost use Rattle.std.specs.Prelude.{◌≡◌, ◌<◌, ◌+◌, Some, IfOk, map
 ghost use Rattle.std.specs.List.{All};
 ghost use Rattle.miette_tree.specs.views.Attached.{section_of};
 ghost use Rattle.miette_tree.specs.views.Owned.{shown_source, source_shown};
-ghost use Rattle.miette_labels.specs.rules.Groups.{in_order};
-ghost use Rattle.miette_labels.specs.views.GivenLabels.{label_at, turned};
+ghost use Rattle.miette_label_rules.specs.rules.Groups.{in_order};
+ghost use Rattle.miette_label_rules.specs.views.GivenLabels.{label_at};
+ghost use Rattle.miette_labels.specs.views.Turns.{turned};
 ghost use Rattle.miette_brief.specs.rules.Places.{marked_in, first_in, spot_over, else_spot, found_further};
 ghost use Rattle.miette_brief.specs.rules.Places.{primary_spot as primary_of};
 ghost use Rattle.miette_brief.specs.steps.Conversions.{chosen_in, place_of};

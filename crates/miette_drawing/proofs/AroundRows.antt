@@ -1,14 +1,15 @@
 -- A snippet's rows by the labels that may touch it are those by all labels.
 use Rattle.miette_page.specs.views.Printouts.{Printout, ◌⊕◌}
 use Rattle.std.proofs.Common.{ℕ, zero, suc, ◌+◌, ◌-◌, ◌≤◌, ◌≡◌, ◌⊎◌, inl, inr, ⊎_elim, Bool, true, false, not}
-use Rattle.std.proofs.Common.{◌&&◌, ◌||◌, List, [], ◌∷◌, ◌++◌, length, map, drop, refl, sym, ap, ap₂, ◌∙◌, Option, Some, None, arith}
+use Rattle.std.proofs.Common.{◌&&◌, ◌||◌, List, [], ◌∷◌, ◌++◌, length, map, drop, refl, sym, ap, ap₂, ◌∙◌, Option, Some}
+use Rattle.std.proofs.Common.{None, arith}
 use Rattle.std.specs.List.{list_any}
 use Rattle.miette_source_lines.specs.rules.Lines as P
 use Rattle.miette_source_lines.specs.rules.Lines.{Line, IsCut}
 use Rattle.miette_source_lines.proofs.Cuts.{cut_from, cut_le}
 use Rattle.miette_highlight.specs.rules.HighlighterCalls.{Call}
 use Rattle.miette_page.specs.views.Tokens.{rows_tokens}
-use Rattle.miette_labels.specs.rules.Answers.{Highlight, first_of}
+use Rattle.miette_label_rules.specs.rules.Answers.{Highlight, first_of}
 use Rattle.miette_snippet_rules.specs.rules.Folds.{Spread, hides, is_around, is_hidden, leaves_out}
 use Rattle.miette_snippet_rules.specs.rules.Folds.{line_at, place_among}
 use Rattle.miette_snippet_rules.specs.rules.Settings.{SnippetSettings}

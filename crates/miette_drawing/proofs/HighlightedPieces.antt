@@ -6,14 +6,14 @@ use Rattle.miette_protocol.specs.views.Meaning.{Label}
 use Rattle.miette_protocol.specs.rules.Reading.{Span, Source, Contents}
 use Rattle.miette_highlight.specs.rules.Pieces.{CutsLine, Piece}
 use Rattle.miette_highlight.specs.rules.HighlighterCalls.{Call, asked, restarted, Leads}
-use Rattle.miette_labels.specs.rules.Answers.{Highlight, first_of}
-use Rattle.miette_labels.specs.rules.Contexts.{contents, lines_of_contents}
+use Rattle.miette_label_rules.specs.rules.Answers.{Highlight, first_of}
+use Rattle.miette_label_rules.specs.rules.Contexts.{contents, lines_of_contents}
 use Rattle.miette_snippet_rules.specs.rules.Folds.{Spread}
 use Rattle.miette_snippet_rules.specs.rules.Frames.{top_row, bottom_row, number_width}
 use Rattle.miette_snippet_rules.specs.rules.Gutters.{gutter_columns}
 use Rattle.miette_snippet_rules.specs.rules.Highlighting.{ArePieces, EachHasPieces, SnippetsHavePieces, highlight_of}
 use Rattle.miette_snippet_rules.specs.rules.Highlighting.{piece_of, texts_of, line_calls, group_calls}
-use Rattle.miette_labels.specs.rules.Labels.{DrawnLabel}
+use Rattle.miette_label_rules.specs.rules.Labels.{DrawnLabel}
 use Rattle.miette_snippet_rules.specs.rules.SnippetLayout.{line_or_break, rows_of_lines, left_out, cells_of}
 use Rattle.miette_snippet_rules.specs.rules.SnippetLayout.{drawn_labels, all_snippets, place_of}
 use Rattle.miette_snippet_rules.specs.rules.SnippetLayout.{snippet_context}

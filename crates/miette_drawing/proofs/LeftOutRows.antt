@@ -6,13 +6,13 @@ use Rattle.miette_source_lines.specs.rules.Lines as P
 use Rattle.miette_source_lines.specs.rules.Lines.{Line, IsCut}
 use Rattle.miette_highlight.specs.rules.HighlighterCalls.{Call}
 use Rattle.miette_page.specs.views.Tokens.{rows_tokens}
-use Rattle.miette_labels.specs.rules.Labels.{DrawnLabel}
+use Rattle.miette_label_rules.specs.rules.Labels.{DrawnLabel}
 use Rattle.miette_snippet_rules.specs.rules.Folds.{Spread, leaves_out}
 use Rattle.miette_snippet_rules.specs.rules.Highlighting.{ArePieces, decoded_text, line_calls}
 use Rattle.miette_snippet_rules.specs.rules.SnippetLayout.{line_or_break, left_out}
 use Rattle.miette_folds.specs.declared.folds.LineStart.{LineStart}
 use Rattle.miette_frames.specs.views.LentRows.{cells_in, text_in, texts_in}
-use Rattle.miette_frames.proofs.ReadRows.{AreLinedBefore, AreLined}
+use Rattle.miette_drawing.proofs.ReadRows.{AreLinedBefore, AreLined}
 use Rattle.miette_folds.proofs.GapLines.{IsBetween}
 use Rattle.miette_folds.proofs.LeftOutGaps.{first_between}
 use Rattle.miette_folds.proofs.Starts.{Begins, RunOf, run_of}

@@ -2,3 +2,4 @@ pub mod AroundRows
 pub mod LineRows
 pub mod LeftOutRows
 pub mod HighlightedPieces
+pub mod ReadRows

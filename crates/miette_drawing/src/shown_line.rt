@@ -1,6 +1,6 @@
 //! A line as its own rows show it.
 
-use miette_labels::sweep::PlacedLabel;
+use miette_label_rules::placed::PlacedLabel;
 use miette_style::style::Style;
 
 /// A line as its own rows show it.

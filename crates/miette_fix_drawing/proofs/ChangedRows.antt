@@ -8,7 +8,7 @@ use Rattle.miette_style.specs.rules.Styles.{plain}
 use Rattle.miette_protocol.specs.rules.Reading.{Span}
 use Rattle.miette_page.specs.rules.Rows.{Row, Run, styled_run}
 use Rattle.miette_page.specs.views.Tokens.{begins, row_end, row_tokens, rows_tokens, styled_tokens, text_tokens}
-use Rattle.miette_labels.specs.rules.Answers.{Highlight}
+use Rattle.miette_label_rules.specs.rules.Answers.{Highlight}
 use Rattle.miette_cells.specs.rules.Cells.{Cell}
 use Rattle.miette_snippet_rules.specs.rules.CutLines.{Stretch, cut_line_by, dots, dots_in, limit_of, reach_at}
 use Rattle.miette_snippet_rules.specs.rules.CutLines.{shown_marks, shown_runs}

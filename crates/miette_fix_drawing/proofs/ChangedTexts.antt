@@ -9,7 +9,7 @@ use Rattle.std.proofs.lemmas.Bool.Decides.{nat_tests}
 use Rattle.std.proofs.lemmas.List.{at_drop_more, at_drop_all, drop-drop, drop_all, length-drop}
 use Rattle.miette_style.specs.declared.style.Style.{Style}
 use Rattle.miette_style.specs.rules.Styles.{plain}
-use Rattle.miette_labels.specs.rules.Answers.{Highlight}
+use Rattle.miette_label_rules.specs.rules.Answers.{Highlight}
 use Rattle.miette_protocol.specs.rules.Reading.{Span}
 use Rattle.miette_page.specs.rules.Rows.{Glyph, Run}
 use Rattle.miette_page.specs.views.Printouts.{Printout, ◌⊕◌}

@@ -10,9 +10,9 @@ use Rattle.miette_page.specs.rules.Rows.{Row, Run, glyph_of}
 use Rattle.miette_page.specs.views.Tokens.{Token, begins, row_end, row_tokens, rows_tokens, run_tokens, styled_tokens}
 use Rattle.miette_page.specs.views.Tokens.{text_tokens}
 use Rattle.miette_page.proofs.Paging.{put_append, put_nil}
-use Rattle.miette_labels.specs.declared.sweep.PlacedLabel.{PlacedLabel}
-use Rattle.miette_labels.specs.rules.Labels.{DrawnLabel}
-use Rattle.miette_labels.specs.views.GivenLabels.{drawn_of}
+use Rattle.miette_label_rules.specs.declared.placed.PlacedLabel.{PlacedLabel}
+use Rattle.miette_label_rules.specs.rules.Labels.{DrawnLabel}
+use Rattle.miette_label_rules.specs.views.GivenLabels.{drawn_of}
 use Rattle.miette_snippet_rules.specs.declared.marks.Mark.{Mark as MadeMark}
 use Rattle.miette_snippet_rules.specs.rules.Drawing.{blank}
 use Rattle.miette_snippet_rules.specs.rules.Frames.{other_start}

@@ -3,7 +3,7 @@
 ghost use Rattle.std.specs.Prelude.{◌≡◌, ◌+◌, ◌∷◌, [], ◌++◌, ◌<◌, ◌^◌, length, map, if◌then◌else◌, IfOk, OnOk};
 ghost use Rattle.miette_page.specs.views.Printouts.{◌⊕◌};
 ghost use Rattle.miette_page.specs.views.Tokens.{row_tokens, rows_tokens};
-ghost use Rattle.miette_labels.specs.views.GivenLabels.{drawn_of};
+ghost use Rattle.miette_label_rules.specs.views.GivenLabels.{drawn_of};
 ghost use Rattle.miette_snippet_rules.specs.rules.Frames.{other_start};
 ghost use Rattle.miette_snippet_rules.specs.rules.Settings.{SnippetSettings as RuledSettings};
 ghost use Rattle.miette_snippet_rules.specs.views.MadeMarks.{mark_of};
@@ -16,7 +16,7 @@ use crate::changed_line::ChangedLine;
 use crate::digits::{Outcome, push_other_start};
 use crate::texts::text_of;
 use miette_frames::frame::Frame;
-use miette_labels::sweep::PlacedLabel;
+use miette_label_rules::placed::PlacedLabel;
 use miette_marks::marks::marks_on;
 use miette_page::canvas::Canvas;
 use miette_page::page::Page;

@@ -19,7 +19,7 @@ use Rattle.miette_fix_rows.specs.rules.DiffTexts.{Painted, edit_marks, has_bytes
 use Rattle.miette_fix_rows.specs.rules.DiffTexts.{line_text, look_alike, painted, part_in, parts_in, pieces, sign_runs}
 use Rattle.miette_fix_rows.specs.rules.DiffTexts.{text_of_line}
 use Rattle.miette_fix_rows.specs.rules.Hunks.{diff}
-use Rattle.miette_labels.specs.rules.Answers.{Highlight}
+use Rattle.miette_label_rules.specs.rules.Answers.{Highlight}
 use Rattle.miette_page.specs.rules.Rows.{Row, Run}
 use Rattle.miette_protocol.specs.rules.Reading.{Source, Span}
 use Rattle.miette_snippet_rules.specs.rules.CutLines.{Stretch, bytes_in, cut_line, cut_runs, dots, dots_in}

@@ -9,10 +9,11 @@ use Rattle.miette_source_lines.specs.rules.Lines.{Line, IsCut}
 use Rattle.miette_source_lines.specs.declared.lines.LineOfText.{LineOfText}
 use Rattle.miette_source_lines.specs.views.Walking.{line_of_text}
 use Rattle.miette_labels.specs.declared.sweep.Bounds.{Bounds}
-use Rattle.miette_labels.specs.declared.sweep.PlacedLabel.{PlacedLabel}
-use Rattle.miette_labels.specs.rules.Labels.{reach}
+use Rattle.miette_label_rules.specs.declared.placed.PlacedLabel.{PlacedLabel}
+use Rattle.miette_label_rules.specs.rules.Labels.{reach}
 use Rattle.miette_labels.specs.views.LabelCounts.{most_multi}
-use Rattle.miette_labels.specs.views.Sweeping.{line_of_bounds, passes, is_multi, nothing, start_at, AreSorted}
+use Rattle.miette_labels.specs.views.Sweeping.{line_of_bounds, passes, is_multi, start_at, AreSorted}
+use Rattle.miette_label_rules.specs.views.GivenLabels.{nothing}
 use Rattle.miette_labels.specs.views.Sweeping.{IsAt, IsOn}
 use Rattle.miette_source_lines.proofs.Cuts.{cut_le}
 use Rattle.miette_labels.proofs.Swept.{earlier_multi, inside_past, later_none}
@@ -23,7 +24,7 @@ use Rattle.miette_folds.specs.views.Gaps.{next_line, next_start}
 use Rattle.miette_folds.specs.steps.Counting.{begins_before, next_counted}
 use Rattle.miette_folds.proofs.GapLines.{next_begins, next_further}
 use Rattle.miette_folds.proofs.Starts.{Begins, RunOf, begins_end, begins_first, begins_next, run_of}
-use Rattle.miette_labels.specs.views.GivenLabels.{drawn_of}
+use Rattle.miette_label_rules.specs.views.GivenLabels.{drawn_of}
 
 -- ---- the labels on a later line of a gap
 

@@ -15,9 +15,9 @@ use Rattle.miette_protocol.specs.rules.Reading.{data_start, data_end}
 use Rattle.miette_protocol.specs.rules.Context.{last_line}
 use Rattle.miette_protocol.proofs.Wholes.{start_is, end_is, start_before_span, end_after_span, end_within}
 use Rattle.miette_labels.specs.declared.reading.ReadLabel.{ReadLabel}
-use Rattle.miette_labels.specs.rules.Around.{lines_around}
-use Rattle.miette_labels.specs.rules.Contexts.{end_of_span, contents, lines_of_contents}
-use Rattle.miette_labels.specs.views.GivenLabels.{label_at}
+use Rattle.miette_label_rules.specs.rules.Around.{lines_around}
+use Rattle.miette_label_rules.specs.rules.Contexts.{end_of_span, contents, lines_of_contents}
+use Rattle.miette_label_rules.specs.views.GivenLabels.{label_at}
 use Rattle.miette_labels.specs.views.Placing.{end_drawn}
 use Rattle.miette_labels.specs.views.Reads.{IsRead, IsLent}
 use Rattle.miette_snippet_rules.specs.rules.Folds.{place_among}

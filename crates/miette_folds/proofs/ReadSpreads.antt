@@ -5,18 +5,18 @@ use Rattle.std.specs.Prelude.{unwrap_or}
 use Rattle.miette_protocol.specs.views.Meaning.{Label}
 use Rattle.miette_protocol.specs.rules.Reading.{Span, Source, Contents}
 use Rattle.miette_labels.specs.declared.reading.ReadLabel.{ReadLabel}
-use Rattle.miette_labels.specs.rules.Around.{has_own}
-use Rattle.miette_labels.specs.rules.Contexts as C
-use Rattle.miette_labels.specs.rules.Contexts.{contents}
-use Rattle.miette_labels.specs.rules.Groups.{in_order}
-use Rattle.miette_labels.specs.views.GivenLabels.{label_at}
+use Rattle.miette_label_rules.specs.rules.Around.{has_own}
+use Rattle.miette_label_rules.specs.rules.Contexts as C
+use Rattle.miette_label_rules.specs.rules.Contexts.{contents}
+use Rattle.miette_label_rules.specs.rules.Groups.{in_order}
+use Rattle.miette_label_rules.specs.views.GivenLabels.{label_at}
 use Rattle.miette_labels.specs.views.Placing.{end_drawn}
 use Rattle.miette_labels.specs.views.Reads.{IsRead}
 use Rattle.miette_snippet_rules.specs.rules.Folds.{spread, spreads_of, last_byte}
 use Rattle.miette_folds.specs.views.ReadSpreads.{read_spread, read_spreads}
 use Rattle.miette_labels.proofs.OwnContexts.{own_ordered}
 use Rattle.miette_labels.proofs.RefusedLabel.{read_of}
-use Rattle.miette_snippet_rules.proofs.LabelEnds.{end_is}
+use Rattle.miette_labels.proofs.LabelEnds.{end_is}
 
 last_by : (o e n d : ℕ) → d ≡ max o (min e n) → max o (d - 1) ≡ max o (min e n - 1)
 last_by o e n d h = omega (arith, h)

@@ -5,12 +5,12 @@ ghost use Rattle.miette_folds.specs.views.ReadSpreads.{read_spread, read_spreads
 ghost use Rattle.miette_protocol.specs.rules.Reading.{Source};
 ghost use Rattle.miette_source_lines.specs.rules.Lines.{line_of};
 ghost use Rattle.miette_labels.specs.views.Placing.{end_drawn};
-ghost use Rattle.miette_labels.specs.views.GivenLabels.{label_at};
+ghost use Rattle.miette_label_rules.specs.views.GivenLabels.{label_at};
 ghost use Rattle.miette_labels.specs.views.Reads.{IsRead};
-ghost use Rattle.miette_labels.specs.rules.Contexts.{end_of_span};
+ghost use Rattle.miette_label_rules.specs.rules.Contexts.{end_of_span};
 ghost use Rattle.std.specs.List.{All};
 ghost use Rattle.miette_folds.specs.views.Spreads.{spread_of};
-ghost use Rattle.miette_labels.specs.rules.Around.{has_own};
+ghost use Rattle.miette_label_rules.specs.rules.Around.{has_own};
 ghost use Rattle.miette_folds.specs.steps.LineNumbers.{IsLineIn};
 
 use crate::folds::Spread;

@@ -6,13 +6,13 @@ use Rattle.std.proofs.Common.{get_or, refl, sym, ap, ◌∙◌}
 use Rattle.std.specs.Prelude.{not, ◌&&◌}
 use Rattle.std.proofs.lemmas.List.{at_drop_more, map-append}
 use Rattle.miette_source_lines.specs.rules.Lines.{Line}
-use Rattle.miette_labels.specs.declared.sweep.PlacedLabel.{PlacedLabel}
+use Rattle.miette_label_rules.specs.declared.placed.PlacedLabel.{PlacedLabel}
 use Rattle.miette_page.specs.rules.Rows.{Row}
-use Rattle.miette_labels.specs.rules.Labels.{DrawnLabel, starts_on, ends_on, cut_at_lf, closing_labels}
+use Rattle.miette_label_rules.specs.rules.Labels.{DrawnLabel, starts_on, ends_on, cut_at_lf, closing_labels}
 use Rattle.miette_snippet_rules.specs.rules.Gutters.{other_gutter, open_gutter, part_run, closing_parts, closing_rows}
 use Rattle.miette_snippet_rules.specs.rules.SnippetLayout.{before_each}
-use Rattle.miette_labels.specs.views.GivenLabels.{drawn_of}
-use Rattle.miette_labels.specs.views.Sweeping.{nothing}
+use Rattle.miette_label_rules.specs.views.GivenLabels.{drawn_of}
+use Rattle.miette_label_rules.specs.views.GivenLabels.{nothing}
 use Rattle.miette_page.specs.views.Tokens.{Token, row_end, row_tokens, rows_tokens, styled_tokens, text_tokens}
 use Rattle.miette_snippet_rules.proofs.RowTokens.{then, told_as, run_more, styled_row}
 use Rattle.miette_frames.proofs.TextRows.{before_mapped, row_done, rows_then, parts_then}

@@ -8,10 +8,10 @@ use Rattle.std.proofs.lemmas.Bool.{or_parts}
 use Rattle.std.proofs.lemmas.List.{at_drop_more, at_drop_all}
 use Rattle.miette_source_lines.specs.rules.Lines.{Line}
 use Rattle.miette_style.specs.declared.style.Style.{Style}
-use Rattle.miette_labels.specs.declared.sweep.PlacedLabel.{PlacedLabel}
+use Rattle.miette_label_rules.specs.declared.placed.PlacedLabel.{PlacedLabel}
 use Rattle.miette_page.specs.rules.Rows.{Row}
 use Rattle.miette_style.specs.rules.Styles.{plain}
-use Rattle.miette_labels.specs.rules.Labels.{DrawnLabel, starts_on, ends_on, parts_of}
+use Rattle.miette_label_rules.specs.rules.Labels.{DrawnLabel, starts_on, ends_on, parts_of}
 use Rattle.miette_snippet_rules.specs.rules.Drawing.{blank}
 use Rattle.miette_snippet_rules.specs.rules.Gutters.{bar, number_gutter, other_gutter, open_gutter, ending_corner}
 use Rattle.miette_snippet_rules.specs.rules.Gutters.{arrow}
@@ -19,8 +19,8 @@ use Rattle.miette_frames.specs.declared.gutters.GutterEnd.{GutterEnd}
 use Rattle.miette_frames.specs.declared.gutters.GutterEnd.TheVariants as ends
 use Rattle.miette_frames.specs.views.GutterEnds.{gutter_with, stops, gutter_end}
 use Rattle.miette_frames.proofs.TextLines.{cut_some}
-use Rattle.miette_labels.specs.views.GivenLabels.{drawn_of}
-use Rattle.miette_labels.specs.views.Sweeping.{nothing}
+use Rattle.miette_label_rules.specs.views.GivenLabels.{drawn_of}
+use Rattle.miette_label_rules.specs.views.GivenLabels.{nothing}
 use Rattle.miette_page.specs.views.Tokens.{Token, row_tokens, styled_tokens, text_tokens}
 use Rattle.miette_basics.proofs.Cases.{by_cases}
 use Rattle.miette_snippet_rules.proofs.RowTokens.{styled_told, styled_row, blank_row, told-append, then, run_one}

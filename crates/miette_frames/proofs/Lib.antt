@@ -4,4 +4,3 @@ pub mod GutterRows
 pub mod TextLines
 pub mod MarkRows
 pub mod TextRows
-pub mod ReadRows

@@ -11,7 +11,7 @@ use Rattle.miette_style.specs.declared.style.Style.{Style}
 use Rattle.miette_snippet_rules.specs.declared.marks.Mark.{Mark as MadeMark}
 use Rattle.miette_page.specs.rules.Rows.{glyph_of}
 use Rattle.miette_style.specs.rules.Styles.{plain}
-use Rattle.miette_labels.specs.rules.Labels.{parts_of, is_empty}
+use Rattle.miette_label_rules.specs.rules.Labels.{parts_of, is_empty}
 use Rattle.miette_snippet_rules.specs.rules.Marks.{Mark}
 use Rattle.miette_snippet_rules.specs.rules.Drawing.{mark_code, mark_run, mark_runs, code_with_parts}
 use Rattle.miette_snippet_rules.specs.views.MadeMarks.{mark_of}

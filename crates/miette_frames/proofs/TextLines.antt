@@ -8,7 +8,7 @@ use Rattle.std.proofs.lemmas.Bool.{and_parts}
 use Rattle.std.proofs.lemmas.List.{get_or-append-add}
 use Rattle.std.proofs.lemmas.Str.{encode_ascii, encodes-append, encodes-chars, chars-encodes, scalars-chars}
 use Rattle.std.proofs.lemmas.Str.{IsUtf8-take, IsUtf8-drop, IsCharBoundary-before_ascii, IsCharBoundary-after_ascii}
-use Rattle.miette_labels.specs.rules.Labels.{cut_at_lf}
+use Rattle.miette_label_rules.specs.rules.Labels.{cut_at_lf}
 use Rattle.miette_basics.proofs.Cases.{by_cases}
 use Rattle.miette_basics.specs.rules.Lists.{onto}
 

@@ -8,7 +8,7 @@ use Rattle.miette_style.specs.declared.style.Style.{Style}
 use Rattle.miette_snippet_rules.specs.declared.marks.Mark.{Mark as MadeMark}
 use Rattle.miette_page.specs.rules.Rows.{Row, styled_run}
 use Rattle.miette_style.specs.rules.Styles.{plain}
-use Rattle.miette_labels.specs.rules.Labels.{cut_at_lf}
+use Rattle.miette_label_rules.specs.rules.Labels.{cut_at_lf}
 use Rattle.miette_snippet_rules.specs.rules.Marks.{Mark}
 use Rattle.miette_snippet_rules.specs.rules.Drawing.{blank, lead_runs, text_row, beside, corner_of_several}
 use Rattle.miette_snippet_rules.specs.rules.Drawing.{rows_of_parts, rows_below}

@@ -3,11 +3,11 @@
 ghost use Rattle.std.specs.Prelude.{◌≡◌, ◌∷◌, [], not, ◌&&◌, chars, map, OnOk};
 ghost use Rattle.miette_page.specs.views.Printouts.{◌⊕◌};
 ghost use Rattle.miette_page.specs.views.Tokens.{rows_tokens};
-ghost use Rattle.miette_labels.specs.rules.Labels.{starts_on, ends_on, cut_at_lf, closing_labels};
+ghost use Rattle.miette_label_rules.specs.rules.Labels.{starts_on, ends_on, cut_at_lf, closing_labels};
 ghost use Rattle.miette_snippet_rules.specs.rules.Gutters.{closing_parts, closing_rows};
 ghost use Rattle.miette_snippet_rules.specs.rules.Frames.{other_start};
 ghost use Rattle.miette_snippet_rules.specs.rules.SnippetLayout.{before_each};
-ghost use Rattle.miette_labels.specs.views.GivenLabels.{drawn_of};
+ghost use Rattle.miette_label_rules.specs.views.GivenLabels.{drawn_of};
 ghost use Rattle.miette_frames.specs.views.LineContexts.{settings, multi_labels, part_line, open_line};
 ghost use Rattle.miette_source_lines.specs.views.Walking.{line_of_text};
 
@@ -16,7 +16,7 @@ use crate::gutters::{GutterEnd, ends, push_gutter, starts};
 use crate::label_text::{first_part, push_part};
 use crate::line_context::LineContext;
 use crate::texts::push_other_start;
-use miette_labels::sweep::PlacedLabel;
+use miette_label_rules::placed::PlacedLabel;
 use miette_page::canvas::Canvas;
 use miette_page::page::Page;
 use miette_source_lines::lines::LineOfText;

@@ -3,16 +3,16 @@
 ghost use Rattle.std.specs.Prelude.{◌≡◌, ◌++◌, ◌-◌, ◌∷◌, [], replicate, map, OnOk, if◌then◌else◌};
 ghost use Rattle.miette_page.specs.views.Printouts.{◌⊕◌};
 ghost use Rattle.miette_page.specs.views.Tokens.{row_tokens, styled_tokens};
-ghost use Rattle.miette_labels.specs.rules.Labels.{starts_on, ends_on};
+ghost use Rattle.miette_label_rules.specs.rules.Labels.{starts_on, ends_on};
 ghost use Rattle.miette_snippet_rules.specs.rules.Gutters.{bar, break_gutter, ending_corner};
-ghost use Rattle.miette_labels.specs.views.GivenLabels.{drawn_of};
+ghost use Rattle.miette_label_rules.specs.views.GivenLabels.{drawn_of};
 ghost use Rattle.miette_frames.specs.views.LineContexts.{settings, multi_labels};
 ghost use Rattle.miette_frames.specs.views.GutterEnds.{stops, gutter_end, gutter_with};
 ghost use Rattle.miette_source_lines.specs.views.Walking.{line_of_text};
 
 use crate::frame::Outcome;
 use crate::line_context::LineContext;
-use miette_labels::sweep::PlacedLabel;
+use miette_label_rules::placed::PlacedLabel;
 use miette_page::canvas::Canvas;
 use miette_page::page::{PLAIN, Page};
 use miette_source_lines::lines::LineOfText;

@@ -1,7 +1,7 @@
 //! The parts of a label's text, which is cut at each LF, and the row's end that holds one.
 
 ghost use Rattle.std.specs.Prelude.{◌≡◌, ◌++◌, ◌<◌, ◌∷◌, [], chars, length, option_copied, IfSome, OnOk};
-ghost use Rattle.miette_labels.specs.rules.Labels.{cut_at_lf, parts_of};
+ghost use Rattle.miette_label_rules.specs.rules.Labels.{cut_at_lf, parts_of};
 ghost use Rattle.miette_page.specs.views.Printouts.{◌⊕◌};
 ghost use Rattle.miette_page.specs.views.Tokens.{row_end, styled_tokens};
 

@@ -1,7 +1,7 @@
 //! What the rows of one line are drawn with.
 
 use crate::frame::Frame;
-use miette_labels::sweep::PlacedLabel;
+use miette_label_rules::placed::PlacedLabel;
 use miette_source_lines::lines::LineOfText;
 
 /// What all rows of a line are drawn with.

@@ -4,11 +4,11 @@ ghost use Rattle.std.specs.Prelude.{◌≡◌, ◌+◌, ◌∷◌, [], chars, ma
 ghost use Rattle.std.specs.List.{All};
 ghost use Rattle.miette_page.specs.views.Printouts.{◌⊕◌};
 ghost use Rattle.miette_page.specs.views.Tokens.{row_tokens, rows_tokens};
-ghost use Rattle.miette_labels.specs.rules.Labels.{cut_at_lf};
+ghost use Rattle.miette_label_rules.specs.rules.Labels.{cut_at_lf};
 ghost use Rattle.miette_snippet_rules.specs.rules.Drawing.{lead_runs, beside, rows_of_parts, rows_below};
 ghost use Rattle.miette_snippet_rules.specs.rules.Frames.{other_start};
 ghost use Rattle.miette_snippet_rules.specs.rules.SnippetLayout.{before_each};
-ghost use Rattle.miette_labels.specs.views.GivenLabels.{drawn_of};
+ghost use Rattle.miette_label_rules.specs.views.GivenLabels.{drawn_of};
 ghost use Rattle.miette_snippet_rules.specs.views.MadeMarks.{mark_of, IsAnchored};
 ghost use Rattle.miette_frames.specs.views.LineContexts.{settings, before_marks, text_line};
 

@@ -15,12 +15,13 @@ use Rattle.miette_protocol.specs.rules.Reading.{Span, Source, Contents, IsAccept
 use Rattle.miette_protocol.proofs.Wholes.{start_before_span, end_within}
 use Rattle.miette_labels.specs.declared.grouping.Group.{Group}
 use Rattle.miette_labels.specs.declared.reading.ReadLabel.{ReadLabel}
-use Rattle.miette_labels.specs.rules.Around.{has_own, lines_around}
-use Rattle.miette_labels.specs.rules.Contexts.{contents, end_of_span}
-use Rattle.miette_labels.specs.views.GivenLabels.{label_at}
-use Rattle.miette_labels.specs.rules.Groups.{in_order, spans_of, joined_span, stretch, by_begin}
-use Rattle.miette_labels.specs.rules.Groups.{stretches_from, joined_stretches, own_groups, groups_answered, groups_of}
-use Rattle.miette_labels.specs.rules.Groups.{some_fails}
+use Rattle.miette_label_rules.specs.rules.Around.{has_own, lines_around}
+use Rattle.miette_label_rules.specs.rules.Contexts.{contents, end_of_span}
+use Rattle.miette_label_rules.specs.views.GivenLabels.{label_at}
+use Rattle.miette_label_rules.specs.rules.Groups.{in_order, spans_of, joined_span, stretch, by_begin}
+use Rattle.miette_label_rules.specs.rules.Groups.{stretches_from, joined_stretches, own_groups, groups_answered}
+use Rattle.miette_label_rules.specs.rules.Groups.{groups_of}
+use Rattle.miette_label_rules.specs.rules.Groups.{some_fails}
 use Rattle.miette_labels.specs.views.Reads.{IsRead, IsLent, AreGroups, AreGrouped}
 use Rattle.miette_basics.proofs.Cases.{by_cases}
 use Rattle.miette_labels.proofs.NoFailures.{none_unread}

@@ -8,8 +8,8 @@ use Rattle.std.proofs.lemmas.List.Elements.{All-push}
 use Rattle.miette_protocol.specs.rules.Reading.{Span, Source, IsAccepted}
 use Rattle.miette_labels.specs.declared.grouping.Group.{Group}
 use Rattle.miette_labels.specs.declared.reading.ReadLabel.{ReadLabel}
-use Rattle.miette_labels.specs.rules.Answers.{NoneFails, next_answer}
-use Rattle.miette_labels.specs.rules.Groups.{joined_span, joins_before, groups_from, groups_answered}
+use Rattle.miette_label_rules.specs.rules.Answers.{NoneFails, next_answer}
+use Rattle.miette_label_rules.specs.rules.Groups.{joined_span, joins_before, groups_from, groups_answered}
 use Rattle.miette_labels.specs.views.Reads.{IsLent}
 use Rattle.miette_basics.proofs.Cases.{by_cases}
 use Rattle.miette_labels.specs.steps.Reads.{AreJoined}

@@ -7,3 +7,5 @@ pub mod RefusedLabel
 pub mod SortedLabels
 pub mod Swept
 pub mod KnownLabels
+pub mod LabelEnds
+pub mod SourceEnd

@@ -3,10 +3,10 @@ use Rattle.std.proofs.Common.{ℕ, ◌≡◌, Bool, false, if◌then◌else◌, 
 use Rattle.std.proofs.lemmas.Bool.{and_right}
 use Rattle.miette_protocol.specs.views.Meaning.{Label}
 use Rattle.miette_protocol.specs.rules.Reading.{Source, Span}
-use Rattle.miette_labels.specs.rules.Answers.{next_answer, NoneFails}
-use Rattle.miette_labels.specs.rules.Around.{has_own}
-use Rattle.miette_labels.specs.rules.Groups.{joins_before, joined_span, groups_from, groups_answered, own_groups}
-use Rattle.miette_labels.specs.rules.Groups.{groups_of, spans_of, some_fails, groups_fail}
+use Rattle.miette_label_rules.specs.rules.Answers.{next_answer, NoneFails}
+use Rattle.miette_label_rules.specs.rules.Around.{has_own}
+use Rattle.miette_label_rules.specs.rules.Groups.{joins_before, joined_span, groups_from, groups_answered, own_groups}
+use Rattle.miette_label_rules.specs.rules.Groups.{groups_of, spans_of, some_fails, groups_fail}
 
 pub next_none : (fails : List Bool) → NoneFails fails → next_answer fails ≡ false
 next_none [] h = refl

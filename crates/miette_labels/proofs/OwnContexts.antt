@@ -5,8 +5,8 @@ use Rattle.std.specs.Prelude.{unwrap_or, is_some}
 use Rattle.std.specs.List.{list_all, list_any, AllByRecursion}
 use Rattle.miette_protocol.specs.views.Meaning.{Label}
 use Rattle.miette_basics.specs.rules.Lists.{is_nil}
-use Rattle.miette_labels.specs.rules.Around.{has_own, lines_around}
-use Rattle.miette_labels.specs.rules.Groups.{in_order, put_label}
+use Rattle.miette_label_rules.specs.rules.Around.{has_own, lines_around}
+use Rattle.miette_label_rules.specs.rules.Groups.{in_order, put_label}
 use Rattle.miette_basics.proofs.Cases.{by_cases}
 use Rattle.miette_labels.proofs.SortedLabels.{in_order_is, sorted_all, sorted_any, sorted_each}
 

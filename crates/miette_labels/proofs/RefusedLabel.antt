@@ -16,11 +16,11 @@ use Rattle.miette_labels.specs.declared.order.Turn.{Turn}
 use Rattle.miette_labels.specs.declared.reading.ReadLabel.{ReadLabel}
 use Rattle.miette_labels.specs.declared.reading.ReadLabels.TheVariants as reads
 use Rattle.miette_labels.specs.declared.reading.RefusalReason.{RefusalReason}
-use Rattle.miette_labels.specs.rules.Answers.{next_answer, NoneFails}
-use Rattle.miette_labels.specs.rules.Around.{has_own, contents_around}
-use Rattle.miette_labels.specs.rules.Contexts.{contents}
-use Rattle.miette_labels.specs.views.GivenLabels.{label_at}
-use Rattle.miette_labels.specs.rules.Groups.{refusal, AreAccepted}
+use Rattle.miette_label_rules.specs.rules.Answers.{next_answer, NoneFails}
+use Rattle.miette_label_rules.specs.rules.Around.{has_own, contents_around}
+use Rattle.miette_label_rules.specs.rules.Contexts.{contents}
+use Rattle.miette_label_rules.specs.views.GivenLabels.{label_at}
+use Rattle.miette_label_rules.specs.rules.Groups.{refusal, AreAccepted}
 use Rattle.miette_labels.specs.views.Reads.{IsRead, AreRead, name_of}
 use Rattle.miette_basics.proofs.Cases.{by_cases}
 use Rattle.miette_labels.proofs.NoFailures.{later_none, next_none}

@@ -16,8 +16,8 @@ use Rattle.std.proofs.lemmas.List.Sorted.{IsPermutation-sym, IsPermutation-trans
 use Rattle.std.proofs.lemmas.List.Sorted.{list_any-IsPermutation}
 use Rattle.std.proofs.Common.{IsPermutation}
 use Rattle.miette_labels.specs.declared.order.Turn.{Turn}
-use Rattle.miette_labels.specs.views.GivenLabels.{label_at}
-use Rattle.miette_labels.specs.rules.Groups.{put_label, in_order, spans_of, put_span, by_begin}
+use Rattle.miette_label_rules.specs.views.GivenLabels.{label_at}
+use Rattle.miette_label_rules.specs.rules.Groups.{put_label, in_order, spans_of, put_span, by_begin}
 use Rattle.miette_basics.proofs.Cases.{by_cases}
 
 abbrev pub put : {X : Type 0} → (X → ℕ) → X → List X → List X

@@ -4,11 +4,12 @@ use Rattle.std.proofs.Common.{length, take, get_or, refl, sym, ap, ◌∙◌, �
 use Rattle.std.proofs.lemmas.Bool.{lt-ltb, le-ltb, le-leb, lt-leb, ltb-true, ltb-false, cases_lt, eqb-false}
 use Rattle.std.proofs.Math.Seq.{take-nil}
 use Rattle.std.specs.List.{filter}
-use Rattle.miette_labels.specs.declared.sweep.PlacedLabel.{PlacedLabel}
+use Rattle.miette_label_rules.specs.declared.placed.PlacedLabel.{PlacedLabel}
 use Rattle.miette_labels.specs.declared.sweep.Bounds.{Bounds}
-use Rattle.miette_labels.specs.rules.Labels.{reach}
-use Rattle.miette_labels.specs.views.GivenLabels.{drawn_of}
-use Rattle.miette_labels.specs.views.Sweeping.{line_of_bounds, passes, is_one, is_multi, nothing, start_at}
+use Rattle.miette_label_rules.specs.rules.Labels.{reach}
+use Rattle.miette_label_rules.specs.views.GivenLabels.{drawn_of}
+use Rattle.miette_labels.specs.views.Sweeping.{line_of_bounds, passes, is_one, is_multi, start_at}
+use Rattle.miette_label_rules.specs.views.GivenLabels.{nothing}
 use Rattle.miette_labels.specs.views.Sweeping.{AreSorted, IsAt, IsOn}
 use Rattle.miette_basics.proofs.Cases.{by_cases}
 

@@ -1,5 +1,5 @@
 -- What the code's values stand for.
-pub mod GivenLabels
+pub mod Turns
 pub mod Placing
 pub mod Primary
 pub mod Reads

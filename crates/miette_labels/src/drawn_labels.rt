@@ -1,14 +1,14 @@
 //! Labels as they are drawn.
 
 ghost use Rattle.std.specs.Prelude.{option_copied, ◌≡◌, map, IfOk};
-ghost use Rattle.miette_labels.specs.rules.Labels.{style_at};
-ghost use Rattle.miette_labels.specs.views.GivenLabels.{text_at};
+ghost use Rattle.miette_label_rules.specs.rules.Labels.{style_at};
+ghost use Rattle.miette_label_rules.specs.views.GivenLabels.{text_at};
 ghost use Rattle.miette_labels.specs.views.Placing.{placed_of, placed_from, placed_one, end_drawn, is_told};
 ghost use Rattle.miette_labels.specs.views.Placing.{lends_before, told_end};
 
 use crate::reading::ReadLabel;
 use crate::spans::end_of;
-use crate::sweep::PlacedLabel;
+use miette_label_rules::placed::PlacedLabel;
 use miette_protocol::protocol::LabeledSpan;
 use miette_style::style::Style;
 use std::alloc::{AllocError, Global};

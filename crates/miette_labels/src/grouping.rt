@@ -4,8 +4,9 @@ ghost use Rattle.std.specs.Prelude.{◌≡◌, ◌≢◌, ◌+◌, nat_le, true,
 ghost use Rattle.std.specs.List.{All};
 ghost use Rattle.std.specs.Option.{option_map};
 ghost use Rattle.miette_protocol.specs.rules.Reading.{IsAccepted};
-ghost use Rattle.miette_labels.specs.rules.Groups.{in_order, joined_span, joins_before, by_begin, joined_stretches};
-ghost use Rattle.miette_labels.specs.views.GivenLabels.{label_at};
+ghost use Rattle.miette_label_rules.specs.rules.Groups.{in_order, joined_span, joins_before, by_begin};
+ghost use Rattle.miette_label_rules.specs.rules.Groups.{joined_stretches};
+ghost use Rattle.miette_label_rules.specs.views.GivenLabels.{label_at};
 ghost use Rattle.miette_labels.specs.views.Reads.{IsLent, IsRead, AreGrouped};
 ghost use Rattle.miette_labels.specs.steps.Reads.{AreJoined};
 

@@ -6,7 +6,8 @@ ghost use Rattle.miette_labels.specs.views.Sweeping.{IsAt, IsOn, AreSorted, is_o
 ghost use Rattle.miette_source_lines.specs.rules.Lines.{lines_from};
 ghost use Rattle.miette_source_lines.specs.views.Walking.{line_of_text};
 
-use crate::sweep::{Bounds, PlacedLabel, Sweep};
+use crate::sweep::{Bounds, Sweep};
+use miette_label_rules::placed::PlacedLabel;
 use miette_source_lines::lines::{LineOfText, first_line};
 use std::alloc::AllocError;
 

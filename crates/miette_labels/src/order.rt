@@ -2,8 +2,9 @@
 
 ghost use Rattle.std.specs.Prelude.{◌≡◌, ◌<◌, length, IfOk};
 ghost use Rattle.std.specs.List.{All};
-ghost use Rattle.miette_labels.specs.views.GivenLabels.{label_at, turned};
-ghost use Rattle.miette_labels.specs.rules.Groups.{in_order};
+ghost use Rattle.miette_label_rules.specs.views.GivenLabels.{label_at};
+ghost use Rattle.miette_labels.specs.views.Turns.{turned};
+ghost use Rattle.miette_label_rules.specs.rules.Groups.{in_order};
 
 use miette_protocol::protocol::LabeledSpan;
 use std::alloc::{AllocError, Global};

@@ -2,8 +2,8 @@
 
 ghost use Rattle.std.specs.Prelude.{◌≡◌, ◌<◌, map, length, IfOk, unwrap_or, if◌then◌else◌, max};
 ghost use Rattle.std.specs.List.{All};
-ghost use Rattle.miette_labels.specs.rules.Around.{has_own};
-ghost use Rattle.miette_labels.specs.views.GivenLabels.{label_at};
+ghost use Rattle.miette_label_rules.specs.rules.Around.{has_own};
+ghost use Rattle.miette_label_rules.specs.views.GivenLabels.{label_at};
 ghost use Rattle.miette_labels.specs.views.Reads.{AreRead};
 ghost use Rattle.miette_labels.specs.steps.Reads.{Reason};
 

@@ -1,8 +1,8 @@
 //! Where spans end, and spans joined.
 
 ghost use Rattle.std.specs.Prelude.{◌≡◌, IfOk};
-ghost use Rattle.miette_labels.specs.rules.Contexts.{end_of_span};
-ghost use Rattle.miette_labels.specs.rules.Groups.{joined_span};
+ghost use Rattle.miette_label_rules.specs.rules.Contexts.{end_of_span};
+ghost use Rattle.miette_label_rules.specs.rules.Groups.{joined_span};
 
 use miette_protocol::protocol::{SourceOffset, SourceSpan};
 use std::alloc::AllocError;

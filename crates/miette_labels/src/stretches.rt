@@ -1,7 +1,7 @@
 //! Where the bytes that labels' reads lent lie, and these places joined.
 
 ghost use Rattle.std.specs.Prelude.{◌≡◌, map, IfOk};
-ghost use Rattle.miette_labels.specs.rules.Groups.{by_begin, joined_stretches};
+ghost use Rattle.miette_label_rules.specs.rules.Groups.{by_begin, joined_stretches};
 
 use crate::reading::ReadLabel;
 use crate::spans::{end_of, join};

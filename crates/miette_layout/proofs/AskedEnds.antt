@@ -15,11 +15,11 @@ use Rattle.miette_protocol.specs.rules.Outcome.{Refuses}
 use Rattle.miette_protocol.specs.rules.Reading.{Contents, IsAccepted, Source, Span}
 use Rattle.miette_protocol.specs.declared.error.MietteError.{MietteError}
 use Rattle.miette_protocol.specs.declared.error.MietteError.TheVariants as errors
-use Rattle.miette_labels.specs.rules.Answers.{Answers}
-use Rattle.miette_labels.specs.rules.Around.{has_own, lines_around}
-use Rattle.miette_labels.specs.rules.Contexts.{contents}
-use Rattle.miette_labels.specs.rules.Groups.{in_order, refusal}
-use Rattle.miette_labels.specs.rules.Labels.{is_at_end, shows_end, some_shows_end}
+use Rattle.miette_label_rules.specs.rules.Answers.{Answers}
+use Rattle.miette_label_rules.specs.rules.Around.{has_own, lines_around}
+use Rattle.miette_label_rules.specs.rules.Contexts.{contents}
+use Rattle.miette_label_rules.specs.rules.Groups.{in_order, refusal}
+use Rattle.miette_label_rules.specs.rules.Labels.{is_at_end, shows_end, some_shows_end}
 use Rattle.miette_page.specs.rules.Rows.{Row}
 use Rattle.miette_page.specs.views.Printouts.{Printout, ◌⊕◌}
 use Rattle.miette_page.specs.views.Tokens.{rows_tokens}
@@ -27,7 +27,7 @@ use Rattle.miette_snippet_rules.specs.declared.options.LayoutOptions.{LayoutOpti
 use Rattle.miette_snippet_rules.specs.rules.Frames.{refused_row}
 use Rattle.miette_snippet_rules.specs.rules.Settings.{SnippetSettings}
 use Rattle.miette_snippet_rules.specs.rules.SnippetLayout.{asks_for_end, end_lines, rows_unless}
-use Rattle.miette_snippet_rules.proofs.SourceEnd.{any_same, tells}
+use Rattle.miette_labels.proofs.SourceEnd.{any_same, tells}
 use Rattle.miette_layout.specs.views.Outcomes.{GivesAround, MayGive, Printing}
 use Rattle.miette_layout.specs.views.SourceEnds.{AreEndLines, AsksForEnd, TellsEnd, asks_at, last_offset}
 

@@ -9,10 +9,10 @@ use Rattle.miette_protocol.specs.rules.Reading.{Span, Source, IsAccepted}
 use Rattle.miette_labels.specs.declared.primary.Place.{Place as Found}
 use Rattle.miette_labels.specs.declared.primary.Place.TheVariants as places
 use Rattle.miette_labels.specs.declared.reading.ReadLabel.{ReadLabel}
-use Rattle.miette_labels.specs.rules.Around.{has_own}
-use Rattle.miette_labels.specs.rules.Contexts.{contents}
+use Rattle.miette_label_rules.specs.rules.Around.{has_own}
+use Rattle.miette_label_rules.specs.rules.Contexts.{contents}
 use Rattle.miette_snippet_rules.specs.rules.Frames.{Place}
-use Rattle.miette_labels.specs.views.GivenLabels.{label_at}
+use Rattle.miette_label_rules.specs.views.GivenLabels.{label_at}
 use Rattle.miette_snippet_rules.specs.rules.SnippetLayout.{is_within, first_marked, primary_of, begins_at, place_of}
 use Rattle.miette_labels.specs.views.Primary.{lies_within, chosen_label, PointsTo, begins_of, is_unread}
 use Rattle.miette_labels.specs.views.Reads.{IsRead}

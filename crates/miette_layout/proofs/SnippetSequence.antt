@@ -19,21 +19,21 @@ use Rattle.miette_labels.specs.declared.reading.ReadLabels.{ReadLabels}
 use Rattle.miette_labels.specs.declared.reading.ReadLabels.TheVariants as reads
 use Rattle.miette_labels.specs.declared.reading.RefusalReason.{RefusalReason}
 use Rattle.miette_labels.specs.declared.reading.RefusalReason.TheVariants as reasons
-use Rattle.miette_labels.specs.declared.sweep.PlacedLabel.{PlacedLabel}
+use Rattle.miette_label_rules.specs.declared.placed.PlacedLabel.{PlacedLabel}
 use Rattle.miette_page.specs.rules.Rows.{Row}
-use Rattle.miette_labels.specs.rules.Answers.{Answers, Highlight, first_of}
-use Rattle.miette_labels.specs.rules.Around.{has_own, group_context}
-use Rattle.miette_labels.specs.rules.Contexts.{contents, lines_of_contents}
+use Rattle.miette_label_rules.specs.rules.Answers.{Answers, Highlight, first_of}
+use Rattle.miette_label_rules.specs.rules.Around.{has_own, group_context}
+use Rattle.miette_label_rules.specs.rules.Contexts.{contents, lines_of_contents}
 use Rattle.miette_layout.specs.views.Outcomes.{GivesAround}
 use Rattle.miette_snippet_rules.specs.rules.Folds.{Spread, spreads_of}
 use Rattle.miette_snippet_rules.specs.rules.Frames.{Place, refused_row, top_row, bottom_row}
 use Rattle.miette_snippet_rules.specs.rules.Frames.{number_width}
-use Rattle.miette_labels.specs.views.GivenLabels.{drawn_of, label_at}
+use Rattle.miette_label_rules.specs.views.GivenLabels.{drawn_of, label_at}
 use Rattle.miette_snippet_rules.specs.rules.Gutters.{gutter_columns}
-use Rattle.miette_labels.specs.rules.Groups.{in_order, refusal, groups_of, some_fails, AreAccepted}
+use Rattle.miette_label_rules.specs.rules.Groups.{in_order, refusal, groups_of, some_fails, AreAccepted}
 use Rattle.miette_snippet_rules.specs.rules.Highlighting.{EachHasPieces, SnippetsHavePieces, texts_of, line_calls}
 use Rattle.miette_snippet_rules.specs.rules.Highlighting.{group_calls}
-use Rattle.miette_labels.specs.rules.Labels.{DrawnLabel, drawn_from, some_shows_end}
+use Rattle.miette_label_rules.specs.rules.Labels.{DrawnLabel, drawn_from, some_shows_end}
 use Rattle.miette_snippet_rules.specs.rules.SnippetLayout.{snippet, all_snippets, drawn_labels, line_or_break, left_out}
 use Rattle.miette_snippet_rules.specs.rules.SnippetLayout.{settings_around, rows_unless, place_of, body_rows}
 use Rattle.miette_frames.specs.views.LentRows.{cells_in, lent_snippet, PutsRows}
@@ -44,11 +44,11 @@ use Rattle.miette_page.specs.views.Tokens.{rows_tokens}
 use Rattle.miette_labels.proofs.RefusedLabel.{none_refused}
 use Rattle.miette_labels.proofs.NoFailures.{some_none}
 use Rattle.miette_layout.proofs.PrimaryOfReads.{framed_place, place_is, unread_fails}
-use Rattle.miette_snippet_rules.proofs.LabelEnds.{placed_drawn}
-use Rattle.miette_snippet_rules.proofs.SourceEnd.{told_is, drawn_around}
+use Rattle.miette_labels.proofs.LabelEnds.{placed_drawn}
+use Rattle.miette_labels.proofs.SourceEnd.{shows_around, told_is}
 use Rattle.miette_drawing.proofs.HighlightedPieces.{snippets_plain, calls_plain}
 use Rattle.miette_labels.specs.views.Sweeping.{AreSorted}
-use Rattle.miette_frames.proofs.ReadRows.{placed_sorted, lent_body, lent_texts, lent_texts_are}
+use Rattle.miette_drawing.proofs.ReadRows.{placed_sorted, lent_body, lent_texts, lent_texts_are}
 use Rattle.miette_snippet_rules.proofs.RowTokens.{told_rows-append}
 use Rattle.miette_snippet_rules.proofs.NoPieces.{none_have}
 use Rattle.miette_labels.proofs.OwnContexts.{own_ordered}
@@ -56,6 +56,12 @@ use Rattle.miette_labels.proofs.RefusedLabel.{read_of, all_accepted}
 use Rattle.miette_labels.proofs.SortedLabels.{label_got}
 use Rattle.miette_snippet_rules.specs.rules.SnippetLayout.{snippet_context, rows_of_lines}
 use Rattle.miette_snippet_rules.specs.rules.Settings.{SnippetSettings}
+
+-- the drawn labels are the same with either number
+drawn_around : (s : SnippetSettings) (n : ℕ) (ls : List Label) → drawn_labels (settings_around s ls) n ls
+    ≡ drawn_labels s n ls
+drawn_around s n ls = ap (λ b. drawn_from (s.layout.end_labels && b) s.theme.styles.highlights n 0 ls)
+    (shows_around s.layout.context_lines n ls)
 
 -- a group's span
 abbrev pub spans_grouped : List Group → List Span

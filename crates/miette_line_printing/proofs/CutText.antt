@@ -9,7 +9,7 @@ use Rattle.miette_style.specs.rules.Styles.{plain}
 use Rattle.miette_page.specs.rules.Rows.{Run}
 use Rattle.miette_page.specs.views.Tokens.{begins, row_tokens}
 use Rattle.miette_page.proofs.Paging.{put_append, put_nil}
-use Rattle.miette_labels.specs.rules.Answers.{Highlight}
+use Rattle.miette_label_rules.specs.rules.Answers.{Highlight}
 use Rattle.miette_cells.specs.declared.cells.PlainCells.{PlainCells}
 use Rattle.miette_cells.specs.views.Printable.{plain_cells}
 use Rattle.miette_cells.specs.views.Walking.{ComeFirst}

@@ -11,7 +11,7 @@ use Rattle.bstr.proofs.lemmas.PieceLemmas.{pieces-sizes, sizes}
 use Rattle.miette_cells.specs.rules.Cells.{Cell, cells_from, hides_next, width_at}
 use Rattle.miette_cells.specs.rules.Widths.{width_of}
 use Rattle.miette_cells.proofs.Stepping.{character}
-use Rattle.miette_labels.specs.rules.Groups.{AreAccepted}
+use Rattle.miette_label_rules.specs.rules.Groups.{AreAccepted}
 use Rattle.miette_protocol.specs.rules.Reading.{IsAccepted}
 use Rattle.miette_protocol.specs.views.Meaning.{Label}
 use Rattle.miette_source_lines.specs.rules.Lines.{Line, IsCut, is_terminated, lines_of}

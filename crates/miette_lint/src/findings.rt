@@ -6,7 +6,7 @@ ghost use Rattle.std.specs.List.{last_or};
 ghost use Rattle.std.specs.Option.{option_map};
 ghost use Rattle.miette_source_lines.specs.views.Walking.{line_of_text};
 ghost use Rattle.miette_cells.specs.views.Walking.{cell_of};
-ghost use Rattle.miette_labels.specs.rules.Groups.{AreAccepted};
+ghost use Rattle.miette_label_rules.specs.rules.Groups.{AreAccepted};
 ghost use Rattle.miette_lint.specs.rules.Findings.{cells_of, finding, findings_of, line_findings, misplaced_tab};
 ghost use Rattle.miette_lint.specs.rules.Findings.{missing_terminator, overlong, too_wide, trailing_space};
 

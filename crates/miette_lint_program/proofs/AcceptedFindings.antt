@@ -1,6 +1,6 @@
 -- The labels of what is found in a source are accepted.
 use Rattle.std.proofs.Common.{◌≡◌, ℕ, List, sym, subst}
-use Rattle.miette_labels.specs.rules.Groups.{AreAccepted}
+use Rattle.miette_label_rules.specs.rules.Groups.{AreAccepted}
 use Rattle.miette_protocol.specs.views.Meaning.{Label, Meaning}
 use Rattle.miette_tree.specs.rules.DiagnosticParts.{given_labels}
 use Rattle.miette_lint_program.specs.views.LintReports.{warning}

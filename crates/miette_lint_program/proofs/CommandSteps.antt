@@ -10,7 +10,7 @@ use Rattle.miette.specs.Meaning.{Label}
 use Rattle.miette.specs.Reading.{named_source, plain_source}
 use Rattle.miette_brief.specs.rules.Report as rows
 use Rattle.miette_labels.proofs.RefusedLabel.{accepted_is}
-use Rattle.miette_labels.specs.rules.Groups.{AreAccepted}
+use Rattle.miette_label_rules.specs.rules.Groups.{AreAccepted}
 use Rattle.miette_lint.proofs.AcceptedFindings.{findings_accepted}
 use Rattle.miette_lint.specs.rules.Coded.{Coded, coded_findings}
 use Rattle.miette_lint.specs.rules.Findings.{findings_of}

@@ -3,7 +3,7 @@
 ghost use Rattle.std.specs.Prelude.{◌≡◌, ◌↔◌, ◌⊎◌, ◌<◌, false, true, IfOk, IfSome, IsTrue, OnErr, map, string_bytes};
 ghost use Rattle.std.specs.Io.KnownBytes.{Appends};
 ghost use Rattle.miette.specs.Diagnostic.{meaning_of};
-ghost use Rattle.miette_labels.specs.rules.Groups.{AreAccepted};
+ghost use Rattle.miette_label_rules.specs.rules.Groups.{AreAccepted};
 ghost use Rattle.miette_devices.specs.views.Device.{TakesBeginning};
 ghost use Rattle.miette_devices.specs.views.Endings.{IsFailure, IsFound};
 ghost use Rattle.miette_lint_program.specs.views.LintReports.{commands_of, count_text, warning, CallIsClean, CallLints};

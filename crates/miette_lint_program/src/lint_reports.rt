@@ -3,7 +3,7 @@
 ghost use Rattle.std.specs.Prelude.{◌≡◌, ◌++◌, IfOk, OnOk, None, false, map, string_bytes};
 ghost use Rattle.miette.specs.Report.{tree_of};
 ghost use Rattle.miette.specs.Tree.{trees};
-ghost use Rattle.miette_labels.specs.rules.Groups.{AreAccepted};
+ghost use Rattle.miette_label_rules.specs.rules.Groups.{AreAccepted};
 ghost use Rattle.miette_lint.specs.views.Found.{coded_of};
 ghost use Rattle.miette_tree.specs.rules.Reads.{AllAlwaysRead, accepts, holds_of_all};
 ghost use Rattle.miette_lint_program.specs.rules.Logs.{finding_tree, finding_trees};

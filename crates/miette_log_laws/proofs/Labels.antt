@@ -4,7 +4,7 @@ use Rattle.std.specs.Prelude.{◌&&◌, IfSome, if◌then◌else◌, is_none, na
 use Rattle.std.specs.List.{AllByRecursion}
 use Rattle.std.proofs.lemmas.Bool.{and_parts, not-false}
 use Rattle.miette_basics.specs.rules.Lists.{is_nil}
-use Rattle.miette_labels.specs.rules.Groups.{in_order, put_label}
+use Rattle.miette_label_rules.specs.rules.Groups.{in_order, put_label}
 use Rattle.miette_protocol.specs.views.Meaning.{Label}
 use Rattle.miette_sarif.specs.rules.Findings.{Mark, SeenSource}
 use Rattle.miette_sarif.specs.rules.Marks.{Group, Picked, first_picked, is_told, mark_over}

@@ -8,9 +8,9 @@ use Rattle.std.specs.List.{list_any}
 use Rattle.miette_basics.proofs.Cases.{by_cases}
 use Rattle.miette_basics.specs.rules.Lists.{onto}
 use Rattle.miette_source_lines.specs.rules.Lines.{Line}
-use Rattle.miette_labels.specs.declared.sweep.PlacedLabel.{PlacedLabel}
-use Rattle.miette_labels.specs.rules.Labels.{cut_at_lf, ends_on, parts_of, starts_on}
-use Rattle.miette_labels.specs.views.GivenLabels.{drawn_of}
+use Rattle.miette_label_rules.specs.declared.placed.PlacedLabel.{PlacedLabel}
+use Rattle.miette_label_rules.specs.rules.Labels.{cut_at_lf, ends_on, parts_of, starts_on}
+use Rattle.miette_label_rules.specs.views.GivenLabels.{drawn_of}
 use Rattle.miette_snippet_rules.specs.declared.marks.Mark.{Mark as MadeMark}
 use Rattle.miette_snippet_rules.specs.rules.CutEnds.{hung_at, mark_ends, spread_ends}
 use Rattle.miette_snippet_rules.specs.rules.Marks.{Text}

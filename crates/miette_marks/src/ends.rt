@@ -3,8 +3,8 @@
 ghost use Rattle.std.specs.Prelude.{◌≡◌, ◌+◌, ◌++◌, ◌<◌, ◌^◌, map, length, IfOk, OnOk};
 ghost use Rattle.std.specs.List.{list_any};
 ghost use Rattle.miette_source_lines.specs.views.Walking.{line_of_text};
-ghost use Rattle.miette_labels.specs.rules.Labels.{starts_on, ends_on};
-ghost use Rattle.miette_labels.specs.views.GivenLabels.{drawn_of};
+ghost use Rattle.miette_label_rules.specs.rules.Labels.{starts_on, ends_on};
+ghost use Rattle.miette_label_rules.specs.views.GivenLabels.{drawn_of};
 ghost use Rattle.miette_snippet_rules.specs.rules.CutEnds.{hung_at, mark_ends, spread_ends};
 ghost use Rattle.miette_snippet_rules.specs.rules.SnippetLayout.{text_of_cells};
 ghost use Rattle.miette_snippet_rules.specs.views.MadeMarks.{mark_of};
@@ -12,7 +12,7 @@ ghost use Rattle.miette_snippet_rules.specs.views.LineTexts.{text_cells};
 ghost use Rattle.miette_marks.specs.steps.Ends.{has_end, spread_end};
 
 use crate::marks::Columns;
-use miette_labels::sweep::PlacedLabel;
+use miette_label_rules::placed::PlacedLabel;
 use miette_snippet_rules::line_text::LineText;
 use miette_snippet_rules::marks::Mark;
 use miette_source_lines::lines::LineOfText;

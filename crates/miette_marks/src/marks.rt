@@ -8,7 +8,7 @@ ghost use Rattle.miette_snippet_rules.specs.rules.PrintedCells.{last_column as l
 ghost use Rattle.miette_cells.specs.rules.Cells.{cells_from, characters};
 ghost use Rattle.miette_snippet_rules.specs.rules.Marks.{label_from, mark_from, mark_until, mark_anchor, marks};
 ghost use Rattle.miette_snippet_rules.specs.rules.SnippetLayout.{text_of_cells};
-ghost use Rattle.miette_labels.specs.views.GivenLabels.{drawn_of};
+ghost use Rattle.miette_label_rules.specs.views.GivenLabels.{drawn_of};
 ghost use Rattle.miette_cells.specs.rules.Widths.{width_of};
 ghost use Rattle.miette_snippet_rules.specs.views.MadeMarks.{mark_of, IsAnchored};
 ghost use Rattle.miette_marks.specs.steps.Stops.{IsStop, IsStopFor, column_in, stops_at};
@@ -17,7 +17,7 @@ ghost use Rattle.miette_line_columns.specs.views.Passing.{ComeFrom};
 use miette_basics::sums::sum;
 use miette_cells::cells::{Cell, PlainCells, Walk};
 use miette_cells::plain::plain_len;
-use miette_labels::sweep::PlacedLabel;
+use miette_label_rules::placed::PlacedLabel;
 use miette_line_columns::passing::{Passage, pass_cells, pass_plain};
 use miette_snippet_rules::marks::Mark;
 use miette_source_lines::lines::LineOfText;

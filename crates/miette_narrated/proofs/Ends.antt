@@ -9,7 +9,7 @@ use Rattle.std.proofs.lemmas.Bool.Decides.{nat_tests}
 use Rattle.std.proofs.lemmas.List.Elements.{filter_agree}
 use Rattle.std.proofs.Math.Bool.{and_comm}
 use Rattle.miette_source_lines.specs.rules.Lines.{Line}
-use Rattle.miette_labels.specs.declared.sweep.PlacedLabel.{PlacedLabel}
+use Rattle.miette_label_rules.specs.declared.placed.PlacedLabel.{PlacedLabel}
 use Rattle.miette_labels.proofs.SortedLabels.{put, sorted, Rises, at_key, same_list, sorted_rises, sorted_at}
 use Rattle.miette_labels.proofs.SortedLabels.{rises_from}
 use Rattle.miette_labels.proofs.SortedLabels.{sort_is}

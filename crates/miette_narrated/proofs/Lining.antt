@@ -8,7 +8,7 @@ use Rattle.miette_source_lines.specs.rules.Lines.{Line, lines_from, ends_line, w
 use Rattle.miette_source_lines.specs.declared.lines.LineOfText.{LineOfText}
 use Rattle.miette_source_lines.specs.views.Walking.{Rest, IsFirst, behind, line_of_text, lines_left}
 use Rattle.miette_protocol.specs.rules.Reading.{Contents}
-use Rattle.miette_labels.specs.rules.Contexts.{lines_of_contents}
+use Rattle.miette_label_rules.specs.rules.Contexts.{lines_of_contents}
 use Rattle.miette_basics.proofs.Cases.{by_cases}
 use Rattle.miette_narrated.specs.rules.Labels.{LabelRange, SnippetLine}
 use Rattle.miette_narrated.specs.rules.Lines.{snippet_line, rows_of_line, rows_of_lines}

@@ -9,17 +9,17 @@ use Rattle.std.proofs.Math.Seq.{drop-cons}
 use Rattle.std.proofs.lemmas.Bool.{leb-true, leb-false, and_parts}
 use Rattle.miette_protocol.specs.views.Meaning.{Label}
 use Rattle.miette_protocol.specs.rules.Reading.{Span, Source, IsAccepted, contents_of, is_accepted}
-use Rattle.miette_labels.specs.declared.sweep.PlacedLabel.{PlacedLabel}
+use Rattle.miette_label_rules.specs.declared.placed.PlacedLabel.{PlacedLabel}
 use Rattle.miette_labels.specs.declared.grouping.Group.{Group}
 use Rattle.miette_labels.specs.declared.reading.ReadLabel.{ReadLabel}
 use Rattle.miette_labels.specs.declared.reading.RefusalReason.{RefusalReason}
 use Rattle.miette_labels.specs.declared.reading.ReadLabels.{ReadLabels}
 use Rattle.miette_labels.specs.declared.reading.ReadLabels.TheVariants as reads
-use Rattle.miette_labels.specs.rules.Answers.{NoneFails}
-use Rattle.miette_labels.specs.rules.Contexts.{contents, end_of_span}
-use Rattle.miette_labels.specs.rules.Around.{has_own, lines_around, group_context}
-use Rattle.miette_labels.specs.rules.Groups.{put_label, in_order, refusal, AreAccepted, groups_of, some_fails}
-use Rattle.miette_labels.specs.rules.Groups as groups
+use Rattle.miette_label_rules.specs.rules.Answers.{NoneFails}
+use Rattle.miette_label_rules.specs.rules.Contexts.{contents, end_of_span}
+use Rattle.miette_label_rules.specs.rules.Around.{has_own, lines_around, group_context}
+use Rattle.miette_label_rules.specs.rules.Groups.{put_label, in_order, refusal, AreAccepted, groups_of, some_fails}
+use Rattle.miette_label_rules.specs.rules.Groups as groups
 use Rattle.miette_labels.specs.views.Placing.{Placed, placed_of, placed_one, placed_from}
 use Rattle.miette_labels.specs.views.Reads.{IsRead, AreRead, IsLent, AreGroups, AreGrouped, IsUnread}
 use Rattle.miette_basics.proofs.Cases.{by_cases}

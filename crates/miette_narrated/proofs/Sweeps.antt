@@ -4,7 +4,7 @@ use Rattle.std.proofs.Common.{◌||◌, take, drop, refl, sym, ap, ap₂, ◌∙
 use Rattle.std.specs.Prelude.{if◌then◌else◌}
 use Rattle.std.specs.List.{filter}
 use Rattle.std.proofs.lemmas.Bool.{leb-false, lt-leb}
-use Rattle.miette_labels.specs.declared.sweep.PlacedLabel.{PlacedLabel}
+use Rattle.miette_label_rules.specs.declared.placed.PlacedLabel.{PlacedLabel}
 use Rattle.miette_basics.proofs.Cases.{by_cases}
 use Rattle.miette_narrated.specs.rules.Labels.{SnippetLine, ends_before, whole_row, start_row, end_row, label_row}
 use Rattle.miette_narrated.specs.rules.Labels.{label_rows}

@@ -7,8 +7,8 @@ use Rattle.miette_protocol.specs.views.Meaning.{Label}
 use Rattle.miette_tree.proofs.Readings.{own_holds}
 use Rattle.miette_tree.specs.rules.Tree.{Tree, tree, Trees, no_trees, more_trees, trees, effective, head, source_of}
 use Rattle.miette_tree.specs.rules.Tree.{cause_of, causes_of, related_of}
-use Rattle.miette_labels.specs.rules.Around.{group_context}
-use Rattle.miette_labels.specs.rules.Groups.{in_order}
+use Rattle.miette_label_rules.specs.rules.Around.{group_context}
+use Rattle.miette_label_rules.specs.rules.Groups.{in_order}
 use Rattle.miette_labels.proofs.NoFailures.{grouped_none}
 use Rattle.miette_tree.specs.rules.Answers.{AnswerTrees}
 use Rattle.miette_narrated.specs.rules.Labels.{label_range}

@@ -8,7 +8,7 @@ ghost use Rattle.miette_narrated.specs.steps.Ends.{is_begun, is_ended, ends_with
 ghost use Rattle.miette_narrated.specs.steps.Ends.{AreEnds, IsOrder};
 ghost use Rattle.miette_narrated.specs.steps.Sweeping.{AreOrdered};
 
-use miette_labels::sweep::PlacedLabel;
+use miette_label_rules::placed::PlacedLabel;
 use miette_source_lines::lines::LineOfText;
 use std::alloc::{AllocError, Global};
 

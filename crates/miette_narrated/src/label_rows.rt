@@ -13,7 +13,7 @@ use crate::narrated_line::NarratedLine;
 use crate::words::push_number;
 use miette_basics::sums::sum;
 use miette_columns::text_columns::TextColumns;
-use miette_labels::sweep::PlacedLabel;
+use miette_label_rules::placed::PlacedLabel;
 use std::alloc::{AllocError, Global};
 
 /// Whether a label begins on the line or behind it.

@@ -1,7 +1,7 @@
 //! The rows of a snippet's lines.
 
 ghost use Rattle.std.specs.Prelude.{◌≡◌, false, ◌++◌, ◌+◌, ◌<◌, ◌≤◌, ◌^◌, length, OnOk, string_bytes};
-ghost use Rattle.miette_labels.specs.rules.Contexts.{lines_of_contents};
+ghost use Rattle.miette_label_rules.specs.rules.Contexts.{lines_of_contents};
 ghost use Rattle.miette_source_lines.specs.views.Walking.{line_of_text};
 ghost use Rattle.miette_narrated.specs.steps.Conversions.{ranges_of, narrated_line};
 ghost use Rattle.miette_narrated.specs.rules.Lines.{snippet_line, line_row, rows_of_line, rows_of_lines};

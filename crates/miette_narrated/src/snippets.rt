@@ -3,8 +3,8 @@
 ghost use Rattle.std.specs.Prelude.{◌≡◌, ◌++◌, ◌+◌, false, Some, map, decimal, OnOk};
 ghost use Rattle.std.specs.Prelude.{string_bytes, option_copied};
 ghost use Rattle.std.specs.List.{All};
-ghost use Rattle.miette_labels.specs.rules.Groups.{in_order};
-ghost use Rattle.miette_labels.specs.views.GivenLabels.{label_at};
+ghost use Rattle.miette_label_rules.specs.rules.Groups.{in_order};
+ghost use Rattle.miette_label_rules.specs.views.GivenLabels.{label_at};
 ghost use Rattle.miette_labels.specs.views.Reads.{IsRead};
 ghost use Rattle.miette_narrated.specs.steps.Conversions.{ranges_of};
 ghost use Rattle.miette_tree.specs.rules.Reads.{accepts};

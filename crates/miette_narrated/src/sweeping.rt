@@ -5,7 +5,7 @@ ghost use Rattle.std.specs.List.{filter};
 ghost use Rattle.miette_narrated.specs.steps.Sweeping.{reaches, IsAt, BeginsFrom};
 
 use crate::label_order::LabelOrder;
-use miette_labels::sweep::PlacedLabel;
+use miette_label_rules::placed::PlacedLabel;
 use std::alloc::{AllocError, Global};
 
 /// A sweep that has come to a place: how many labels have come, and those of them that reach the place.

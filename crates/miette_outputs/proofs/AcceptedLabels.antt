@@ -2,7 +2,7 @@
 use Rattle.std.proofs.Common.{◌≡◌, ℕ, false, true, List, refl, sym, ap, ◌∙◌}
 use Rattle.std.proofs.lemmas.Bool.{and_from, or_right}
 use Rattle.miette_basics.specs.rules.Lists.{is_nil}
-use Rattle.miette_labels.specs.rules.Groups.{AreAccepted}
+use Rattle.miette_label_rules.specs.rules.Groups.{AreAccepted}
 use Rattle.miette_protocol.specs.views.Meaning.{Meaning}
 use Rattle.miette_tree.specs.rules.DiagnosticParts.{given_labels}
 use Rattle.miette_tree.specs.rules.Reads.{report_accepted}

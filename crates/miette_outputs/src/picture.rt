@@ -4,7 +4,7 @@ ghost use Rattle.std.specs.Prelude.{◌≡◌, string_bytes, IfOk};
 ghost use Rattle.miette.specs.Diagnostic.{meaning_of};
 ghost use Rattle.miette.specs.Report.{tree_of};
 ghost use Rattle.miette_tree.specs.rules.DiagnosticParts.{given_labels};
-ghost use Rattle.miette_labels.specs.rules.Groups.{AreAccepted};
+ghost use Rattle.miette_label_rules.specs.rules.Groups.{AreAccepted};
 ghost use Rattle.miette_brief.specs.rules.Report.{brief, unlisted};
 ghost use Rattle.miette_brief.specs.rules.Report.{default_settings as brief_settings};
 ghost use Rattle.miette_picture_rules.specs.views.Handling.{without_highlighter};

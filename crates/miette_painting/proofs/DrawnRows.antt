@@ -4,13 +4,13 @@ use Rattle.std.proofs.Common.{ap, ap₂, ◌∙◌, subst, Option, Some, None, i
 use Rattle.std.proofs.lemmas.Bool.{cases_Bool}
 use Rattle.miette_protocol.specs.views.Meaning.{Label}
 use Rattle.miette_protocol.specs.rules.Reading.{Source}
-use Rattle.miette_labels.specs.rules.Answers.{Highlight, AlwaysReads}
+use Rattle.miette_label_rules.specs.rules.Answers.{Highlight, AlwaysReads}
 use Rattle.miette_highlight.specs.rules.HighlighterCalls.{Call}
 use Rattle.miette_layout.specs.views.Outcomes.{MayGive}
 use Rattle.miette_snippet_rules.specs.rules.Settings as snippets
 use Rattle.miette_snippet_rules.specs.rules.Frames.{refused_row}
-use Rattle.miette_labels.specs.rules.Around.{group_context}
-use Rattle.miette_labels.specs.rules.Groups.{refusal, groups_of, in_order}
+use Rattle.miette_label_rules.specs.rules.Around.{group_context}
+use Rattle.miette_label_rules.specs.rules.Groups.{refusal, groups_of, in_order}
 use Rattle.miette_snippet_rules.specs.rules.Highlighting.{SnippetsHavePieces, calls_of_labels, group_calls}
 use Rattle.miette_snippet_rules.specs.rules.Highlighting.{snippet_calls}
 use Rattle.miette_snippet_rules.specs.rules.SnippetLayout.{snippet_rows, rows_unless}

@@ -10,7 +10,7 @@ use Rattle.miette_cells.specs.rules.Cells.{Cell, cells_from, characters}
 use Rattle.miette_cells.specs.views.Printable.{is_printable}
 use Rattle.miette_cells.proofs.Plaining.{plain_byte, printable_character}
 use Rattle.miette_cells.proofs.Stepping.{cells_end}
-use Rattle.miette_labels.specs.rules.Labels.{multi_line, one_line}
+use Rattle.miette_label_rules.specs.rules.Labels.{multi_line, one_line}
 use Rattle.miette_page.specs.rules.Rows.{glyph_of}
 use Rattle.miette_runs.specs.rules.Runs.{print}
 use Rattle.miette_snippet_rules.specs.rules.CutLines.{dots, shown_runs}

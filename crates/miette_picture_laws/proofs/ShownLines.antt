@@ -6,10 +6,10 @@ use Rattle.std.specs.List.{AllByRecursion}
 use Rattle.std.proofs.Math.Seq.{drop-nil}
 use Rattle.std.proofs.lemmas.List.{length-map, map-append}
 use Rattle.miette_cells.specs.rules.Widths.{width_of}
-use Rattle.miette_labels.specs.rules.Answers.{Highlight, first_of}
-use Rattle.miette_labels.specs.rules.Contexts.{contents, lines_in}
-use Rattle.miette_labels.specs.rules.Groups.{in_order}
-use Rattle.miette_labels.specs.rules.Labels.{DrawnLabel}
+use Rattle.miette_label_rules.specs.rules.Answers.{Highlight, first_of}
+use Rattle.miette_label_rules.specs.rules.Contexts.{contents, lines_in}
+use Rattle.miette_label_rules.specs.rules.Groups.{in_order}
+use Rattle.miette_label_rules.specs.rules.Labels.{DrawnLabel}
 use Rattle.miette_page.specs.rules.Rows.{Row}
 use Rattle.miette_protocol.specs.views.Meaning.{Label}
 use Rattle.miette_protocol.specs.rules.Reading.{Source, Span}

@@ -3,10 +3,10 @@ use Rattle.std.proofs.Common.{◌≡◌, ℕ, Bool, ◌||◌, if◌then◌else�
 use Rattle.std.proofs.Common.{drop}
 use Rattle.miette_protocol.specs.views.Meaning.{Label}
 use Rattle.miette_protocol.specs.rules.Reading.{Source, is_accepted}
-use Rattle.miette_labels.specs.rules.Answers.{Highlight, NoneFails, AlwaysReads}
+use Rattle.miette_label_rules.specs.rules.Answers.{Highlight, NoneFails, AlwaysReads}
 use Rattle.miette_snippet_rules.specs.rules.Folds.{spreads_of}
 use Rattle.miette_snippet_rules.specs.rules.Settings as snippets
-use Rattle.miette_labels.specs.rules.Groups.{refusal, groups_of}
+use Rattle.miette_label_rules.specs.rules.Groups.{refusal, groups_of}
 use Rattle.miette_snippet_rules.specs.rules.SnippetLayout.{rows_of_groups, settings_around, all_snippets}
 use Rattle.miette_picture_rules.specs.rules.Answers.{SourceAnswer, pieces_listed}
 use Rattle.miette_labels.proofs.NoFailures.{next_none, later_none, some_none, none_unread, grouped_none}

@@ -14,12 +14,12 @@ use Rattle.miette_protocol.specs.views.Meaning.{Label}
 use Rattle.miette_protocol.specs.rules.Context.{first_line, last_line}
 use Rattle.miette_protocol.specs.rules.Reading.{Source, Span, reading_end}
 use Rattle.miette_protocol.proofs.Wholes.{offset-le-reading}
-use Rattle.miette_labels.specs.rules.Around.{has_own, lines_around}
-use Rattle.miette_labels.specs.rules.Groups.{AreAccepted, in_order}
-use Rattle.miette_labels.specs.rules.Labels.{is_at_end, shows_end, some_shows_end}
+use Rattle.miette_label_rules.specs.rules.Around.{has_own, lines_around}
+use Rattle.miette_label_rules.specs.rules.Groups.{AreAccepted, in_order}
+use Rattle.miette_label_rules.specs.rules.Labels.{is_at_end, shows_end, some_shows_end}
 use Rattle.miette_snippet_rules.specs.rules.SnippetLayout.{asks_for_end}
 use Rattle.miette_snippet_rules.specs.rules.Snippets.{is_in_context, is_shown}
-use Rattle.miette_snippet_rules.proofs.SourceEnd.{shows_around}
+use Rattle.miette_labels.proofs.SourceEnd.{shows_around}
 use Rattle.miette_row_laws.specs.laws.Ends.{asks_ends, draws_ends}
 use Rattle.miette_row_laws.proofs.EndLabels.{shows_ordered}
 use Rattle.miette_picture_rules.specs.rules.Settings.{Settings}

@@ -6,7 +6,7 @@ use Rattle.std.proofs.lemmas.Bool.{cases_lt}
 use Rattle.miette_protocol.specs.rules.Reading.{Span, reading_end}
 use Rattle.miette_protocol.specs.views.Meaning.{Label}
 use Rattle.miette_source_lines.specs.rules.Lines.{line_of, lines_of}
-use Rattle.miette_labels.specs.rules.Around.{lines_around}
+use Rattle.miette_label_rules.specs.rules.Around.{lines_around}
 use Rattle.miette_snippet_rules.specs.rules.Snippets.{is_in_context, is_shown, shown_numbers}
 use Rattle.miette_printed_laws.specs.laws.LabelLines.{HasItsLines}
 

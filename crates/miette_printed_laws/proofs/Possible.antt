@@ -8,9 +8,9 @@ use Rattle.miette_picture_rules.specs.rules.Sources.{LabelledSource, snippets_af
 use Rattle.miette_picture_rules.specs.rules.Sources.{styles_after}
 use Rattle.std.proofs.Math.Nat.{mod-one}
 use Rattle.miette_tree.specs.rules.Tree.{effective, Tree, tree, Cause, diagnostic, texts, Trees, no_trees, more_trees}
-use Rattle.miette_labels.specs.rules.Answers as snippet_answers
-use Rattle.miette_labels.specs.rules.Around.{group_context}
-use Rattle.miette_labels.specs.rules.Groups.{groups_of, in_order}
+use Rattle.miette_label_rules.specs.rules.Answers as snippet_answers
+use Rattle.miette_label_rules.specs.rules.Around.{group_context}
+use Rattle.miette_label_rules.specs.rules.Groups.{groups_of, in_order}
 use Rattle.miette_row_laws.specs.laws.Fading as fading
 use Rattle.miette_row_laws.specs.laws.Fading.{unhighlighted_answer}
 use Rattle.miette_row_laws.proofs.PlainStyles.{none_are_plain}

@@ -8,7 +8,7 @@ use Rattle.miette_protocol.specs.rules.Reading.{Source}
 use Rattle.miette_runs.specs.rules.Runs.{HaveNoEscape, print, printed_run, plain_run, Fragment}
 use Rattle.miette_style.specs.rules.Styles.{plain}
 use Rattle.miette_style.specs.rules.Escapes.{no_escape}
-use Rattle.miette_labels.specs.rules.Answers as snippet_answers
+use Rattle.miette_label_rules.specs.rules.Answers as snippet_answers
 use Rattle.miette_row_laws.specs.laws.Clean.{IsCleanLabel, IsCleanRow, IsCleanSource, AreCleanDrawings}
 use Rattle.miette_row_laws.specs.laws.Fading as fading
 use Rattle.miette_row_laws.specs.laws.Fading.{AreAllPlain, ArePlain, IsPlainRow, unhighlighted_answer}

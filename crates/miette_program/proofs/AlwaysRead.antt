@@ -7,7 +7,7 @@ use Rattle.std.proofs.lemmas.List.Elements.{All-head, All-tail}
 use Rattle.std.specs.Prelude.{if◌then◌else◌}
 use Rattle.miette_protocol.specs.views.Meaning.{Label}
 use Rattle.miette_protocol.specs.rules.Reading.{Source, is_accepted}
-use Rattle.miette_labels.specs.rules.Groups.{in_order, AreAccepted}
+use Rattle.miette_label_rules.specs.rules.Groups.{in_order, AreAccepted}
 use Rattle.miette_basics.specs.rules.Lists.{is_nil}
 use Rattle.miette_tree.specs.rules.Tree.{Tree, tree, Cause, diagnostic, texts, Trees, no_trees, more_trees, effective}
 use Rattle.miette_tree.specs.rules.DiagnosticParts.{given_labels}

@@ -13,9 +13,9 @@ use Rattle.miette_highlight.specs.rules.FollowingCalls.{FollowTokens}
 use Rattle.miette_highlight.specs.rules.HighlighterCalls.{Call, asked, restarted}
 use Rattle.miette_highlight.specs.declared.rule.Rule.{Rule}
 use Rattle.miette_highlight.specs.declared.tokens.OpenPart.{OpenPart}
-use Rattle.miette_labels.specs.rules.Answers.{Highlight}
-use Rattle.miette_labels.specs.rules.Around.{group_context}
-use Rattle.miette_labels.specs.rules.Groups.{groups_of, in_order, refusal}
+use Rattle.miette_label_rules.specs.rules.Answers.{Highlight}
+use Rattle.miette_label_rules.specs.rules.Around.{group_context}
+use Rattle.miette_label_rules.specs.rules.Groups.{groups_of, in_order, refusal}
 use Rattle.miette_snippet_rules.specs.declared.options.LayoutOptions.{LayoutOptions}
 use Rattle.miette_snippet_rules.specs.rules.Highlighting.{follows, group_calls}
 use Rattle.miette_snippet_rules.specs.rules.SnippetLayout.{end_lines}

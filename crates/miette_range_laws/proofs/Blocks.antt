@@ -7,9 +7,9 @@ use Rattle.std.proofs.lemmas.List.Elements.{filter_agree}
 use Rattle.std.specs.List.{range_with_len, filter, list_any, AllByRecursion}
 use Rattle.miette_source_lines.specs.rules.Lines.{lines_of, line_start, line_end}
 use Rattle.miette_protocol.specs.rules.Reading.{Span}
-use Rattle.miette_labels.specs.rules.Groups.{joined_span, put_span, by_begin, stretches_from, joined_stretches}
+use Rattle.miette_label_rules.specs.rules.Groups.{joined_span, put_span, by_begin, stretches_from, joined_stretches}
 use Rattle.miette_snippet_rules.specs.rules.Numbers.{ranges}
-use Rattle.miette_labels.specs.rules.Contexts.{end_of_span}
+use Rattle.miette_label_rules.specs.rules.Contexts.{end_of_span}
 use Rattle.miette_basics.proofs.Ranges.{filter-none}
 use Rattle.miette_basics.proofs.Cases.{by_cases}
 use Rattle.miette_source_lines.proofs.Places.{line_end_mono, line_start_mono, line_start_next}

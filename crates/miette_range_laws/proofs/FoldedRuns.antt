@@ -11,7 +11,7 @@ use Rattle.miette_source_lines.specs.rules.Lines.{Line, lines_from, lines_of, li
 use Rattle.miette_protocol.specs.views.Meaning.{Label}
 use Rattle.miette_protocol.specs.rules.Reading.{Span, Source, reading_end}
 use Rattle.miette_protocol.specs.rules.Context.{first_line, last_line}
-use Rattle.miette_labels.specs.rules.Around.{lines_around}
+use Rattle.miette_label_rules.specs.rules.Around.{lines_around}
 use Rattle.miette_snippet_rules.specs.rules.Folds.{Spread, spread, last_byte, hides, place_among, is_around}
 use Rattle.miette_snippet_rules.specs.rules.Folds.{is_near}
 use Rattle.miette_snippet_rules.specs.rules.Numbers.{ranges}

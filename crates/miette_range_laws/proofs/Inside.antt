@@ -9,14 +9,14 @@ use Rattle.miette_protocol.specs.views.Meaning.{Label}
 use Rattle.miette_protocol.specs.rules.Reading.{Span, reading_end}
 use Rattle.miette_protocol.specs.rules.Context.{first_line, last_line}
 use Rattle.miette_style.specs.declared.style.Style.{Style}
-use Rattle.miette_labels.specs.rules.Around.{lines_around}
-use Rattle.miette_labels.specs.rules.Contexts as C
-use Rattle.miette_labels.specs.rules.Labels.{DrawnLabel, drawn_label, drawn_from, reach, starts_on, ends_on}
-use Rattle.miette_labels.specs.rules.Labels.{runs_through, is_multi_line, multi_line}
+use Rattle.miette_label_rules.specs.rules.Around.{lines_around}
+use Rattle.miette_label_rules.specs.rules.Contexts as C
+use Rattle.miette_label_rules.specs.rules.Labels.{DrawnLabel, drawn_label, drawn_from, reach, starts_on, ends_on}
+use Rattle.miette_label_rules.specs.rules.Labels.{runs_through, is_multi_line, multi_line}
 use Rattle.miette_snippet_rules.specs.rules.Folds.{last_byte, hides}
 use Rattle.miette_snippet_rules.specs.rules.ShownLines.{line_at}
 use Rattle.miette_snippet_rules.specs.rules.Snippets as N
-use Rattle.miette_labels.specs.rules.Contexts.{end_of_span}
+use Rattle.miette_label_rules.specs.rules.Contexts.{end_of_span}
 use Rattle.miette_basics.proofs.Cases.{by_cases}
 use Rattle.miette_source_lines.proofs.Places.{line_of_mono, line_of_next, line_start_next}
 use Rattle.miette_source_lines.proofs.Cuts.{line_of_there, nonempty, start_before_end}

@@ -1,6 +1,7 @@
 -- Inside a frame exactly the lines are left out that no label keeps: those that are in no context of a label as it is
 -- folded, beside others of that kind.
-use Rattle.std.proofs.Common.{ℕ, zero, suc, ◌+◌, ◌-◌, ◌<◌, ◌≤◌, ◌≡◌, max, Bool, true, false, cond, not, ◌&&◌, ◌||◌, List}
+use Rattle.std.proofs.Common.{ℕ, zero, suc, ◌+◌, ◌-◌, ◌<◌, ◌≤◌, ◌≡◌, max, Bool, true, false, cond, not, ◌&&◌, ◌||◌}
+use Rattle.std.proofs.Common.{List}
 use Rattle.std.proofs.Common.{[], ◌∷◌, length, map, Option, Some, None, refl, sym, ap, ap₂, ◌∙◌, ⊎_elim, arith}
 use Rattle.std.specs.Prelude.{unwrap_or}
 use Rattle.std.specs.List.{range_with_len, list_any, AllByRecursion}
@@ -9,8 +10,8 @@ use Rattle.miette_source_lines.specs.rules.Lines.{Line, lines_of, line_of}
 use Rattle.miette_source_lines.proofs.Cuts.{few_lines}
 use Rattle.miette_protocol.specs.views.Meaning.{Label}
 use Rattle.miette_protocol.specs.rules.Reading.{Source}
-use Rattle.miette_labels.specs.rules.Around.{lines_around}
-use Rattle.miette_labels.specs.rules.Groups.{in_order}
+use Rattle.miette_label_rules.specs.rules.Around.{lines_around}
+use Rattle.miette_label_rules.specs.rules.Groups.{in_order}
 use Rattle.miette_labels.proofs.OwnContexts.{own_ordered, order_any}
 use Rattle.miette_snippet_rules.specs.rules.Folds.{Spread, hides, is_hidden, last_byte, leaves_out}
 use Rattle.miette_snippet_rules.specs.rules.Folds.{line_at, spread, spreads_of}
@@ -19,7 +20,8 @@ use Rattle.miette_snippet_rules.specs.rules.Settings.{SnippetSettings}
 use Rattle.miette_snippet_rules.specs.rules.SnippetLayout.{left_out}
 use Rattle.miette_snippet_rules.specs.rules.Snippets as N
 use Rattle.miette_snippet_rules.proofs.NeverHidden.{and_not, first_shown, no_line, none_hidden}
-use Rattle.miette_range_laws.proofs.FoldedRuns.{all_covered, and_true, any_around, any_near, frame, none_first, none_past}
+use Rattle.miette_range_laws.proofs.FoldedRuns.{all_covered, and_true, any_around, any_near, frame, none_first}
+use Rattle.miette_range_laws.proofs.FoldedRuns.{none_past}
 use Rattle.miette_range_laws.proofs.OwnGroups.{Around}
 use Rattle.miette_range_laws.proofs.SnippetBodies.{KeepsAlike, LeaveAlike}
 use Rattle.miette_range_laws.proofs.Stretches.{IsMaximal, range_same, each_run}

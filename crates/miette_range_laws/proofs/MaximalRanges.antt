@@ -9,14 +9,15 @@ use Rattle.std.proofs.lemmas.Bool.{or_parts}
 use Rattle.miette_source_lines.specs.rules.Lines.{lines_of}
 use Rattle.miette_protocol.specs.views.Meaning.{Label}
 use Rattle.miette_protocol.specs.rules.Reading.{Span, Source, IsAccepted}
-use Rattle.miette_labels.specs.rules.Answers.{Answers, Highlight, first_of, NoneFails, AlwaysReads}
-use Rattle.miette_labels.specs.rules.Around.{has_own, lines_around, HaveContext, group_context}
-use Rattle.miette_labels.specs.rules.Contexts.{contents}
+use Rattle.miette_label_rules.specs.rules.Answers.{Answers, Highlight, first_of, NoneFails, AlwaysReads}
+use Rattle.miette_label_rules.specs.rules.Around.{has_own, lines_around, HaveContext, group_context}
+use Rattle.miette_label_rules.specs.rules.Contexts.{contents}
 use Rattle.miette_snippet_rules.specs.rules.Folds.{Spread, spreads_of}
 use Rattle.miette_snippet_rules.specs.rules.Frames.{refused_row}
-use Rattle.miette_labels.specs.rules.Groups as G
-use Rattle.miette_labels.specs.rules.Groups.{in_order, spans_of, groups_answered, own_groups, groups_of, AreAccepted}
-use Rattle.miette_labels.specs.rules.Labels.{DrawnLabel}
+use Rattle.miette_label_rules.specs.rules.Groups as G
+use Rattle.miette_label_rules.specs.rules.Groups.{in_order, spans_of, groups_answered, own_groups, groups_of}
+use Rattle.miette_label_rules.specs.rules.Groups.{AreAccepted}
+use Rattle.miette_label_rules.specs.rules.Labels.{DrawnLabel}
 use Rattle.miette_snippet_rules.specs.rules.SnippetLayout.{body_rows, all_snippets, drawn_labels, settings_around}
 use Rattle.miette_snippet_rules.specs.rules.SnippetLayout.{rows_unless, snippet_rows}
 use Rattle.miette_snippet_rules.specs.rules.Numbers.{ranges}

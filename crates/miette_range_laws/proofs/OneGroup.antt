@@ -5,15 +5,15 @@ use Rattle.std.proofs.lemmas.Bool.{le-leb, lt-leb, leb-true, leb-false, and_part
 use Rattle.std.specs.List.{filter, list_any, AllByRecursion}
 use Rattle.miette_protocol.specs.views.Meaning.{Label}
 use Rattle.miette_protocol.specs.rules.Reading.{Span, Source, IsAccepted}
-use Rattle.miette_labels.specs.rules.Around.{lines_around}
+use Rattle.miette_label_rules.specs.rules.Around.{lines_around}
 use Rattle.miette_range_laws.specs.laws.Belonging.{holds, HasOneGroup}
-use Rattle.miette_labels.specs.rules.Contexts.{contents, end_of_span}
-use Rattle.miette_labels.specs.rules.Groups.{AreAccepted, joined_span, stretch, by_begin, stretches_from}
-use Rattle.miette_labels.specs.rules.Groups.{joined_stretches}
+use Rattle.miette_label_rules.specs.rules.Contexts.{contents, end_of_span}
+use Rattle.miette_label_rules.specs.rules.Groups.{AreAccepted, joined_span, stretch, by_begin, stretches_from}
+use Rattle.miette_label_rules.specs.rules.Groups.{joined_stretches}
 use Rattle.miette_basics.proofs.Cases.{by_cases}
 use Rattle.miette_labels.proofs.SortedLabels.{IsAscending, by_begin_is, rises_lower, sorted_any, sorted_rises}
 use Rattle.miette_protocol.proofs.Wholes.{start_before_span}
-use Rattle.miette_snippet_rules.proofs.LabelEnds.{cut_is}
+use Rattle.miette_labels.proofs.LabelEnds.{cut_is}
 
 -- whether a place lies in a group's bytes or at their end
 abbrev at_place : ℕ → Span → Bool

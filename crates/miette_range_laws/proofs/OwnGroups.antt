@@ -7,16 +7,16 @@ use Rattle.miette_source_lines.specs.rules.Lines.{Line, lines_of}
 use Rattle.miette_protocol.specs.views.Meaning.{Label}
 use Rattle.miette_protocol.specs.rules.Reading.{Span, Source, Contents, data_start, data_end}
 use Rattle.miette_protocol.specs.rules.Context.{first_line, last_line}
-use Rattle.miette_labels.specs.rules.Answers.{Highlight, first_of}
-use Rattle.miette_labels.specs.rules.Around.{lines_around}
-use Rattle.miette_labels.specs.rules.Contexts.{contents, lines_of_contents}
+use Rattle.miette_label_rules.specs.rules.Answers.{Highlight, first_of}
+use Rattle.miette_label_rules.specs.rules.Around.{lines_around}
+use Rattle.miette_label_rules.specs.rules.Contexts.{contents, lines_of_contents}
 use Rattle.miette_snippet_rules.specs.rules.Folds.{Spread}
 use Rattle.miette_snippet_rules.specs.rules.Frames.{width_of_lines}
-use Rattle.miette_labels.specs.rules.Groups as G
-use Rattle.miette_labels.specs.rules.Groups.{stretch, by_begin, stretches_from}
-use Rattle.miette_labels.specs.rules.Groups.{joined_stretches, own_groups}
+use Rattle.miette_label_rules.specs.rules.Groups as G
+use Rattle.miette_label_rules.specs.rules.Groups.{stretch, by_begin, stretches_from}
+use Rattle.miette_label_rules.specs.rules.Groups.{joined_stretches, own_groups}
 use Rattle.miette_snippet_rules.specs.rules.Gutters.{gutter_columns}
-use Rattle.miette_labels.specs.rules.Labels.{DrawnLabel}
+use Rattle.miette_label_rules.specs.rules.Labels.{DrawnLabel}
 use Rattle.miette_snippet_rules.specs.rules.SnippetLayout.{rows_of_lines, left_out, body_rows}
 use Rattle.miette_snippet_rules.specs.rules.Numbers.{ranges}
 use Rattle.miette_snippet_rules.specs.rules.ShownLines.{range_rows, rows_of_ranges, bodies}

@@ -10,7 +10,7 @@ use Rattle.std.proofs.Math.Seq.{take-nil}
 use Rattle.miette_source_lines.specs.rules.Lines.{Line, lines_of, lines_from, line_start, line_end}
 use Rattle.miette_protocol.specs.rules.Reading.{Span, Source, Contents, data_start}
 use Rattle.miette_protocol.specs.rules.Context.{first_line, last_line}
-use Rattle.miette_labels.specs.rules.Contexts.{contents, end_of_span, lines_in, lines_of_contents}
+use Rattle.miette_label_rules.specs.rules.Contexts.{contents, end_of_span, lines_in, lines_of_contents}
 use Rattle.miette_snippet_rules.specs.rules.ShownLines.{line_at}
 use Rattle.miette_source_lines.proofs.Cuts.{few_lines}
 use Rattle.miette_protocol.proofs.Wholes.{between, data_are, lines, start_is}

@@ -5,7 +5,7 @@ use Rattle.std.specs.Prelude.{◌==◌, slice_index, slice_range}
 use Rattle.std.proofs.lemmas.Bool.{ne_eqb}
 use Rattle.miette_source_lines.specs.rules.Lines.{LF, CR, lines_from, lines_of, line_start, line_end}
 use Rattle.miette_protocol.specs.rules.Reading.{Span, Source, data_end, reading_end, span_end, splits_crlf}
-use Rattle.miette_labels.specs.rules.Contexts.{contents, end_of_span, lines_in, lines_of_contents}
+use Rattle.miette_label_rules.specs.rules.Contexts.{contents, end_of_span, lines_in, lines_of_contents}
 use Rattle.miette_snippet_rules.specs.rules.ShownLines.{line_at}
 use Rattle.miette_source_lines.proofs.Places.{line_end_beyond, line_end_le, line_of_zero, line_start_mono}
 use Rattle.miette_source_lines.proofs.Places.{line_start_next}

@@ -12,12 +12,12 @@ use Rattle.miette_source_lines.specs.rules.Lines.{lines_of, line_of}
 use Rattle.miette_protocol.specs.views.Meaning.{Label}
 use Rattle.miette_protocol.specs.rules.Reading.{Span, Source}
 use Rattle.miette_protocol.specs.rules.Context.{first_line, last_line}
-use Rattle.miette_labels.specs.rules.Answers.{NoneFails, next_answer}
-use Rattle.miette_labels.specs.rules.Around.{has_own, lines_around}
-use Rattle.miette_labels.specs.rules.Contexts.{contents, end_of_span, lines_in}
-use Rattle.miette_labels.specs.rules.Groups.{joined_span, joins_before, groups_from, groups_answered, spans_of}
-use Rattle.miette_labels.specs.rules.Groups.{in_order}
-use Rattle.miette_labels.specs.rules.Groups.{lines_of_groups}
+use Rattle.miette_label_rules.specs.rules.Answers.{NoneFails, next_answer}
+use Rattle.miette_label_rules.specs.rules.Around.{has_own, lines_around}
+use Rattle.miette_label_rules.specs.rules.Contexts.{contents, end_of_span, lines_in}
+use Rattle.miette_label_rules.specs.rules.Groups.{joined_span, joins_before, groups_from, groups_answered, spans_of}
+use Rattle.miette_label_rules.specs.rules.Groups.{in_order}
+use Rattle.miette_label_rules.specs.rules.Groups.{lines_of_groups}
 use Rattle.miette_snippet_rules.specs.rules.Numbers.{onto_range, ranges}
 use Rattle.miette_snippet_rules.specs.rules.Snippets.{is_in_context, shown_numbers, snippets}
 use Rattle.miette_basics.proofs.Cases.{by_cases}

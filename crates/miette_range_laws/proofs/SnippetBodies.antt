@@ -8,12 +8,12 @@ use Rattle.miette_source_lines.specs.rules.Lines.{Line, lines_of}
 use Rattle.miette_protocol.specs.views.Meaning.{Label}
 use Rattle.miette_protocol.specs.rules.Reading.{Span, Source}
 use Rattle.miette_protocol.specs.rules.Context.{first_line}
-use Rattle.miette_labels.specs.rules.Answers.{Highlight, first_of, NoneFails}
-use Rattle.miette_labels.specs.rules.Around.{has_own}
-use Rattle.miette_labels.specs.rules.Contexts.{contents, lines_in, lines_of_contents}
-use Rattle.miette_labels.specs.rules.Groups.{groups_answered, in_order, spans_of}
-use Rattle.miette_labels.specs.rules.Groups.{lines_of_groups}
-use Rattle.miette_labels.specs.rules.Labels.{DrawnLabel}
+use Rattle.miette_label_rules.specs.rules.Answers.{Highlight, first_of, NoneFails}
+use Rattle.miette_label_rules.specs.rules.Around.{has_own}
+use Rattle.miette_label_rules.specs.rules.Contexts.{contents, lines_in, lines_of_contents}
+use Rattle.miette_label_rules.specs.rules.Groups.{groups_answered, in_order, spans_of}
+use Rattle.miette_label_rules.specs.rules.Groups.{lines_of_groups}
+use Rattle.miette_label_rules.specs.rules.Labels.{DrawnLabel}
 use Rattle.miette_snippet_rules.specs.rules.Folds.{Spread}
 use Rattle.miette_snippet_rules.specs.rules.Frames.{width_of_lines}
 use Rattle.miette_snippet_rules.specs.rules.Gutters.{gutter_columns}

@@ -6,11 +6,11 @@ use Rattle.miette_source_lines.specs.rules.Lines.{Line, lines_of}
 use Rattle.miette_protocol.specs.views.Meaning.{Label}
 use Rattle.miette_protocol.specs.rules.Reading.{Span, Source}
 use Rattle.miette_page.specs.rules.Rows.{Row}
-use Rattle.miette_labels.specs.rules.Answers.{Answers, Highlight, first_of, AlwaysReads}
-use Rattle.miette_labels.specs.rules.Around.{HaveContext}
-use Rattle.miette_labels.specs.rules.Contexts.{contents}
-use Rattle.miette_labels.specs.rules.Groups.{in_order, groups_of, AreAccepted}
-use Rattle.miette_labels.specs.rules.Labels.{DrawnLabel}
+use Rattle.miette_label_rules.specs.rules.Answers.{Answers, Highlight, first_of, AlwaysReads}
+use Rattle.miette_label_rules.specs.rules.Around.{HaveContext}
+use Rattle.miette_label_rules.specs.rules.Contexts.{contents}
+use Rattle.miette_label_rules.specs.rules.Groups.{in_order, groups_of, AreAccepted}
+use Rattle.miette_label_rules.specs.rules.Labels.{DrawnLabel}
 use Rattle.miette_snippet_rules.specs.rules.Frames.{top_row, bottom_row, number_width}
 use Rattle.miette_snippet_rules.specs.rules.Gutters.{gutter_columns}
 use Rattle.miette_snippet_rules.specs.rules.ShownLines.{line_at, numbered_rows, range_width, rows_of_ranges}

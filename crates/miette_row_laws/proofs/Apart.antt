@@ -2,7 +2,7 @@
 use Rattle.std.proofs.Common.{ℕ, ◌+◌, ◌/◌, ◌<◌, ◌≤◌, ◌≡◌, true, false, ltb, leb, List, [], ◌∷◌, refl, ◌∙◌, ◌&&◌, arith}
 use Rattle.std.proofs.lemmas.Bool.{lt-ltb, le-ltb, le-leb, lt-leb, and_right}
 use Rattle.std.specs.List.{AllByRecursion}
-use Rattle.miette_labels.specs.rules.Labels.{DrawnLabel, is_empty}
+use Rattle.miette_label_rules.specs.rules.Labels.{DrawnLabel, is_empty}
 use Rattle.miette_snippet_rules.specs.rules.Marks.{Text, Mark, mark_from, mark_until, marks_from, marks, AreApart}
 use Rattle.miette_snippet_rules.specs.rules.Marks.{marks_at}
 use Rattle.miette_basics.proofs.Cases.{by_cases}

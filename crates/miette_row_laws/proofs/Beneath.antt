@@ -9,8 +9,8 @@ use Rattle.miette_page.specs.rules.Rows.{Glyph, Run, Row, glyphs_of, columns_of,
 use Rattle.miette_style.specs.rules.Styles.{plain}
 use Rattle.miette_source_lines.specs.rules.Lines.{Line}
 use Rattle.miette_cells.specs.rules.Cells.{Cell}
-use Rattle.miette_labels.specs.rules.Answers.{Highlight}
-use Rattle.miette_labels.specs.rules.Labels.{DrawnLabel, starts_on, ends_on, one_line, multi_line, closing_labels}
+use Rattle.miette_label_rules.specs.rules.Answers.{Highlight}
+use Rattle.miette_label_rules.specs.rules.Labels.{DrawnLabel, starts_on, ends_on, one_line, multi_line, closing_labels}
 use Rattle.miette_snippet_rules.specs.rules.CutEnds.{spread_ends}
 use Rattle.miette_snippet_rules.specs.rules.CutLines.{dots_in}
 use Rattle.miette_snippet_rules.specs.rules.Marks.{Mark, AreApart}

@@ -9,9 +9,10 @@ use Rattle.std.specs.Prelude.{nat_le}
 use Rattle.miette_row_laws.specs.laws.Clean.{IsClean, IsCleanText, IsCleanLabel}
 use Rattle.miette_row_laws.specs.laws.Fading.{AreAllPlain}
 use Rattle.miette_snippet_rules.specs.rules.Gutters.{most_labels, gutter_columns}
-use Rattle.miette_labels.specs.rules.Labels.{DrawnLabel, parts_of, drawn_label, drawn_from, multi_line, is_multi_line}
+use Rattle.miette_label_rules.specs.rules.Labels.{DrawnLabel, parts_of, drawn_label, drawn_from, multi_line}
+use Rattle.miette_label_rules.specs.rules.Labels.{is_multi_line}
 use Rattle.miette_snippet_rules.specs.rules.Marks.{Text, Mark, marks_from, marks, mark_from, mark_until, mark_anchor}
-use Rattle.miette_labels.specs.rules.Groups.{put_label, in_order}
+use Rattle.miette_label_rules.specs.rules.Groups.{put_label, in_order}
 use Rattle.miette_row_laws.proofs.CleanTexts.{clean_parts}
 use Rattle.miette_basics.proofs.Cases.{by_cases}
 use Rattle.miette_row_laws.proofs.PlainStyles.{plain_at}

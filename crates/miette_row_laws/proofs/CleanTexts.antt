@@ -14,13 +14,13 @@ use Rattle.bstr.proofs.lemmas.SoundLemmas.{SpellsChar-decoded}
 use Rattle.miette_style.specs.rules.Escapes.{is_escape}
 use Rattle.miette_style.specs.rules.Escapes.{no_escape}
 use Rattle.miette_basics.specs.rules.Lists.{onto}
-use Rattle.miette_labels.specs.rules.Answers.{Highlight}
+use Rattle.miette_label_rules.specs.rules.Answers.{Highlight}
 use Rattle.miette_cells.proofs.Stepping.{character}
 use Rattle.miette_snippet_rules.specs.rules.PrintedCells.{printed_glyphs, printed_cells, cells_within, cells_beyond}
 use Rattle.miette_snippet_rules.specs.rules.PrintedCells.{line_runs, text_bytes}
 use Rattle.miette_cells.specs.rules.Cells.{Character, Cell, cells_from, characters, hides_next, width_at}
 use Rattle.miette_row_laws.specs.laws.Clean.{IsCleanCode, IsClean, IsCleanRow}
-use Rattle.miette_labels.specs.rules.Labels.{cut_at_lf}
+use Rattle.miette_label_rules.specs.rules.Labels.{cut_at_lf}
 use Rattle.miette_page.specs.rules.Rows.{Glyph, glyphs_of, glyph_of}
 use Rattle.miette_snippet_rules.proofs.RowTokens.{codes_drawn}
 

@@ -4,9 +4,9 @@ use Rattle.std.proofs.Common.{sym}
 use Rattle.std.proofs.Common.{ap, ◌∙◌, subst, Option, Some, None, arith}
 use Rattle.std.proofs.lemmas.Bool.{le-ltb, leb-true, leb-false, ltb-true, ltb-false}
 use Rattle.miette_source_lines.specs.rules.Lines.{Line}
-use Rattle.miette_labels.specs.rules.Answers.{Highlight}
+use Rattle.miette_label_rules.specs.rules.Answers.{Highlight}
 use Rattle.miette_cells.specs.rules.Cells.{Cell}
-use Rattle.miette_labels.specs.rules.Labels.{DrawnLabel, multi_line, one_line}
+use Rattle.miette_label_rules.specs.rules.Labels.{DrawnLabel, multi_line, one_line}
 use Rattle.miette_basics.proofs.Cases.{by_cases}
 use Rattle.miette_page.specs.rules.Rows.{columns_of, glyphs_of}
 use Rattle.miette_style.specs.rules.Themes.{Theme}

@@ -4,8 +4,8 @@ use Rattle.std.proofs.Common.{if◌then◌else◌, refl, sym, ap, ◌∙◌, sub
 use Rattle.std.specs.List.{AllByRecursion}
 use Rattle.std.proofs.lemmas.List.{map-append}
 use Rattle.miette_source_lines.specs.rules.Lines.{Line}
-use Rattle.miette_labels.specs.rules.Answers.{Highlight}
-use Rattle.miette_labels.specs.rules.Labels.{DrawnLabel, ends_on, starts_on}
+use Rattle.miette_label_rules.specs.rules.Answers.{Highlight}
+use Rattle.miette_label_rules.specs.rules.Labels.{DrawnLabel, ends_on, starts_on}
 use Rattle.miette_cells.specs.rules.Cells.{Cell}
 use Rattle.miette_basics.proofs.Cases.{by_cases}
 use Rattle.miette_page.specs.rules.Rows.{Run}

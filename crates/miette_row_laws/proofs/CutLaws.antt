@@ -7,11 +7,11 @@ use Rattle.std.specs.List.{AllByRecursion}
 use Rattle.miette_source_lines.specs.rules.Lines.{Line}
 use Rattle.miette_protocol.specs.views.Meaning.{Label}
 use Rattle.miette_protocol.specs.rules.Reading.{Contents, Source, Span}
-use Rattle.miette_labels.specs.rules.Answers.{Answers, Highlight, first_of}
+use Rattle.miette_label_rules.specs.rules.Answers.{Answers, Highlight, first_of}
 use Rattle.miette_cells.specs.rules.Cells.{Cell}
-use Rattle.miette_labels.specs.rules.Contexts.{contents, lines_of_contents}
-use Rattle.miette_labels.specs.rules.Groups.{groups_fail, groups_of, in_order, refusal, some_fails}
-use Rattle.miette_labels.specs.rules.Labels.{DrawnLabel, one_line, multi_line}
+use Rattle.miette_label_rules.specs.rules.Contexts.{contents, lines_of_contents}
+use Rattle.miette_label_rules.specs.rules.Groups.{groups_fail, groups_of, in_order, refusal, some_fails}
+use Rattle.miette_label_rules.specs.rules.Labels.{DrawnLabel, one_line, multi_line}
 use Rattle.miette_page.specs.rules.Rows.{Row, columns_of, glyphs_of}
 use Rattle.miette_basics.proofs.Cases.{by_cases}
 use Rattle.miette_snippet_rules.specs.rules.CutLines.{Stretch, cut_at, cut_line, cut_to, dots, dots_in, largest}
@@ -27,7 +27,7 @@ use Rattle.miette_snippet_rules.specs.rules.SnippetLayout.{before_each, body_row
 use Rattle.miette_snippet_rules.specs.rules.SnippetLayout.{left_out, line_cut, line_marks, line_or_break, line_rows}
 use Rattle.miette_snippet_rules.specs.rules.SnippetLayout.{all_snippets, drawn_labels, place_of, rows_of_lines}
 use Rattle.miette_snippet_rules.specs.rules.SnippetLayout.{rows_unless, settings_around, snippet_rows}
-use Rattle.miette_labels.specs.rules.Labels.{closing_labels}
+use Rattle.miette_label_rules.specs.rules.Labels.{closing_labels}
 use Rattle.miette_snippet_rules.proofs.CutColumns.{AreColumns, ends_shown}
 use Rattle.miette_snippet_rules.proofs.TextColumns.{largest_over, largest_passes, largest_within}
 use Rattle.miette_row_laws.specs.laws.Cuts.{Fits, GroupsFit, IsCutBy, IsCutByReach, IsReach, is_near_by, without_limit}

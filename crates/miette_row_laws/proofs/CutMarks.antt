@@ -6,7 +6,7 @@ use Rattle.std.proofs.lemmas.Bool.{le-ltb, ltb-true, ltb-false}
 use Rattle.std.specs.List.{AllByRecursion}
 use Rattle.miette_source_lines.specs.rules.Lines.{Line}
 use Rattle.miette_cells.specs.rules.Cells.{Cell}
-use Rattle.miette_labels.specs.rules.Labels.{DrawnLabel, multi_line, one_line}
+use Rattle.miette_label_rules.specs.rules.Labels.{DrawnLabel, multi_line, one_line}
 use Rattle.miette_basics.proofs.Cases.{by_cases}
 use Rattle.miette_page.specs.rules.Rows.{Glyph, Run, columns_of}
 use Rattle.miette_style.specs.rules.Themes.{Theme}

@@ -8,12 +8,12 @@ use Rattle.miette_source_lines.specs.rules.Lines.{Line, lines_of, IsCut}
 use Rattle.miette_protocol.specs.views.Meaning.{Label}
 use Rattle.miette_protocol.specs.rules.Reading.{Span, Source, Contents}
 use Rattle.miette_style.specs.declared.style.Style.{Style}
-use Rattle.miette_labels.specs.rules.Answers.{Answers, Highlight, first_of}
-use Rattle.miette_labels.specs.rules.Around.{lines_around}
-use Rattle.miette_labels.specs.rules.Contexts.{contents, lines_of_contents}
-use Rattle.miette_labels.specs.rules.Groups.{Refusal, in_order, refusal, groups_of, groups_fail, some_fails}
-use Rattle.miette_labels.specs.rules.Labels.{DrawnLabel, drawn_label, drawn_from, style_at, parts_of, is_at_end}
-use Rattle.miette_labels.specs.rules.Labels.{shows_end, some_shows_end}
+use Rattle.miette_label_rules.specs.rules.Answers.{Answers, Highlight, first_of}
+use Rattle.miette_label_rules.specs.rules.Around.{lines_around}
+use Rattle.miette_label_rules.specs.rules.Contexts.{contents, lines_of_contents}
+use Rattle.miette_label_rules.specs.rules.Groups.{Refusal, in_order, refusal, groups_of, groups_fail, some_fails}
+use Rattle.miette_label_rules.specs.rules.Labels.{DrawnLabel, drawn_label, drawn_from, style_at, parts_of, is_at_end}
+use Rattle.miette_label_rules.specs.rules.Labels.{shows_end, some_shows_end}
 use Rattle.miette_snippet_rules.specs.rules.Folds.{Spread, spreads_of}
 use Rattle.miette_snippet_rules.specs.rules.Frames.{refused_row, number_width, top_row, bottom_row}
 use Rattle.miette_snippet_rules.specs.rules.Gutters.{gutter_columns}
@@ -27,7 +27,7 @@ use Rattle.miette_row_laws.specs.laws.Ends.{BeginBehind, with_ends}
 use Rattle.miette_source_lines.proofs.Cuts.{cut_le, lines_cut}
 use Rattle.miette_basics.proofs.Cases.{by_cases}
 use Rattle.miette_labels.proofs.OwnContexts.{own_ordered, order_any}
-use Rattle.miette_snippet_rules.proofs.SourceEnd.{shows_around}
+use Rattle.miette_labels.proofs.SourceEnd.{shows_around}
 use Rattle.miette_snippet_rules.specs.rules.SnippetLayout.{snippet_context}
 use Rattle.miette_snippet_rules.specs.rules.Settings.{SnippetSettings}
 

@@ -4,7 +4,7 @@ use Rattle.std.proofs.Common.{ap, ◌∙◌, inl, inr, ⊎_elim, ◌&&◌, appen
 use Rattle.std.proofs.lemmas.Bool.{eq-eqb, or_right}
 use Rattle.std.specs.List.{AllByRecursion, list_any}
 use Rattle.miette_page.specs.rules.Rows.{Glyph, glyph_of, code_at, columns_of, Begins}
-use Rattle.miette_labels.specs.rules.Labels.{is_empty}
+use Rattle.miette_label_rules.specs.rules.Labels.{is_empty}
 use Rattle.miette_snippet_rules.specs.rules.Marks.{Mark, AreApart}
 use Rattle.miette_snippet_rules.specs.rules.Drawing.{IsNarrow, code_with_parts, mark_code}
 use Rattle.miette_row_laws.specs.laws.Pictures.{mark_at, marks_end, HangsFrom, PartHangs, Hangs}

@@ -11,7 +11,7 @@ use Rattle.bstr.proofs.lemmas.PieceLemmas.{pieces-sizes, sizes}
 use Rattle.miette_basics.proofs.Cases.{by_cases}
 use Rattle.miette_cells.specs.rules.Cells.{Cell, Character, cells_from, characters, hides_next, width_at}
 use Rattle.miette_cells.proofs.Stepping.{characters_end}
-use Rattle.miette_labels.specs.rules.Labels.{DrawnLabel, one_line}
+use Rattle.miette_label_rules.specs.rules.Labels.{DrawnLabel, one_line}
 use Rattle.miette_snippet_rules.specs.rules.Marks.{Text, mark_from, mark_until, marks_from}
 use Rattle.miette_snippet_rules.specs.rules.PrintedCells.{cells_width, first_column, last_column, printed_cells}
 use Rattle.miette_snippet_rules.specs.rules.PrintedCells.{printed_glyphs}

@@ -7,24 +7,24 @@ use Rattle.std.specs.List.{AllByRecursion}
 use Rattle.miette_source_lines.specs.rules.Lines.{Line}
 use Rattle.miette_protocol.specs.views.Meaning.{Label}
 use Rattle.miette_protocol.specs.rules.Reading.{Span, Source, Contents, is_accepted}
-use Rattle.miette_labels.specs.rules.Answers.{Highlight, next_answer, first_of}
+use Rattle.miette_label_rules.specs.rules.Answers.{Highlight, next_answer, first_of}
 use Rattle.miette_snippet_rules.specs.rules.CutEnds.{mark_ends}
 use Rattle.miette_snippet_rules.specs.rules.CutLines.{cut_line, dots, dots_in, shown_marks, shown_runs}
 use Rattle.miette_cells.specs.rules.Cells.{Cell, characters}
 use Rattle.miette_row_laws.specs.laws.Clean.{IsClean, IsCleanText, IsCleanLabel, IsCleanSource}
 use Rattle.miette_row_laws.specs.laws.Clean.{AreCleanDrawings}
-use Rattle.miette_labels.specs.rules.Contexts.{contents, lines_of_contents}
+use Rattle.miette_label_rules.specs.rules.Contexts.{contents, lines_of_contents}
 use Rattle.miette_snippet_rules.specs.rules.Drawing.{marked_rows}
 use Rattle.miette_row_laws.specs.laws.Fading.{AreAllPlain, restyled}
 use Rattle.miette_snippet_rules.specs.rules.Folds.{Spread}
 use Rattle.miette_snippet_rules.specs.rules.Frames.{Place, text_or_none, refused_row, number_start}
 use Rattle.miette_snippet_rules.specs.rules.Frames.{other_start, break_start, place_text, location, location_of}
 use Rattle.miette_snippet_rules.specs.rules.Frames.{top_row_of, bottom_row, number_width}
-use Rattle.miette_labels.specs.rules.Groups.{Refusal, refusal}
+use Rattle.miette_label_rules.specs.rules.Groups.{Refusal, refusal}
 use Rattle.miette_snippet_rules.specs.rules.Gutters.{number_gutter, other_gutter, break_gutter, closing_rows}
 use Rattle.miette_snippet_rules.specs.rules.Gutters.{gutter_columns}
-use Rattle.miette_labels.specs.rules.Labels.{DrawnLabel, some_shows_end, one_line, multi_line, closing_labels}
-use Rattle.miette_labels.specs.rules.Labels.{is_one_line, is_multi_line, ends_on, starts_on}
+use Rattle.miette_label_rules.specs.rules.Labels.{DrawnLabel, some_shows_end, one_line, multi_line, closing_labels}
+use Rattle.miette_label_rules.specs.rules.Labels.{is_one_line, is_multi_line, ends_on, starts_on}
 use Rattle.miette_snippet_rules.specs.rules.SnippetLayout.{text_of_cells, cells_of, before_each, line_rows_of}
 use Rattle.miette_snippet_rules.specs.rules.SnippetLayout.{line_rows, break_row, line_or_break, rows_of_lines, left_out}
 use Rattle.miette_snippet_rules.specs.rules.SnippetLayout.{body_rows, place_of, drawn_labels, snippet, all_snippets}

@@ -12,7 +12,7 @@ use Rattle.miette_snippet_rules.specs.rules.Drawing.{rows_below, marked_rows}
 use Rattle.miette_row_laws.specs.laws.Fading.{IsPlainRow}
 use Rattle.miette_snippet_rules.specs.rules.Gutters.{ending_corner, arrow, bar, number_gutter, break_gutter}
 use Rattle.miette_snippet_rules.specs.rules.Gutters.{other_gutter, open_gutter, part_run, closing_parts, closing_rows}
-use Rattle.miette_labels.specs.rules.Labels.{DrawnLabel, is_empty, starts_on, ends_on}
+use Rattle.miette_label_rules.specs.rules.Labels.{DrawnLabel, is_empty, starts_on, ends_on}
 use Rattle.miette_snippet_rules.specs.rules.Marks.{Mark}
 use Rattle.miette_page.specs.rules.Rows.{Run, Row, glyphs_of, styled_run}
 use Rattle.miette_style.specs.rules.Styles.{plain}

@@ -4,8 +4,8 @@ use Rattle.std.proofs.Common.{option_map, refl, sym, ap, subst}
 use Rattle.std.specs.List.{AllByRecursion}
 use Rattle.miette_protocol.specs.views.Meaning.{Label}
 use Rattle.miette_protocol.specs.rules.Reading.{Source}
-use Rattle.miette_labels.specs.rules.Answers.{Answers}
-use Rattle.miette_labels.specs.rules.Groups.{Refusal, refusal, in_order, groups_of, some_fails, groups_fail}
+use Rattle.miette_label_rules.specs.rules.Answers.{Answers}
+use Rattle.miette_label_rules.specs.rules.Groups.{Refusal, refusal, in_order, groups_of, some_fails, groups_fail}
 use Rattle.miette_page.specs.rules.Rows.{Row, glyphs_of}
 use Rattle.miette_style.specs.declared.style.Style.{Style}
 use Rattle.miette_style.specs.rules.Themes.{Styles}

@@ -1,7 +1,7 @@
 -- Plain styles.
 use Rattle.std.proofs.Common.{◌≡◌, ℕ, zero, suc, ◌%◌, length, List, [], ◌∷◌, refl, ap₂, ◌∙◌}
 use Rattle.std.specs.Prelude.{slice_index_or}
-use Rattle.miette_labels.specs.rules.Labels.{style_at}
+use Rattle.miette_label_rules.specs.rules.Labels.{style_at}
 use Rattle.miette_style.specs.declared.style.Style.{Style}
 use Rattle.miette_style.specs.rules.Styles.{plain}
 use Rattle.miette_style.specs.rules.Themes.{Styles, no_styles}

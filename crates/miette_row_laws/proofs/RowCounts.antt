@@ -5,8 +5,8 @@ use Rattle.std.proofs.lemmas.List.{length-map}
 use Rattle.miette_page.specs.rules.Rows.{Row}
 use Rattle.miette_source_lines.specs.rules.Lines.{Line}
 use Rattle.miette_cells.specs.rules.Cells.{Cell}
-use Rattle.miette_labels.specs.rules.Answers.{Highlight}
-use Rattle.miette_labels.specs.rules.Labels.{DrawnLabel, one_line, multi_line, closing_labels}
+use Rattle.miette_label_rules.specs.rules.Answers.{Highlight}
+use Rattle.miette_label_rules.specs.rules.Labels.{DrawnLabel, one_line, multi_line, closing_labels}
 use Rattle.miette_snippet_rules.specs.rules.CutLines.{Stretch, dots_in, row_mark, shown_marks}
 use Rattle.miette_snippet_rules.specs.rules.Marks.{Text, Mark, mark_until, marks_from}
 use Rattle.miette_snippet_rules.specs.rules.Drawing.{text_row, beside, rows_of_parts, rows_below, marked_rows}

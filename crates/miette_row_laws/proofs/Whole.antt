@@ -4,9 +4,9 @@ use Rattle.std.specs.Prelude.{decimal, slice_range}
 use Rattle.std.specs.List.{AllByRecursion}
 use Rattle.miette_source_lines.specs.rules.Lines.{Line}
 use Rattle.miette_protocol.specs.rules.Reading.{Contents}
-use Rattle.miette_labels.specs.rules.Answers.{Highlight, first_of}
-use Rattle.miette_labels.specs.rules.Contexts.{lines_of_contents}
-use Rattle.miette_labels.specs.rules.Labels.{DrawnLabel, multi_line, one_line}
+use Rattle.miette_label_rules.specs.rules.Answers.{Highlight, first_of}
+use Rattle.miette_label_rules.specs.rules.Contexts.{lines_of_contents}
+use Rattle.miette_label_rules.specs.rules.Labels.{DrawnLabel, multi_line, one_line}
 use Rattle.miette_snippet_rules.specs.rules.CutEnds.{spread_ends}
 use Rattle.miette_snippet_rules.specs.rules.CutLines.{dots_in}
 use Rattle.miette_snippet_rules.specs.rules.Drawing.{IsNarrow}

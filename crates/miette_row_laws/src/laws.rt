@@ -15,13 +15,13 @@ ghost use Rattle.miette_row_laws.specs.laws.LabelMarks.{StandAtColumns, StandPas
 ghost use Rattle.miette_row_laws.specs.laws.Fading.{ArePlain, IsPlainRow, restyled, unhighlighted_answer};
 ghost use Rattle.miette_style.specs.rules.Themes.{Styles, Theme};
 ghost use Rattle.miette_page.specs.rules.Rows.{Run, columns_of, glyphs_of};
-ghost use Rattle.miette_labels.specs.rules.Answers.{Answers, Highlight};
-ghost use Rattle.miette_labels.specs.rules.Groups.{groups_of, in_order};
-ghost use Rattle.miette_labels.specs.rules.Labels.{DrawnLabel, some_shows_end, one_line, multi_line};
+ghost use Rattle.miette_label_rules.specs.rules.Answers.{Answers, Highlight};
+ghost use Rattle.miette_label_rules.specs.rules.Groups.{groups_of, in_order};
+ghost use Rattle.miette_label_rules.specs.rules.Labels.{DrawnLabel, some_shows_end, one_line, multi_line};
 ghost use Rattle.miette_snippet_rules.specs.rules.Marks.{Text, marks, marks_at, AreApart};
 ghost use Rattle.miette_source_lines.specs.rules.Lines.{Line};
 ghost use Rattle.miette_cells.specs.rules.Cells.{Cell};
-ghost use Rattle.miette_labels.specs.rules.Contexts.{lines_of_contents};
+ghost use Rattle.miette_label_rules.specs.rules.Contexts.{lines_of_contents};
 ghost use Rattle.miette_snippet_rules.specs.rules.CutLines.{Stretch, cut_at, cut_runs, dots, dots_in, is_shown_at};
 ghost use Rattle.miette_snippet_rules.specs.rules.CutLines.{is_within, limit_of, row_column, stretches, text_columns};
 ghost use Rattle.miette_snippet_rules.specs.rules.CutLines.{with_short};

@@ -2,7 +2,7 @@
 
 ghost use Rattle.std.specs.Prelude.{◌≡◌, ◌++◌, None, OnOk, map, position};
 ghost use Rattle.std.specs.Option.{option_map};
-ghost use Rattle.miette_labels.specs.rules.Groups.{in_order};
+ghost use Rattle.miette_label_rules.specs.rules.Groups.{in_order};
 ghost use Rattle.miette_sarif.specs.rules.Marks.{is_told, mark_over, mark_or, marks_from, marks_in};
 ghost use Rattle.miette_sarif.specs.rules.Marks.{marks_of, pick, pick_in, primary_in};
 ghost use Rattle.miette_sarif.specs.steps.Picking.{is_asked};

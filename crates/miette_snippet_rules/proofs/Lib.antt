@@ -1,6 +1,4 @@
 pub mod CutColumns
-pub mod SourceEnd
-pub mod LabelEnds
 pub mod NeverHidden
 pub mod NoPieces
 pub mod PlainCells

@@ -1,6 +1,6 @@
 //! The mark of a label that lies on a line alone, as a program makes it.
 
-use miette_labels::sweep::PlacedLabel;
+use miette_label_rules::placed::PlacedLabel;
 
 /// A mark: its columns from the one up to the other, and its label.
 #[derive(Clone, Copy, Debug, PartialEq, Eq, Drop)]

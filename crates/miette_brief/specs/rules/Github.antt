@@ -9,7 +9,7 @@ use Rattle.miette_fixes.specs.rules.Edits.{Proposal}
 use Rattle.miette_tree.specs.rules.Diagnosis.{Diagnosis}
 use Rattle.miette_tree.specs.rules.DiagnosticParts.{given_labels}
 use Rattle.miette_tree.specs.rules.Tree.{Cause, causes_of}
-use Rattle.miette_labels.specs.rules.Groups.{in_order}
+use Rattle.miette_label_rules.specs.rules.Groups.{in_order}
 use Rattle.miette_brief.specs.rules.Places.{Spot, primary_spot, source_place}
 use Rattle.miette_brief.specs.rules.Commands.{Command, Site, Saying}
 use Rattle.miette_brief.specs.rules.Marks.{Mark, marks, primary_first}

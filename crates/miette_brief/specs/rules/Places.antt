@@ -2,8 +2,8 @@
 use Rattle.std.specs.Prelude.{◌+◌, List, [], ◌∷◌, Option, Some, None, Bool, not, ◌&&◌, if◌then◌else◌}
 use Rattle.miette_protocol.specs.views.Meaning.{Label}
 use Rattle.miette_protocol.specs.rules.Reading.{Span, Source, is_accepted}
-use Rattle.miette_labels.specs.rules.Contexts.{contents}
-use Rattle.miette_labels.specs.rules.Groups.{in_order}
+use Rattle.miette_label_rules.specs.rules.Contexts.{contents}
+use Rattle.miette_label_rules.specs.rules.Groups.{in_order}
 use Rattle.miette_tree.specs.rules.Diagnosis.{Section}
 use Rattle.miette_brief.specs.rules.Rows.{Place, nowhere}
 

@@ -8,7 +8,7 @@ use Rattle.miette_tree.specs.rules.Diagnosis.{Section}
 use Rattle.miette_tree.specs.rules.Tree.{Tree, tree, Cause, diagnostic, texts, Trees, no_trees, more_trees, effective}
 use Rattle.miette_tree.specs.rules.DiagnosticParts.{given_labels}
 use Rattle.miette_tree.specs.rules.Reads.{MayMeet}
-use Rattle.miette_labels.specs.rules.Groups.{in_order, AreAccepted}
+use Rattle.miette_label_rules.specs.rules.Groups.{in_order, AreAccepted}
 use Rattle.miette_brief.specs.rules.Report.{BriefSettings, Answers, own_answer, cause_answers, ReadAnswers}
 use Rattle.miette_brief.specs.rules.Report.{related_answers, first_answers, later_answers}
 use Rattle.miette_brief.specs.rules.Report.{brief}

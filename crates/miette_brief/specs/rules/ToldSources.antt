@@ -3,7 +3,7 @@ use Rattle.std.specs.Prelude.{◌≡◌, true, Option, IfSome, ⊤}
 use Rattle.miette_protocol.specs.rules.Reading.{Source}
 use Rattle.miette_tree.specs.rules.Tree.{Tree, tree, Cause, diagnostic, texts, Trees, no_trees, more_trees, effective}
 use Rattle.miette_tree.specs.rules.DiagnosticParts.{given_labels}
-use Rattle.miette_labels.specs.rules.Groups.{in_order}
+use Rattle.miette_label_rules.specs.rules.Groups.{in_order}
 use Rattle.miette_brief.specs.rules.Places.{primary_spot, source_of_spot}
 
 -- no source, or one that always reads

@@ -7,7 +7,7 @@ use Rattle.miette_protocol.specs.rules.Reading.{Source}
 use Rattle.miette_tree.specs.rules.Tree.{Tree, Cause, Trees}
 use Rattle.miette_tree.specs.rules.DiagnosticParts.{given_labels}
 use Rattle.miette_tree.specs.rules.Reads.{MayMeet}
-use Rattle.miette_labels.specs.rules.Groups.{in_order}
+use Rattle.miette_label_rules.specs.rules.Groups.{in_order}
 use Rattle.miette_brief.specs.rules.Rows.{Place, rows_text}
 use Rattle.miette_brief.specs.declared.form.Form.{Form}
 use Rattle.miette_brief.specs.declared.form.Form.TheVariants.{Gcc, Github}

@@ -5,7 +5,7 @@ use Rattle.miette_source_lines.specs.views.Known.{IsKnown}
 use Rattle.miette_protocol.specs.views.Meaning.{Label}
 use Rattle.miette_protocol.specs.rules.Reading.{Span, Source, IsAccepted}
 use Rattle.miette_brief.specs.rules.Rows.{Place}
-use Rattle.miette_labels.specs.rules.Groups.{in_order}
+use Rattle.miette_label_rules.specs.rules.Groups.{in_order}
 use Rattle.miette_tree.specs.rules.Diagnosis.{Diagnosis, Section}
 use Rattle.miette_tree.specs.rules.DiagnosticParts.{given_labels}
 use Rattle.miette_brief.specs.rules.Places.{span_place, name_place, source_place, diagnostic_place, cause_place, Spot}

@@ -3,8 +3,8 @@ use Rattle.std.specs.Prelude.{List, ◌++◌, map, false}
 use Rattle.miette_frames.specs.declared.line_context.LineContext.{LineContext}
 use Rattle.miette_drawing.specs.declared.shown_line.ShownLine.{ShownLine}
 use Rattle.miette_page.specs.rules.Rows.{Row}
-use Rattle.miette_labels.specs.rules.Labels.{DrawnLabel}
-use Rattle.miette_labels.specs.views.GivenLabels.{drawn_of}
+use Rattle.miette_label_rules.specs.rules.Labels.{DrawnLabel}
+use Rattle.miette_label_rules.specs.views.GivenLabels.{drawn_of}
 use Rattle.miette_cells.specs.rules.Widths.{width_of}
 use Rattle.miette_snippet_rules.specs.rules.Gutters.{number_gutter}
 use Rattle.miette_snippet_rules.specs.rules.Frames.{number_start}

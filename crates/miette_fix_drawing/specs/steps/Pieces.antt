@@ -2,7 +2,7 @@
 use Rattle.std.specs.Prelude.{List, map, if◌then◌else◌}
 use Rattle.miette_style.specs.declared.style.Style.{Style}
 use Rattle.miette_style.specs.rules.Styles.{plain}
-use Rattle.miette_labels.specs.rules.Answers.{Highlight}
+use Rattle.miette_label_rules.specs.rules.Answers.{Highlight}
 use Rattle.miette_fix_rows.specs.rules.DiffTexts.{Painted, onto_painted}
 use Rattle.miette_fix_drawing.specs.declared.paint.Painted.{Painted as MadePainted}
 

@@ -9,8 +9,8 @@ use Rattle.miette_style.specs.declared.style.Style.{Style}
 use Rattle.miette_style.specs.rules.Styles.{plain}
 use Rattle.miette_source_lines.specs.rules.Lines.{is_text}
 use Rattle.miette_protocol.specs.rules.Reading.{Span}
-use Rattle.miette_labels.specs.rules.Answers.{Highlight}
-use Rattle.miette_labels.specs.rules.Labels.{DrawnLabel}
+use Rattle.miette_label_rules.specs.rules.Answers.{Highlight}
+use Rattle.miette_label_rules.specs.rules.Labels.{DrawnLabel}
 use Rattle.miette_page.specs.rules.Rows.{Row, glyph_of}
 use Rattle.miette_cells.specs.rules.Cells.{Cell, characters, cells_from}
 use Rattle.miette_snippet_rules.specs.rules.Drawing.{blank}

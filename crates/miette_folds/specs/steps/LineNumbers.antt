@@ -2,7 +2,7 @@
 use Rattle.std.specs.Prelude.{ℕ, ◌≡◌, ◌≤◌}
 use Rattle.miette_source_lines.specs.rules.Lines.{line_of}
 use Rattle.miette_protocol.specs.rules.Reading.{Span, Source, Contents}
-use Rattle.miette_labels.specs.rules.Contexts.{end_of_span}
+use Rattle.miette_label_rules.specs.rules.Contexts.{end_of_span}
 use Rattle.miette_labels.specs.views.Reads.{IsLent}
 
 -- the number of the line of an offset that a read reaches, in every source of which this can be read

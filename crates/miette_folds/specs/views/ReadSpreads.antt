@@ -4,9 +4,9 @@ use Rattle.std.specs.Prelude.{if◌then◌else◌}
 use Rattle.miette_source_lines.specs.rules.Lines.{line_of}
 use Rattle.miette_protocol.specs.views.Meaning.{Label}
 use Rattle.miette_labels.specs.declared.reading.ReadLabel.{ReadLabel}
-use Rattle.miette_labels.specs.rules.Around.{has_own}
-use Rattle.miette_labels.specs.rules.Contexts.{end_of_span}
-use Rattle.miette_labels.specs.views.GivenLabels.{label_at}
+use Rattle.miette_label_rules.specs.rules.Around.{has_own}
+use Rattle.miette_label_rules.specs.rules.Contexts.{end_of_span}
+use Rattle.miette_label_rules.specs.views.GivenLabels.{label_at}
 use Rattle.miette_labels.specs.views.Placing.{end_drawn}
 use Rattle.miette_folds.specs.declared.folds.Spread.{Spread as MadeSpread}
 use Rattle.miette_snippet_rules.specs.rules.Folds.{Spread}

@@ -3,7 +3,7 @@ use Rattle.std.specs.Prelude.{ℕ, ◌-◌, ◌≡◌, min, List, count_by}
 use Rattle.std.specs.List.{All}
 use Rattle.miette_source_lines.specs.rules.Lines.{is_terminated}
 use Rattle.miette_protocol.specs.rules.Reading.{Contents}
-use Rattle.miette_labels.specs.rules.Contexts.{lines_of_contents}
+use Rattle.miette_label_rules.specs.rules.Contexts.{lines_of_contents}
 use Rattle.miette_folds.specs.declared.folds.Spread.{Spread as MadeSpread}
 use Rattle.miette_snippet_rules.specs.rules.Folds.{Spread, place_among}
 

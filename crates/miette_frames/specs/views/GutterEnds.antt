@@ -4,7 +4,7 @@ use Rattle.miette_frames.specs.declared.gutters.GutterEnd.{GutterEnd}
 use Rattle.miette_frames.specs.declared.gutters.GutterEnd.TheVariants as ends
 use Rattle.miette_page.specs.rules.Rows.{Row, styled_run}
 use Rattle.miette_source_lines.specs.rules.Lines.{Line}
-use Rattle.miette_labels.specs.rules.Labels.{DrawnLabel, starts_on, ends_on}
+use Rattle.miette_label_rules.specs.rules.Labels.{DrawnLabel, starts_on, ends_on}
 use Rattle.miette_snippet_rules.specs.rules.Drawing.{blank}
 use Rattle.miette_snippet_rules.specs.rules.Gutters.{arrow, ending_corner, number_gutter, other_gutter, open_gutter}
 use Rattle.miette_snippet_rules.specs.rules.Settings.{SnippetSettings}

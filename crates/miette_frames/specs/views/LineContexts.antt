@@ -7,9 +7,9 @@ use Rattle.miette_frames.specs.views.GutterEnds.{gutter_with}
 use Rattle.miette_page.specs.rules.Rows.{Row}
 use Rattle.miette_snippet_rules.specs.rules.Marks.{Mark}
 use Rattle.miette_snippet_rules.specs.rules.Drawing.{text_row}
-use Rattle.miette_labels.specs.rules.Labels.{DrawnLabel}
+use Rattle.miette_label_rules.specs.rules.Labels.{DrawnLabel}
 use Rattle.miette_snippet_rules.specs.views.SettingsView.{settings_of}
-use Rattle.miette_labels.specs.views.GivenLabels.{drawn_of}
+use Rattle.miette_label_rules.specs.views.GivenLabels.{drawn_of}
 use Rattle.miette_snippet_rules.specs.rules.Gutters.{other_gutter, part_run}
 use Rattle.miette_snippet_rules.specs.rules.Frames.{other_start}
 use Rattle.miette_source_lines.specs.views.Walking.{line_of_text}

@@ -5,8 +5,8 @@ use Rattle.miette_protocol.specs.rules.Reading.{Span, Source}
 use Rattle.miette_protocol.specs.declared.error.MietteError.{MietteError}
 use Rattle.miette_labels.specs.declared.reading.RefusalReason.{RefusalReason}
 use Rattle.miette_labels.specs.declared.grouping.Group.{Group}
-use Rattle.miette_labels.specs.rules.Answers.{NoneFails}
-use Rattle.miette_labels.specs.rules.Groups.{groups_answered}
+use Rattle.miette_label_rules.specs.rules.Answers.{NoneFails}
+use Rattle.miette_label_rules.specs.rules.Groups.{groups_answered}
 use Rattle.miette_labels.specs.views.Reads.{IsLent}
 use Rattle.miette_protocol.specs.declared.error.MietteError.TheVariants as errors
 use Rattle.miette_labels.specs.declared.reading.RefusalReason.TheVariants as reasons

@@ -3,10 +3,10 @@ use Rattle.std.specs.Prelude.{ℕ, ◌+◌, ◌-◌, min, max, List, [], ◌∷�
 use Rattle.std.specs.Prelude.{if◌then◌else◌}
 use Rattle.miette_style.specs.declared.style.Style.{Style}
 use Rattle.miette_labels.specs.declared.reading.ReadLabel.{ReadLabel}
-use Rattle.miette_labels.specs.declared.sweep.PlacedLabel.{PlacedLabel}
-use Rattle.miette_labels.specs.rules.Contexts.{end_of_span}
-use Rattle.miette_labels.specs.rules.Labels.{DrawnLabel, parts_of, style_at}
-use Rattle.miette_labels.specs.views.GivenLabels.{text_at}
+use Rattle.miette_label_rules.specs.declared.placed.PlacedLabel.{PlacedLabel}
+use Rattle.miette_label_rules.specs.rules.Contexts.{end_of_span}
+use Rattle.miette_label_rules.specs.rules.Labels.{DrawnLabel, parts_of, style_at}
+use Rattle.miette_label_rules.specs.views.GivenLabels.{text_at}
 use Rattle.miette_protocol.specs.views.Meaning.{Label}
 use Rattle.std.specs.Option.{option_copied}
 

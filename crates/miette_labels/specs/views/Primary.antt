@@ -5,7 +5,7 @@ use Rattle.miette_protocol.specs.rules.Reading.{Span, Source, IsAccepted}
 use Rattle.miette_labels.specs.declared.primary.Place.{Place}
 use Rattle.miette_labels.specs.declared.primary.Place.TheVariants as places
 use Rattle.miette_labels.specs.declared.reading.ReadLabel.{ReadLabel}
-use Rattle.miette_labels.specs.rules.Contexts.{end_of_span, contents}
+use Rattle.miette_label_rules.specs.rules.Contexts.{end_of_span, contents}
 
 -- the end of a label that must lie in its group: its beginning where labels have their own numbers of context lines
 abbrev pub end_within : Bool → Span → ℕ

@@ -9,11 +9,11 @@ use Rattle.miette_labels.specs.declared.reading.ReadLabels.TheVariants as reads
 use Rattle.miette_labels.specs.declared.reading.RefusalReason.{RefusalReason}
 use Rattle.miette_labels.specs.declared.reading.RefusalReason.TheVariants as reasons
 use Rattle.miette_labels.specs.declared.grouping.Group.{Group}
-use Rattle.miette_labels.specs.rules.Answers.{NoneFails}
-use Rattle.miette_labels.specs.rules.Around.{contents_around, group_context}
-use Rattle.miette_labels.specs.rules.Contexts.{contents}
-use Rattle.miette_labels.specs.views.GivenLabels.{label_at}
-use Rattle.miette_labels.specs.rules.Groups.{refusal, groups_of, groups_fail}
+use Rattle.miette_label_rules.specs.rules.Answers.{NoneFails}
+use Rattle.miette_label_rules.specs.rules.Around.{contents_around, group_context}
+use Rattle.miette_label_rules.specs.rules.Contexts.{contents}
+use Rattle.miette_label_rules.specs.views.GivenLabels.{label_at}
+use Rattle.miette_label_rules.specs.rules.Groups.{refusal, groups_of, groups_fail}
 
 -- the bare name of a reason
 abbrev pub name_of : RefusalReason → List ℕ

@@ -1,13 +1,12 @@
 -- What a sweep over labels by offset knows at a place between two lines.
-use Rattle.std.specs.Prelude.{ℕ, ◌<◌, ◌≤◌, ◌≡◌, List, length, take, None, Bool, false, nat_lt}
+use Rattle.std.specs.Prelude.{ℕ, ◌<◌, ◌≤◌, ◌≡◌, List, length, take, Bool, nat_lt}
 use Rattle.std.specs.Prelude.{slice_index_or}
 use Rattle.std.specs.List.{filter}
-use Rattle.miette_labels.specs.declared.sweep.PlacedLabel.{PlacedLabel}
+use Rattle.miette_label_rules.specs.declared.placed.PlacedLabel.{PlacedLabel}
 use Rattle.miette_labels.specs.declared.sweep.Bounds.{Bounds}
-use Rattle.miette_style.specs.rules.Styles.{plain}
 use Rattle.miette_source_lines.specs.rules.Lines.{Line}
-use Rattle.miette_labels.specs.views.GivenLabels.{drawn_of}
-use Rattle.miette_labels.specs.rules.Labels.{reach, is_one_line, is_multi_line}
+use Rattle.miette_label_rules.specs.views.GivenLabels.{drawn_of}
+use Rattle.miette_label_rules.specs.rules.Labels.{reach, is_one_line, is_multi_line}
 
 -- a line from here to there; where its text ends decides nothing
 abbrev pub line_of_bounds : Bounds → Line
@@ -22,9 +21,6 @@ is_one line p = is_one_line line (drawn_of p)
 
 abbrev pub is_multi : Line → PlacedLabel → Bool
 is_multi line p = is_multi_line line (drawn_of p)
-
-abbrev pub nothing : PlacedLabel
-nothing = record { start = 0; after = 0; style = plain; text = None; behind = false }
 
 -- the k-th label's start
 abbrev pub start_at : List PlacedLabel → ℕ → ℕ

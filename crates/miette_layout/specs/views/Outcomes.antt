@@ -6,9 +6,9 @@ use Rattle.miette_protocol.specs.rules.Reading.{Source}
 use Rattle.miette_highlight.specs.rules.HighlighterCalls.{Call}
 use Rattle.miette_protocol.specs.declared.error.RenderError.{RenderError}
 use Rattle.miette_protocol.specs.declared.error.RenderError.TheVariants as errors
-use Rattle.miette_labels.specs.rules.Answers.{Answers, AlwaysReads}
-use Rattle.miette_labels.specs.rules.Around.{group_context}
-use Rattle.miette_labels.specs.rules.Groups.{in_order, groups_of}
+use Rattle.miette_label_rules.specs.rules.Answers.{Answers, AlwaysReads}
+use Rattle.miette_label_rules.specs.rules.Around.{group_context}
+use Rattle.miette_label_rules.specs.rules.Groups.{in_order, groups_of}
 use Rattle.miette_snippet_rules.specs.rules.Highlighting.{AreCallsOn, SnippetsHavePieces}
 use Rattle.miette_snippet_rules.specs.rules.Highlighting.{calls_of_labels, leaves_plain, snippet_calls}
 use Rattle.miette_snippet_rules.specs.rules.SnippetLayout.{end_lines, rows_of_labels, snippet_rows}

@@ -1,9 +1,9 @@
 -- The ends of labels of several lines, label by label.
 use Rattle.std.specs.Prelude.{ℕ, ◌-◌, List, [], ◌∷◌, Bool, ◌||◌, if◌then◌else◌}
 use Rattle.miette_source_lines.specs.rules.Lines.{Line}
-use Rattle.miette_labels.specs.declared.sweep.PlacedLabel.{PlacedLabel}
-use Rattle.miette_labels.specs.rules.Labels.{DrawnLabel, starts_on, ends_on}
-use Rattle.miette_labels.specs.views.GivenLabels.{drawn_of}
+use Rattle.miette_label_rules.specs.declared.placed.PlacedLabel.{PlacedLabel}
+use Rattle.miette_label_rules.specs.rules.Labels.{DrawnLabel, starts_on, ends_on}
+use Rattle.miette_label_rules.specs.views.GivenLabels.{drawn_of}
 use Rattle.miette_snippet_rules.specs.rules.Marks.{Text}
 use Rattle.miette_snippet_rules.specs.rules.PrintedCells.{first_column, last_column}
 

@@ -4,7 +4,7 @@ use Rattle.std.specs.Prelude.{if◌then◌else◌, nat_le, decimal, codes}
 use Rattle.miette_source_lines.specs.rules.Lines.{Line}
 use Rattle.miette_protocol.specs.views.Meaning.{Label}
 use Rattle.miette_cells.specs.rules.Cells.{Character}
-use Rattle.miette_labels.specs.rules.Contexts.{end_of_span}
+use Rattle.miette_label_rules.specs.rules.Contexts.{end_of_span}
 use Rattle.miette_columns.specs.rules.Columns.{column}
 
 -- a row is a text and a line feed

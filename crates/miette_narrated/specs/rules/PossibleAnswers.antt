@@ -6,8 +6,8 @@ use Rattle.miette_protocol.specs.views.Meaning.{Label}
 use Rattle.miette_protocol.specs.rules.Reading.{Source}
 use Rattle.miette_tree.specs.rules.Diagnosis.{Diagnosis, Section}
 use Rattle.miette_tree.specs.rules.Tree.{Tree, tree, Trees, no_trees, more_trees, effective}
-use Rattle.miette_labels.specs.rules.Answers.{NoneFails}
-use Rattle.miette_labels.specs.rules.Groups.{in_order, AreAccepted}
+use Rattle.miette_label_rules.specs.rules.Answers.{NoneFails}
+use Rattle.miette_label_rules.specs.rules.Groups.{in_order, AreAccepted}
 use Rattle.miette_tree.specs.rules.Answers.{AnswerTrees}
 use Rattle.miette_narrated.specs.rules.Report.{NarrationSettings, Answers, own_answer, related_answers}
 use Rattle.miette_narrated.specs.rules.Report.{first_answers, later_answers, ReadAnswers, first_fails, later_fails}

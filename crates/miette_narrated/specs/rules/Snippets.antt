@@ -2,9 +2,9 @@
 use Rattle.std.specs.Prelude.{ℕ, ◌+◌, List, [], ◌∷◌, ◌++◌, map, length, Option, Some, None, Bool, decimal, codes}
 use Rattle.miette_protocol.specs.views.Meaning.{Label}
 use Rattle.miette_protocol.specs.rules.Reading.{Span, Source, Contents}
-use Rattle.miette_labels.specs.rules.Contexts.{contents, lines_of_contents}
-use Rattle.miette_labels.specs.rules.Around.{group_context}
-use Rattle.miette_labels.specs.rules.Groups.{in_order, groups_of}
+use Rattle.miette_label_rules.specs.rules.Contexts.{contents, lines_of_contents}
+use Rattle.miette_label_rules.specs.rules.Around.{group_context}
+use Rattle.miette_label_rules.specs.rules.Groups.{in_order, groups_of}
 use Rattle.miette_narrated.specs.rules.Labels.{LabelRange, label_range, row}
 use Rattle.miette_narrated.specs.rules.Lines.{rows_of_lines}
 

@@ -1,6 +1,6 @@
 -- What a program gives, in the words of the definitions.
 use Rattle.std.specs.Prelude.{List, map, option_copied}
-use Rattle.miette_labels.specs.declared.sweep.PlacedLabel.{PlacedLabel}
+use Rattle.miette_label_rules.specs.declared.placed.PlacedLabel.{PlacedLabel}
 use Rattle.miette_cells.specs.rules.Cells.{characters}
 use Rattle.miette_source_lines.specs.views.Walking.{line_of_text}
 use Rattle.miette_narrated.specs.declared.narrated_line.NarratedLine.{NarratedLine}

@@ -1,7 +1,7 @@
 -- What a sweep over labels by offset knows at a line.
 use Rattle.std.specs.Prelude.{ℕ, ◌≤◌, ◌≡◌, ⊤, List, [], ◌∷◌, take, max, Bool, nat_le, if◌then◌else◌}
 use Rattle.std.specs.List.{filter}
-use Rattle.miette_labels.specs.declared.sweep.PlacedLabel.{PlacedLabel}
+use Rattle.miette_label_rules.specs.declared.placed.PlacedLabel.{PlacedLabel}
 use Rattle.miette_narrated.specs.declared.sweeping.LabelWalk.{LabelWalk}
 use Rattle.miette_narrated.specs.rules.Labels.{SnippetLine}
 

@@ -4,7 +4,7 @@ use Rattle.std.specs.Prelude.{encode_utf8_all, slice_range}
 use Rattle.std.specs.List.{list_all}
 use Rattle.miette_cells.specs.rules.Cells.{Cell}
 use Rattle.miette_cells.specs.views.Printable.{is_printable}
-use Rattle.miette_labels.specs.rules.Labels.{multi_line, one_line}
+use Rattle.miette_label_rules.specs.rules.Labels.{multi_line, one_line}
 use Rattle.miette_page.specs.rules.Rows.{Row}
 use Rattle.miette_runs.specs.rules.Runs.{print}
 use Rattle.miette_snippet_rules.specs.rules.PrintedCells.{printed_cells}

@@ -1,6 +1,6 @@
 -- Where the rows of shown lines stand: in those of the labels over a source, and these in those of a diagnostic.
 use Rattle.std.specs.Prelude.{◌≡◌, ℕ, ◌+◌, true, List, [], ◌∷◌, ◌++◌, map, length, drop, Some}
-use Rattle.miette_labels.specs.rules.Answers.{Highlight, first_of}
+use Rattle.miette_label_rules.specs.rules.Answers.{Highlight, first_of}
 use Rattle.miette_page.specs.rules.Rows.{Row}
 use Rattle.miette_protocol.specs.views.Meaning.{Label}
 use Rattle.miette_protocol.specs.rules.Reading.{Source}

@@ -1,6 +1,6 @@
 -- What isn't determined by a tree and the settings: what reads answered, and the highlighter's pieces.
 use Rattle.std.specs.Prelude.{Bool, false, List, [], ◌∷◌}
-use Rattle.miette_labels.specs.rules.Answers as snippet_answers
+use Rattle.miette_label_rules.specs.rules.Answers as snippet_answers
 use Rattle.miette_tree.specs.rules.Answers.{AnswerTree, AnswerTrees, own_or}
 pub use Rattle.miette_tree.specs.rules.Answers.{unlisted, listed, no_more, and_more, cause_answers, related_answers}
 pub use Rattle.miette_tree.specs.rules.Answers.{first_answers, later_answers}

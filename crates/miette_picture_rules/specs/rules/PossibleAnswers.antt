@@ -14,8 +14,8 @@ use Rattle.miette_picture_rules.specs.rules.DiagnosticText.{Drawing}
 use Rattle.miette_picture_rules.specs.rules.Sources.{LabelledSource, reads_for, snippets_after, snippets_with}
 use Rattle.miette_picture_rules.specs.rules.Sources.{sources_of}
 use Rattle.miette_snippet_rules.specs.rules.Settings as snippets
-use Rattle.miette_labels.specs.rules.Around.{group_context}
-use Rattle.miette_labels.specs.rules.Groups.{in_order, groups_of}
+use Rattle.miette_label_rules.specs.rules.Around.{group_context}
+use Rattle.miette_label_rules.specs.rules.Groups.{in_order, groups_of}
 use Rattle.miette_highlight.specs.rules.HighlighterCalls.{Call}
 use Rattle.miette_snippet_rules.specs.rules.Highlighting.{SnippetsHavePieces}
 use Rattle.miette_snippet_rules.specs.rules.SnippetLayout.{end_lines, rows_of_labels}

@@ -6,14 +6,14 @@ use Rattle.std.specs.List.{AllByRecursion, concat}
 use Rattle.miette_source_lines.specs.rules.Lines.{Line, lines_of}
 use Rattle.miette_protocol.specs.views.Meaning.{Label}
 use Rattle.miette_protocol.specs.rules.Reading.{Source, Span}
-use Rattle.miette_labels.specs.rules.Answers.{Highlight}
-use Rattle.miette_labels.specs.rules.Around.{HaveContext}
-use Rattle.miette_labels.specs.rules.Contexts.{contents, lines_of_contents}
+use Rattle.miette_label_rules.specs.rules.Answers.{Highlight}
+use Rattle.miette_label_rules.specs.rules.Around.{HaveContext}
+use Rattle.miette_label_rules.specs.rules.Contexts.{contents, lines_of_contents}
 use Rattle.miette_snippet_rules.specs.rules.Folds.{Spread}
 use Rattle.miette_snippet_rules.specs.rules.Settings as snippets
-use Rattle.miette_labels.specs.rules.Groups as grouping
-use Rattle.miette_labels.specs.rules.Groups.{AreAccepted, in_order, lines_of_groups}
-use Rattle.miette_labels.specs.rules.Labels.{DrawnLabel, multi_line, one_line, some_shows_end}
+use Rattle.miette_label_rules.specs.rules.Groups as grouping
+use Rattle.miette_label_rules.specs.rules.Groups.{AreAccepted, in_order, lines_of_groups}
+use Rattle.miette_label_rules.specs.rules.Labels.{DrawnLabel, multi_line, one_line, some_shows_end}
 use Rattle.miette_snippet_rules.specs.rules.SnippetLayout as snippet_layout
 use Rattle.miette_snippet_rules.specs.rules.SnippetLayout.{body_rows, cells_of, cut_ends, line_cut, line_marks}
 use Rattle.miette_snippet_rules.specs.rules.SnippetLayout.{end_lines, end_settings, settings_around}

@@ -3,8 +3,8 @@ use Rattle.std.specs.Prelude.{ℕ, ◌≡◌, List, length, Bool, ◌&&◌, nat_
 use Rattle.std.specs.List.{filter}
 use Rattle.miette_protocol.specs.views.Meaning.{Label}
 use Rattle.miette_protocol.specs.rules.Reading.{Span, Source}
-use Rattle.miette_labels.specs.rules.Contexts.{end_of_span}
-use Rattle.miette_labels.specs.rules.Groups.{own_groups, stretch}
+use Rattle.miette_label_rules.specs.rules.Contexts.{end_of_span}
+use Rattle.miette_label_rules.specs.rules.Groups.{own_groups, stretch}
 use Rattle.miette_snippet_rules.specs.rules.SnippetLayout.{is_within}
 
 -- whether a group's bytes hold some data

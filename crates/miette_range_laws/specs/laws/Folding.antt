@@ -3,7 +3,7 @@ use Rattle.std.specs.Prelude.{ℕ, ◌+◌, ◌-◌, ◌≤◌, ◌≡◌, true,
 use Rattle.miette_source_lines.specs.rules.Lines.{Line, line_of}
 use Rattle.miette_protocol.specs.views.Meaning.{Label}
 use Rattle.miette_protocol.specs.rules.Reading.{Span}
-use Rattle.miette_labels.specs.rules.Labels.{DrawnLabel, starts_on, ends_on}
+use Rattle.miette_label_rules.specs.rules.Labels.{DrawnLabel, starts_on, ends_on}
 use Rattle.miette_snippet_rules.specs.rules.Folds.{last_byte}
 use Rattle.miette_snippet_rules.specs.rules.Numbers.{last_of}
 

@@ -1,6 +1,6 @@
 -- Rows of the 26 letters, as they are cut.
 use Rattle.std.specs.Prelude.{ℕ, ◌≡◌, List, [], ◌∷◌, Some, codes, false, map}
-use Rattle.miette_labels.specs.rules.Labels.{DrawnLabel}
+use Rattle.miette_label_rules.specs.rules.Labels.{DrawnLabel}
 use Rattle.miette_page.specs.rules.Rows.{glyphs_of}
 use Rattle.miette_snippet_rules.specs.rules.Settings.{SnippetSettings}
 use Rattle.miette_snippet_rules.specs.rules.SnippetLayout.{cells_of}

@@ -1,9 +1,10 @@
 -- What holds of lines that are cut: which cells are shown, where dots and marks stand, and how wide a row can be.
-use Rattle.std.specs.Prelude.{ℕ, ◌+◌, ◌-◌, ◌*◌, ◌<◌, ◌≤◌, ◌≡◌, ◌≢◌, List, [], ◌∷◌, ◌++◌, map, Bool, if◌then◌else◌, nat_lt}
+use Rattle.std.specs.Prelude.{ℕ, ◌+◌, ◌-◌, ◌*◌, ◌<◌, ◌≤◌, ◌≡◌, ◌≢◌, List, [], ◌∷◌, ◌++◌, map, Bool, if◌then◌else◌}
+use Rattle.std.specs.Prelude.{nat_lt}
 use Rattle.std.specs.Prelude.{Option, Some, None, true, false}
 use Rattle.std.specs.List.{AllByRecursion}
 use Rattle.miette_cells.specs.rules.Cells.{Cell}
-use Rattle.miette_labels.specs.rules.Contexts.{contents, lines_of_contents}
+use Rattle.miette_label_rules.specs.rules.Contexts.{contents, lines_of_contents}
 use Rattle.miette_page.specs.rules.Rows.{Glyph, Run}
 use Rattle.miette_snippet_rules.specs.rules.CutLines.{Stretch, cut_at, has_room, is_kept, is_near, is_shown_at}
 use Rattle.miette_snippet_rules.specs.rules.CutLines.{limit_of, passes_after, text_columns}

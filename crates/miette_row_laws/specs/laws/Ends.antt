@@ -3,9 +3,9 @@ use Rattle.std.specs.Prelude.{ℕ, ◌≡◌, max, true, List, [], ◌∷◌, ma
 use Rattle.miette_source_lines.specs.rules.Lines.{Line, lines_of}
 use Rattle.miette_page.specs.rules.Rows.{columns_of, glyphs_of}
 use Rattle.miette_protocol.specs.views.Meaning.{Label}
-use Rattle.miette_labels.specs.rules.Answers.{Highlight}
+use Rattle.miette_label_rules.specs.rules.Answers.{Highlight}
 use Rattle.miette_cells.specs.rules.Cells.{Cell}
-use Rattle.miette_labels.specs.rules.Labels.{DrawnLabel, is_at_end, is_empty, is_one_line, some_shows_end}
+use Rattle.miette_label_rules.specs.rules.Labels.{DrawnLabel, is_at_end, is_empty, is_one_line, some_shows_end}
 use Rattle.miette_snippet_rules.specs.rules.Marks.{Mark, Text, marks}
 use Rattle.miette_snippet_rules.specs.rules.SnippetLayout.{drawn_labels}
 use Rattle.miette_row_laws.specs.laws.Pictures.{marks_of_line, text_of_line}

@@ -1,7 +1,7 @@
 -- The settings of snippets and answers without colours, and rows that are plain.
 use Rattle.std.specs.Prelude.{◌≡◌, List, []}
 use Rattle.std.specs.List.{AllByRecursion}
-use Rattle.miette_labels.specs.rules.Answers.{Answers}
+use Rattle.miette_label_rules.specs.rules.Answers.{Answers}
 use Rattle.miette_page.specs.rules.Rows.{Row}
 use Rattle.miette_style.specs.declared.style.Style.{Style}
 use Rattle.miette_style.specs.rules.Styles.{plain}

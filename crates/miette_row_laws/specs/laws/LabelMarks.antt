@@ -2,7 +2,7 @@
 use Rattle.std.specs.Prelude.{ℕ, ◌+◌, ◌-◌, ◌<◌, ◌≤◌, ◌≡◌, max, List, [], ◌∷◌, true, false}
 use Rattle.std.specs.List.{Contains}
 use Rattle.miette_cells.specs.rules.Cells.{Cell}
-use Rattle.miette_labels.specs.rules.Labels.{is_empty}
+use Rattle.miette_label_rules.specs.rules.Labels.{is_empty}
 use Rattle.miette_snippet_rules.specs.rules.Marks.{Mark}
 use Rattle.miette_snippet_rules.specs.rules.PrintedCells.{printed_cells, printed_glyphs}
 use Rattle.miette_row_laws.specs.laws.Cuts.{standing_at}

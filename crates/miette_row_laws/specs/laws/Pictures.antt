@@ -5,14 +5,14 @@ use Rattle.std.specs.List.{AllByRecursion}
 use Rattle.miette_page.specs.rules.Rows.{Glyph, Row, glyphs_of, columns_of, glyph_of, code_at, Begins}
 use Rattle.miette_source_lines.specs.rules.Lines.{Line}
 use Rattle.miette_cells.specs.rules.Cells.{Cell}
-use Rattle.miette_labels.specs.rules.Labels.{DrawnLabel, one_line, multi_line, closing_labels}
+use Rattle.miette_label_rules.specs.rules.Labels.{DrawnLabel, one_line, multi_line, closing_labels}
 use Rattle.miette_snippet_rules.specs.rules.CutLines.{dots, dots_in, shown_runs, shown_marks}
 use Rattle.miette_snippet_rules.specs.rules.Marks.{Mark}
 use Rattle.miette_snippet_rules.specs.rules.Drawing.{mark_code}
 use Rattle.miette_snippet_rules.specs.rules.Frames.{number_width}
 use Rattle.miette_protocol.specs.rules.Reading.{Contents}
-use Rattle.miette_labels.specs.rules.Answers.{Highlight, first_of}
-use Rattle.miette_labels.specs.rules.Contexts.{lines_of_contents}
+use Rattle.miette_label_rules.specs.rules.Answers.{Highlight, first_of}
+use Rattle.miette_label_rules.specs.rules.Contexts.{lines_of_contents}
 use Rattle.miette_snippet_rules.specs.rules.Gutters.{gutter_columns}
 use Rattle.miette_snippet_rules.specs.rules.SnippetLayout.{line_rows, line_marks, line_cut, cells_of}
 use Rattle.miette_style.specs.rules.Themes.{Characters}

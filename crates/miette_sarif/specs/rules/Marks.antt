@@ -4,7 +4,7 @@ use Rattle.std.specs.Prelude.{Option, Some, None, unwrap_or, is_none, option_map
 use Rattle.std.specs.Str.{is_utf8}
 use Rattle.miette_basics.specs.rules.Lists.{is_nil}
 use Rattle.miette_json.specs.rules.JsonReport.{first_fault, later_faults}
-use Rattle.miette_labels.specs.rules.Groups.{in_order}
+use Rattle.miette_label_rules.specs.rules.Groups.{in_order}
 use Rattle.miette_positions.specs.declared.place.PositionEncoding.TheVariants.{Utf16}
 use Rattle.miette_positions.specs.declared.place.Stretch.{Stretch}
 use Rattle.miette_positions.specs.rules.Regions.{stretch_of}

@@ -1,7 +1,7 @@
 -- The ends of a line, around which it is cut.
 use Rattle.std.specs.Prelude.{ℕ, ◌-◌, List, [], ◌∷◌, ◌++◌, if◌then◌else◌}
 use Rattle.miette_source_lines.specs.rules.Lines.{Line}
-use Rattle.miette_labels.specs.rules.Labels.{DrawnLabel, starts_on, ends_on}
+use Rattle.miette_label_rules.specs.rules.Labels.{DrawnLabel, starts_on, ends_on}
 use Rattle.miette_snippet_rules.specs.rules.Marks.{Mark, Text}
 use Rattle.miette_snippet_rules.specs.rules.PrintedCells.{first_column, last_column}
 

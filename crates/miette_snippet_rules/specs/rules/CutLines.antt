@@ -5,7 +5,7 @@ use Rattle.std.specs.Prelude.{Bool, not, true, false, ◌&&◌, ◌||◌, if◌t
 use Rattle.std.specs.List.{list_any}
 use Rattle.miette_page.specs.rules.Rows.{Glyph, Run}
 use Rattle.miette_style.specs.rules.Themes.{Characters, Theme}
-use Rattle.miette_labels.specs.rules.Answers.{Highlight}
+use Rattle.miette_label_rules.specs.rules.Answers.{Highlight}
 use Rattle.miette_cells.specs.rules.Cells.{Cell}
 use Rattle.miette_snippet_rules.specs.rules.Marks.{Mark}
 use Rattle.miette_snippet_rules.specs.rules.PrintedCells.{cells_width, line_runs, text_bytes}

@@ -1,13 +1,14 @@
 -- Folded labels: which lines inside them are left out.
-use Rattle.std.specs.Prelude.{ℕ, zero, suc, ◌+◌, ◌-◌, min, max, List, [], ◌∷◌, map, length, count_by, Option, Some, None}
+use Rattle.std.specs.Prelude.{ℕ, zero, suc, ◌+◌, ◌-◌, min, max, List, [], ◌∷◌, map, length, count_by, Option, Some}
+use Rattle.std.specs.Prelude.{None}
 use Rattle.std.specs.Prelude.{Bool, false, not, ◌&&◌, ◌||◌, nat_lt, nat_le}
 use Rattle.std.specs.List.{list_any}
 use Rattle.miette_source_lines.specs.rules.Lines.{Line, is_terminated}
 use Rattle.miette_protocol.specs.views.Meaning.{Label}
 use Rattle.miette_protocol.specs.rules.Reading.{Span, Source}
-use Rattle.miette_labels.specs.rules.Around.{lines_around}
-use Rattle.miette_labels.specs.rules.Contexts.{end_of_span}
-use Rattle.miette_labels.specs.rules.Groups.{stretch}
+use Rattle.miette_label_rules.specs.rules.Around.{lines_around}
+use Rattle.miette_label_rules.specs.rules.Contexts.{end_of_span}
+use Rattle.miette_label_rules.specs.rules.Groups.{stretch}
 
 -- the offset of the last byte that a label is drawn over; its own where it is drawn over none
 abbrev pub last_byte : List ℕ → Span → ℕ

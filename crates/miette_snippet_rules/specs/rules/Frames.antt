@@ -5,9 +5,9 @@ use Rattle.miette_page.specs.rules.Rows.{Row, styled_run, plain_run}
 use Rattle.miette_source_lines.specs.rules.Lines.{Line}
 use Rattle.miette_protocol.specs.views.Meaning.{Label}
 use Rattle.miette_protocol.specs.rules.Reading.{Contents}
-use Rattle.miette_labels.specs.rules.Contexts.{lines_of_contents}
+use Rattle.miette_label_rules.specs.rules.Contexts.{lines_of_contents}
 use Rattle.miette_snippet_rules.specs.rules.Drawing.{blank}
-use Rattle.miette_labels.specs.rules.Groups.{Refusal}
+use Rattle.miette_label_rules.specs.rules.Groups.{Refusal}
 use Rattle.miette_snippet_rules.specs.rules.Settings.{SnippetSettings}
 
 -- the text of a label, whose bytes are given

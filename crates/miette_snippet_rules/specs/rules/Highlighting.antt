@@ -8,10 +8,10 @@ use Rattle.miette_protocol.specs.views.Meaning.{Label}
 use Rattle.miette_protocol.specs.rules.Reading.{Span, Source}
 use Rattle.miette_highlight.specs.rules.HighlighterCalls.{Call, Leads, asked, listed_pieces, restarted}
 use Rattle.miette_highlight.specs.rules.Pieces.{CutsLine, Piece}
-use Rattle.miette_labels.specs.rules.Answers.{Answers, Highlight, first_of}
-use Rattle.miette_labels.specs.rules.Around.{group_context}
-use Rattle.miette_labels.specs.rules.Contexts.{contents, lines_of_contents}
-use Rattle.miette_labels.specs.rules.Groups.{in_order, refusal, groups_of}
+use Rattle.miette_label_rules.specs.rules.Answers.{Answers, Highlight, first_of}
+use Rattle.miette_label_rules.specs.rules.Around.{group_context}
+use Rattle.miette_label_rules.specs.rules.Contexts.{contents, lines_of_contents}
+use Rattle.miette_label_rules.specs.rules.Groups.{in_order, refusal, groups_of}
 use Rattle.miette_snippet_rules.specs.declared.options.LayoutOptions.{LayoutOptions}
 use Rattle.miette_snippet_rules.specs.rules.SnippetLayout.{end_lines}
 

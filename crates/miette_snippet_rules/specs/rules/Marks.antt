@@ -1,7 +1,7 @@
 -- The marks of the one-line labels of a line, by offset.
 use Rattle.std.specs.Prelude.{ℕ, ◌+◌, ◌/◌, ◌<◌, ◌≤◌, max, List, [], ◌∷◌, ◌&&◌, nat_lt, nat_le, if◌then◌else◌}
 use Rattle.std.specs.List.{filter}
-use Rattle.miette_labels.specs.rules.Labels.{DrawnLabel, is_empty}
+use Rattle.miette_label_rules.specs.rules.Labels.{DrawnLabel, is_empty}
 use Rattle.miette_snippet_rules.specs.rules.PrintedCells.{first_column, last_column}
 use Rattle.miette_cells.specs.rules.Cells.{Cell}
 

@@ -6,10 +6,10 @@ use Rattle.miette_protocol.specs.rules.Reading.{Span, Source}
 use Rattle.miette_snippet_rules.specs.rules.Numbers.{last_of}
 use Rattle.miette_page.specs.rules.Rows.{Row}
 use Rattle.miette_snippet_rules.specs.rules.Snippets.{snippets, is_kept}
-use Rattle.miette_labels.specs.rules.Answers.{Answers, Highlight, first_of}
-use Rattle.miette_labels.specs.rules.Contexts.{contents}
-use Rattle.miette_labels.specs.rules.Groups.{in_order, groups_of}
-use Rattle.miette_labels.specs.rules.Labels.{DrawnLabel}
+use Rattle.miette_label_rules.specs.rules.Answers.{Answers, Highlight, first_of}
+use Rattle.miette_label_rules.specs.rules.Contexts.{contents}
+use Rattle.miette_label_rules.specs.rules.Groups.{in_order, groups_of}
+use Rattle.miette_label_rules.specs.rules.Labels.{DrawnLabel}
 use Rattle.miette_snippet_rules.specs.rules.Gutters.{gutter_columns}
 use Rattle.miette_snippet_rules.specs.rules.Folds.{Spread}
 pub use Rattle.miette_snippet_rules.specs.rules.Folds.{line_at}

@@ -7,15 +7,15 @@ use Rattle.miette_source_lines.specs.rules.Lines.{Line}
 use Rattle.miette_protocol.specs.views.Meaning.{Label}
 use Rattle.miette_protocol.specs.rules.Reading.{Span, Source, Contents}
 use Rattle.miette_page.specs.rules.Rows.{Row}
-use Rattle.miette_labels.specs.rules.Answers.{Answers, Highlight, first_of}
-use Rattle.miette_labels.specs.rules.Around.{has_own, group_context}
-use Rattle.miette_labels.specs.rules.Contexts.{end_of_span, contents, lines_of_contents}
-use Rattle.miette_labels.specs.rules.Groups.{in_order, refusal, groups_of, some_fails, groups_fail}
+use Rattle.miette_label_rules.specs.rules.Answers.{Answers, Highlight, first_of}
+use Rattle.miette_label_rules.specs.rules.Around.{has_own, group_context}
+use Rattle.miette_label_rules.specs.rules.Contexts.{end_of_span, contents, lines_of_contents}
+use Rattle.miette_label_rules.specs.rules.Groups.{in_order, refusal, groups_of, some_fails, groups_fail}
 use Rattle.miette_snippet_rules.specs.declared.options.LayoutOptions.{LayoutOptions}
 use Rattle.miette_snippet_rules.specs.rules.PrintedCells.{cells_width}
 use Rattle.miette_cells.specs.rules.Cells.{Cell, characters, cells_from}
-use Rattle.miette_labels.specs.rules.Labels.{DrawnLabel, drawn_from, some_shows_end, one_line, multi_line}
-use Rattle.miette_labels.specs.rules.Labels.{closing_labels}
+use Rattle.miette_label_rules.specs.rules.Labels.{DrawnLabel, drawn_from, some_shows_end, one_line, multi_line}
+use Rattle.miette_label_rules.specs.rules.Labels.{closing_labels}
 use Rattle.miette_snippet_rules.specs.rules.Marks.{Text, Mark, marks}
 use Rattle.miette_snippet_rules.specs.rules.CutEnds.{mark_ends, spread_ends}
 use Rattle.miette_snippet_rules.specs.rules.CutLines.{Stretch, cut_line, dots, dots_in, shown_runs, shown_marks}

@@ -4,7 +4,7 @@ use Rattle.std.specs.List.{range_with_len, filter, list_any}
 use Rattle.miette_source_lines.specs.rules.Lines.{lines_of, line_of}
 use Rattle.miette_protocol.specs.views.Meaning.{Label}
 use Rattle.miette_protocol.specs.rules.Reading.{Span}
-use Rattle.miette_labels.specs.rules.Around.{lines_around}
+use Rattle.miette_label_rules.specs.rules.Around.{lines_around}
 use Rattle.miette_snippet_rules.specs.rules.Folds.{last_byte, hides}
 use Rattle.miette_snippet_rules.specs.rules.Numbers.{ranges}
 use Rattle.miette_protocol.specs.rules.Context.{first_line, last_line}

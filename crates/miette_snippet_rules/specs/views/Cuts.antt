@@ -1,7 +1,7 @@
 -- The stretches of a line that is cut, as a program makes them: by their counts of cells, columns and bytes.
 use Rattle.std.specs.Prelude.{ℕ, ◌+◌, List, [], ◌∷◌, ◌++◌, length, take, drop, Option, Some, None, if◌then◌else◌}
 use Rattle.miette_page.specs.rules.Rows.{Run}
-use Rattle.miette_labels.specs.rules.Answers.{Highlight}
+use Rattle.miette_label_rules.specs.rules.Answers.{Highlight}
 use Rattle.miette_cells.specs.rules.Cells.{Cell}
 use Rattle.miette_snippet_rules.specs.rules.PrintedCells.{line_runs}
 use Rattle.miette_snippet_rules.specs.rules.CutLines.{Stretch, bytes_in, columns_in, pieces_within}

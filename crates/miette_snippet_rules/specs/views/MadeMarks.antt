@@ -1,6 +1,6 @@
 -- Marks, as a program makes them.
-use Rattle.miette_labels.specs.views.GivenLabels.{drawn_of}
-use Rattle.miette_labels.specs.views.Sweeping.{nothing}
+use Rattle.miette_label_rules.specs.views.GivenLabels.{drawn_of}
+use Rattle.miette_label_rules.specs.views.GivenLabels.{nothing}
 use Rattle.miette_snippet_rules.specs.rules.Marks.{Mark, HasAnchor}
 use Rattle.miette_snippet_rules.specs.declared.marks.Mark.{Mark as MadeMark}
 

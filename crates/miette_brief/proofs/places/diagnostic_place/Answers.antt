@@ -2,7 +2,7 @@ use Rattle.std.proofs.Common.{map, subst}
 use Rattle.std.specs.Option.{option_map}
 use Rattle.miette_tree.specs.views.Attached.{section_of}
 use Rattle.miette_tree.specs.views.Owned.{shown_source}
-use Rattle.miette_labels.specs.views.GivenLabels.{label_at}
+use Rattle.miette_label_rules.specs.views.GivenLabels.{label_at}
 use Rattle.miette_brief.specs.declared.spots.Found.{Found}
 use Rattle.miette_brief.specs.rules.Places.{primary_spot}
 use Rattle.miette_brief.specs.steps.Reads.{IsFound}

@@ -6,8 +6,8 @@ use Rattle.miette_tree.specs.rules.Tree.{head}
 use Rattle.miette_tree.specs.views.Owned.{shown_source}
 use Rattle.miette_tree.specs.views.Report.{tree_of}
 use Rattle.miette_labels.specs.declared.order.Turn.{Turn}
-use Rattle.miette_labels.specs.rules.Groups.{in_order}
-use Rattle.miette_labels.specs.views.GivenLabels.{label_at}
+use Rattle.miette_label_rules.specs.rules.Groups.{in_order}
+use Rattle.miette_label_rules.specs.views.GivenLabels.{label_at}
 use Rattle.miette_brief.proofs.Telling.{further_order_refused, labelled, order_refused, own_order_refused}
 use Rattle.miette_brief.proofs.report.push_labelled.Goals as goal
 

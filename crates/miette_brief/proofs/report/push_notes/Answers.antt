@@ -1,7 +1,7 @@
 use Rattle.std.proofs.Common.{refl, rules, map, string_bytes}
 use Rattle.std.specs.Option.{option_map}
 use Rattle.miette_tree.specs.views.Owned.{shown_source}
-use Rattle.miette_labels.specs.views.GivenLabels.{label_at}
+use Rattle.miette_label_rules.specs.views.GivenLabels.{label_at}
 use Rattle.miette_labels.specs.declared.order.Turn.{Turn}
 use Rattle.miette_brief.specs.steps.Reads.{IsUnread}
 use Rattle.miette_brief.proofs.KnownPlaces.{start_of}

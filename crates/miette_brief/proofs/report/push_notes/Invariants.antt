@@ -1,7 +1,7 @@
 use Rattle.std.proofs.Common.{◌≡◌, ◌++◌, string_bytes, map, drop}
 use Rattle.std.specs.Option.{option_map}
 use Rattle.miette_tree.specs.views.Owned.{shown_source}
-use Rattle.miette_labels.specs.views.GivenLabels.{label_at}
+use Rattle.miette_label_rules.specs.views.GivenLabels.{label_at}
 use Rattle.miette_brief.specs.rules.Rows.{rows_text}
 use Rattle.miette_brief.specs.rules.Report.{note_rows}
 use Rattle.miette_brief.specs.rules.PossibleAnswers.{HasAccepted}

@@ -1,6 +1,6 @@
 use Rattle.std.proofs.Common.{sym, ◌∙◌, length}
 use Rattle.std.proofs.lemmas.Bool.{eqb-true, eqb-false}
-use Rattle.miette_labels.specs.views.GivenLabels.{label_at}
+use Rattle.miette_label_rules.specs.views.GivenLabels.{label_at}
 use Rattle.miette_labels.specs.declared.order.Turn.{Turn}
 use Rattle.miette_brief.proofs.Choosing.{first_here, first_nil}
 use Rattle.miette_brief.proofs.spots.first_span.Goals as goal

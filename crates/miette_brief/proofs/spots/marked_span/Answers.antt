@@ -1,5 +1,5 @@
 use Rattle.std.proofs.Common.{sym, ap, ◌∙◌, map, Some}
-use Rattle.miette_labels.specs.views.GivenLabels.{label_at}
+use Rattle.miette_label_rules.specs.views.GivenLabels.{label_at}
 use Rattle.miette_labels.specs.declared.order.Turn.{Turn}
 use Rattle.miette_brief.specs.rules.Places.{marked_in}
 use Rattle.miette_brief.proofs.Choosing.{marked_here, marked_later, marked_none}

@@ -1,5 +1,5 @@
 use Rattle.std.proofs.Common.{◌≡◌, map, drop}
-use Rattle.miette_labels.specs.views.GivenLabels.{label_at}
+use Rattle.miette_label_rules.specs.views.GivenLabels.{label_at}
 use Rattle.miette_brief.specs.rules.Places.{marked_in}
 use Rattle.miette_brief.proofs.spots.marked_span.Given as goal
 

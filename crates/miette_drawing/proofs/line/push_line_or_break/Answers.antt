@@ -3,9 +3,9 @@ use Rattle.std.proofs.Common.{◌≡◌, ℕ, List, Option, [], ◌∷◌, ◌++
 use Rattle.std.proofs.lemmas.Result.{on_ok_weaker}
 use Rattle.miette_page.specs.rules.Rows.{Row}
 use Rattle.miette_page.specs.views.Tokens.{rows_tokens}
-use Rattle.miette_labels.specs.rules.Answers.{Highlight}
+use Rattle.miette_label_rules.specs.rules.Answers.{Highlight}
 use Rattle.miette_cells.specs.rules.Cells.{Cell}
-use Rattle.miette_labels.specs.rules.Labels.{closing_labels}
+use Rattle.miette_label_rules.specs.rules.Labels.{closing_labels}
 use Rattle.miette_snippet_rules.specs.rules.CutLines.{Stretch, cut_line, dots, dots_in, shown_marks, shown_runs}
 use Rattle.miette_snippet_rules.specs.rules.CutEnds.{mark_ends, spread_ends}
 use Rattle.miette_snippet_rules.specs.rules.Marks.{Mark, marks}

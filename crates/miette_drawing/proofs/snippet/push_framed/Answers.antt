@@ -8,10 +8,10 @@ use Rattle.miette_snippet_rules.specs.views.SettingsView.{settings_of}
 use Rattle.miette_snippet_rules.specs.rules.Highlighting.{leaves_plain, follows}
 use Rattle.miette_highlight.specs.rules.HighlighterCalls.{Call, Leads}
 use Rattle.miette_source_lines.specs.rules.Lines.{lines_from}
-use Rattle.miette_labels.specs.views.GivenLabels.{drawn_of}
+use Rattle.miette_label_rules.specs.views.GivenLabels.{drawn_of}
 use Rattle.miette_snippet_rules.specs.rules.SnippetLayout.{snippet_context}
 use Rattle.miette_frames.specs.views.LentRows.{cells_in, texts_in}
-use Rattle.miette_frames.proofs.ReadRows.{told_lent}
+use Rattle.miette_drawing.proofs.ReadRows.{told_lent}
 use Rattle.miette_drawing.proofs.AroundRows.{rows_around}
 use Rattle.miette_drawing.proofs.snippet.push_framed.Goals as goal
 

@@ -1,8 +1,8 @@
 use Rattle.std.proofs.Common.{ℕ, ◌≡◌, ◌+◌, ◌-◌, ◌≤◌, ◌<◌, false, arith, length, map, refl, sym, ap, subst, ◌∙◌, Bool}
 use Rattle.std.proofs.Common.{List, drop}
-use Rattle.miette_labels.specs.declared.sweep.PlacedLabel.{PlacedLabel}
+use Rattle.miette_label_rules.specs.declared.placed.PlacedLabel.{PlacedLabel}
 use Rattle.miette_snippet_rules.specs.views.SettingsView.{settings_of}
-use Rattle.miette_labels.specs.views.GivenLabels.{drawn_of}
+use Rattle.miette_label_rules.specs.views.GivenLabels.{drawn_of}
 use Rattle.miette_snippet_rules.specs.rules.Folds.{leaves_out, line_at}
 use Rattle.miette_snippet_rules.specs.rules.Highlighting.{leaves_plain, decoded_text, ArePieces, follows, highlight_of}
 use Rattle.miette_snippet_rules.specs.rules.SnippetLayout.{left_out}
@@ -22,7 +22,7 @@ use Rattle.miette_snippet_rules.proofs.NeverHidden.{none_before}
 use Rattle.miette_folds.proofs.LeftOutGaps.{IsPassed, next_before, next_outs}
 use Rattle.miette_drawing.proofs.LeftOutRows.{lines_run}
 use Rattle.miette_folds.proofs.LineExtent.{not_jumped}
-use Rattle.miette_frames.proofs.ReadRows.{AreLined, lines_first, lines_more, lines_all, text_fits}
+use Rattle.miette_drawing.proofs.ReadRows.{AreLined, lines_first, lines_more, lines_all, text_fits}
 use Rattle.miette_drawing.proofs.snippet.push_lines.Goals as goal
 
 pub loop-at-init : goal.loop-at-init

@@ -1,13 +1,13 @@
 use Rattle.std.proofs.Common.{◌≡◌, ◌+◌, ◌-◌, length, map}
 use Rattle.miette_snippet_rules.specs.views.SettingsView.{settings_of}
 use Rattle.miette_source_lines.specs.rules.Lines.{lines_from}
-use Rattle.miette_labels.specs.views.GivenLabels.{drawn_of}
+use Rattle.miette_label_rules.specs.views.GivenLabels.{drawn_of}
 use Rattle.miette_snippet_rules.specs.rules.Folds.{leaves_out, line_at}
 use Rattle.miette_snippet_rules.specs.rules.SnippetLayout.{left_out}
 use Rattle.miette_folds.specs.views.Spreads.{spread_of}
 use Rattle.miette_snippet_rules.specs.rules.Highlighting.{leaves_plain, follows}
 use Rattle.miette_labels.specs.views.Sweeping.{IsAt}
-use Rattle.miette_frames.proofs.ReadRows.{AreLined}
+use Rattle.miette_drawing.proofs.ReadRows.{AreLined}
 use Rattle.miette_folds.proofs.Starts.{Begins}
 use Rattle.miette_drawing.proofs.snippet.push_lines.Given as goal
 

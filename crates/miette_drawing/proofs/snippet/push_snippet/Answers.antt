@@ -3,14 +3,14 @@ use Rattle.std.specs.Option.{option_map}
 use Rattle.miette_folds.specs.views.Spreads.{spread_of}
 use Rattle.miette_frames.specs.views.Places.{place_at}
 use Rattle.miette_snippet_rules.specs.views.SettingsView.{settings_of}
-use Rattle.miette_labels.specs.views.GivenLabels.{drawn_of}
+use Rattle.miette_label_rules.specs.views.GivenLabels.{drawn_of}
 use Rattle.miette_frames.specs.views.LentRows.{PutsRows, lent_snippet}
 use Rattle.miette_labels.specs.views.Sweeping.{IsAt}
 use Rattle.miette_highlight.specs.rules.HighlighterCalls.{Call, Leads, restarted}
 use Rattle.miette_snippet_rules.specs.rules.Highlighting.{follows, leaves_plain}
 use Rattle.miette_page.specs.rules.Rows.{Row}
-use Rattle.miette_labels.specs.rules.Answers.{Highlight}
-use Rattle.miette_frames.proofs.ReadRows.{lent_texts, restarted_first}
+use Rattle.miette_label_rules.specs.rules.Answers.{Highlight}
+use Rattle.miette_drawing.proofs.ReadRows.{lent_texts, restarted_first}
 use Rattle.miette_drawing.proofs.snippet.push_snippet.Goals as goal
 
 pub push_framed-requires-clause-at : goal.push_framed-requires-clause-at

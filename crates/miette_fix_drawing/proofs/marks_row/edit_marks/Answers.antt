@@ -2,7 +2,7 @@ use Rattle.std.proofs.Common.{◌+◌, ◌∙◌, ap, length, List, map, ℕ, fa
 use Rattle.std.proofs.lemmas.Result.{IfOk-weaker}
 use Rattle.miette_cells.specs.rules.Cells.{cells_from, characters}
 use Rattle.miette_cells.specs.rules.Widths.{width_of}
-use Rattle.miette_labels.specs.views.GivenLabels.{drawn_of}
+use Rattle.miette_label_rules.specs.views.GivenLabels.{drawn_of}
 use Rattle.miette_snippet_rules.specs.rules.Marks.{Text, marks}
 use Rattle.miette_snippet_rules.specs.rules.SnippetLayout.{text_of_cells}
 use Rattle.miette_fix_rows.specs.rules.DiffTexts.{parts_in}

@@ -1,5 +1,5 @@
 use Rattle.std.proofs.Common.{◌≡◌, ◌++◌, drop, length, map}
-use Rattle.miette_labels.specs.views.GivenLabels.{drawn_of}
+use Rattle.miette_label_rules.specs.views.GivenLabels.{drawn_of}
 use Rattle.miette_fix_rows.specs.rules.DiffTexts.{parts_in}
 use Rattle.miette_fix_drawing.proofs.marks_row.parts_in.Given as goal
 

@@ -1,9 +1,9 @@
 use Rattle.std.proofs.Common.{◌∙◌, ◌∷◌, ap}
 use Rattle.std.specs.Prelude.{chars, option_copied}
 use Rattle.std.proofs.lemmas.Result.{on_ok_weaker}
-use Rattle.miette_labels.specs.rules.Labels.{parts_of}
+use Rattle.miette_label_rules.specs.rules.Labels.{parts_of}
 use Rattle.miette_snippet_rules.specs.rules.Frames.{other_start}
-use Rattle.miette_labels.specs.views.GivenLabels.{drawn_of}
+use Rattle.miette_label_rules.specs.views.GivenLabels.{drawn_of}
 use Rattle.miette_frames.specs.views.LineContexts.{settings, multi_labels}
 use Rattle.miette_source_lines.specs.views.Walking.{line_of_text}
 use Rattle.miette_frames.proofs.ClosingRows.{several_closing}

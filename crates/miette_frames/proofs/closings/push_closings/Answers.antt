@@ -2,7 +2,7 @@ use Rattle.miette_page.specs.views.Printouts.{◌⊕◌}
 use Rattle.std.proofs.Common.{◌∙◌, ◌+◌, List, ap, sym, map, drop}
 use Rattle.miette_page.specs.views.Tokens.{Token}
 use Rattle.miette_snippet_rules.specs.rules.Frames.{other_start}
-use Rattle.miette_labels.specs.views.GivenLabels.{drawn_of}
+use Rattle.miette_label_rules.specs.views.GivenLabels.{drawn_of}
 use Rattle.miette_frames.specs.views.LineContexts.{settings, multi_labels}
 use Rattle.miette_source_lines.specs.views.Walking.{line_of_text}
 use Rattle.miette_frames.proofs.ClosingRows.{closing_more, closing_skip, rest_of}

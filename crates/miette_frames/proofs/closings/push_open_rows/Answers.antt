@@ -1,8 +1,8 @@
 use Rattle.std.proofs.Common.{◌∙◌, ap}
 use Rattle.std.specs.Prelude.{chars}
 use Rattle.std.specs.Option.{option_copied}
-use Rattle.miette_labels.specs.rules.Labels.{parts_of}
-use Rattle.miette_labels.specs.views.GivenLabels.{drawn_of}
+use Rattle.miette_label_rules.specs.rules.Labels.{parts_of}
+use Rattle.miette_label_rules.specs.views.GivenLabels.{drawn_of}
 use Rattle.miette_frames.specs.views.LineContexts.{open_line}
 use Rattle.miette_frames.proofs.TextRows.{part_more}
 use Rattle.miette_frames.proofs.closings.push_open_rows.Goals as goal

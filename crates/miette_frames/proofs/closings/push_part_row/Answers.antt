@@ -1,7 +1,7 @@
 use Rattle.std.specs.Prelude.{chars}
 use Rattle.std.proofs.lemmas.Result.{on_ok_weaker}
 use Rattle.miette_snippet_rules.specs.rules.Frames.{other_start}
-use Rattle.miette_labels.specs.views.GivenLabels.{drawn_of}
+use Rattle.miette_label_rules.specs.views.GivenLabels.{drawn_of}
 use Rattle.miette_frames.specs.views.GutterEnds.{gutter_with}
 use Rattle.miette_frames.specs.views.LineContexts.{settings, multi_labels}
 use Rattle.miette_source_lines.specs.views.Walking.{line_of_text}

@@ -1,6 +1,6 @@
 use Rattle.std.proofs.Common.{◌∙◌, ap, cond, sym}
 use Rattle.std.specs.Option.{option_copied}
-use Rattle.miette_labels.specs.rules.Labels.{parts_of}
+use Rattle.miette_label_rules.specs.rules.Labels.{parts_of}
 use Rattle.miette_snippet_rules.specs.rules.Gutters.{ending_corner}
 use Rattle.miette_style.specs.rules.Themes.{characters_of}
 use Rattle.miette_frames.proofs.GutterRows.{corner_of_some}

@@ -1,7 +1,7 @@
 use Rattle.std.proofs.Common.{◌∙◌, ap, sym}
 use Rattle.std.proofs.lemmas.Result.{on_ok_weaker}
 use Rattle.miette_page.specs.views.Printouts.{◌⊕◌}
-use Rattle.miette_labels.specs.views.GivenLabels.{drawn_of}
+use Rattle.miette_label_rules.specs.views.GivenLabels.{drawn_of}
 use Rattle.miette_source_lines.specs.views.Walking.{line_of_text}
 use Rattle.miette_snippet_rules.proofs.RowTokens.{blank_row}
 use Rattle.miette_frames.specs.views.LineContexts.{settings}

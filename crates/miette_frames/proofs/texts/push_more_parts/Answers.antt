@@ -1,7 +1,7 @@
 use Rattle.std.proofs.Common.{◌∙◌, ap, map}
 use Rattle.std.specs.Prelude.{chars}
 use Rattle.std.specs.Option.{option_copied}
-use Rattle.miette_labels.specs.rules.Labels.{parts_of}
+use Rattle.miette_label_rules.specs.rules.Labels.{parts_of}
 use Rattle.miette_snippet_rules.specs.rules.Drawing.{beside}
 use Rattle.miette_snippet_rules.specs.views.MadeMarks.{mark_of}
 use Rattle.miette_frames.specs.views.LineContexts.{settings, text_line}

@@ -3,7 +3,7 @@ use Rattle.std.proofs.Common.{◌≡◌, ◌+◌, map, length}
 use Rattle.std.specs.Prelude.{chars}
 use Rattle.std.specs.Option.{option_map_or, option_copied}
 use Rattle.miette_page.specs.views.Tokens.{rows_tokens}
-use Rattle.miette_labels.specs.rules.Labels.{cut_at_lf, parts_of}
+use Rattle.miette_label_rules.specs.rules.Labels.{cut_at_lf, parts_of}
 use Rattle.miette_snippet_rules.specs.rules.Drawing.{beside}
 use Rattle.miette_snippet_rules.specs.views.MadeMarks.{mark_of}
 use Rattle.miette_frames.specs.views.LineContexts.{settings, text_line}

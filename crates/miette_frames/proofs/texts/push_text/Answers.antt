@@ -1,7 +1,7 @@
 use Rattle.std.proofs.Common.{◌∙◌, ◌∷◌, ap, map}
 use Rattle.std.specs.Prelude.{chars, option_copied}
 use Rattle.std.proofs.lemmas.Result.{on_ok_weaker}
-use Rattle.miette_labels.specs.rules.Labels.{parts_of}
+use Rattle.miette_label_rules.specs.rules.Labels.{parts_of}
 use Rattle.miette_snippet_rules.specs.views.MadeMarks.{mark_of}
 use Rattle.miette_frames.specs.views.LineContexts.{before_marks}
 use Rattle.miette_frames.proofs.TextRows.{several_parts}

@@ -1,5 +1,5 @@
 use Rattle.std.proofs.Common.{ap, ◌∙◌}
-use Rattle.miette_labels.specs.rules.Groups.{joined_stretches}
+use Rattle.miette_label_rules.specs.rules.Groups.{joined_stretches}
 use Rattle.miette_labels.proofs.GroupsOfReads.{groups_accepted}
 use Rattle.miette_labels.proofs.grouping.own_groups.Goals as goal
 

@@ -1,6 +1,6 @@
 use Rattle.std.proofs.Common.{ap, ◌∙◌, rules}
 use Rattle.std.proofs.lemmas.List.Sorted.{IsNonDecreasingBy-from_sort_by_key, answers_always}
-use Rattle.miette_labels.specs.rules.Groups.{by_begin}
+use Rattle.miette_label_rules.specs.rules.Groups.{by_begin}
 use Rattle.miette_labels.proofs.GroupsOfReads.{sort_begins}
 use Rattle.miette_labels.proofs.stretches.stretches_by_begin.Goals as goal
 

@@ -1,5 +1,5 @@
 use Rattle.std.proofs.Common.{◌≡◌, ◌++◌, drop}
-use Rattle.miette_labels.specs.rules.Groups.{joined_stretches, stretches_from}
+use Rattle.miette_label_rules.specs.rules.Groups.{joined_stretches, stretches_from}
 use Rattle.miette_labels.proofs.stretches.union_of.Given as goal
 
 abbrev pub invariant-loop-span : goal.invariant-loop-span

@@ -1,6 +1,6 @@
 use Rattle.std.proofs.Common.{◌≡◌, ◌≤◌, ◌-◌, ◌∙◌, ap, length, subst, ℕ}
 use Rattle.miette_protocol.specs.rules.Reading.{Source, Span}
-use Rattle.miette_labels.specs.rules.Contexts.{contents}
+use Rattle.miette_label_rules.specs.rules.Contexts.{contents}
 use Rattle.miette_layout.proofs.AskedEnds.{refused_there, told_there}
 use Rattle.miette_layout.proofs.ends.ends_at.Goals as goal
 

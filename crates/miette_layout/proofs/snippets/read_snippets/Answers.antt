@@ -2,8 +2,8 @@ use Rattle.std.proofs.Common.{◌≡◌, rules, refl, ap, sym, ◌∙◌, ◌∷
 use Rattle.std.specs.Option.{option_map}
 use Rattle.miette_protocol.specs.rules.Reading.{Span}
 use Rattle.miette_frames.specs.views.Places.{place_at}
-use Rattle.miette_labels.specs.rules.Around.{group_context}
-use Rattle.miette_labels.specs.rules.Groups.{in_order}
+use Rattle.miette_label_rules.specs.rules.Around.{group_context}
+use Rattle.miette_label_rules.specs.rules.Groups.{in_order}
 use Rattle.miette_snippet_rules.specs.rules.Folds.{spreads_of}
 use Rattle.miette_folds.specs.declared.folds.Spread.{Spread as MadeSpread}
 use Rattle.miette_folds.specs.views.Spreads.{spread_of}
@@ -11,14 +11,14 @@ use Rattle.miette_folds.specs.views.ReadSpreads.{HasLines}
 use Rattle.miette_folds.proofs.ReadSpreads.{spreads_are}
 use Rattle.miette_snippet_rules.specs.rules.SnippetLayout.{settings_around}
 use Rattle.miette_snippet_rules.specs.views.SettingsView.{settings_of}
-use Rattle.miette_labels.specs.views.GivenLabels.{drawn_of}
+use Rattle.miette_label_rules.specs.views.GivenLabels.{drawn_of}
 use Rattle.miette_snippet_rules.specs.rules.Highlighting.{leaves_plain, follows}
 use Rattle.miette_frames.specs.views.LentRows.{PutsRows, lent_snippet}
 use Rattle.miette_labels.specs.views.Placing.{placed_of, placed_from}
 use Rattle.miette_labels.specs.views.Primary.{PointsTo}
 use Rattle.miette_labels.proofs.GroupsOfReads.{are_grouped}
 use Rattle.miette_labels.proofs.KnownLabels.{lent_known, lent_last}
-use Rattle.miette_frames.proofs.ReadRows.{lent_texts}
+use Rattle.miette_drawing.proofs.ReadRows.{lent_texts}
 use Rattle.miette_highlight.specs.rules.HighlighterCalls.{Call, Leads, restarted}
 use Rattle.miette_labels.proofs.GroupsOfReads.{reads_rise}
 use Rattle.miette_folds.proofs.LineNumbers.{are_numbered}

@@ -1,4 +1,4 @@
-use Rattle.miette_labels.specs.rules.Groups.{in_order}
+use Rattle.miette_label_rules.specs.rules.Groups.{in_order}
 use Rattle.miette_snippet_rules.specs.rules.Folds.{spreads_of}
 use Rattle.miette_snippet_rules.specs.rules.SnippetLayout.{settings_around}
 use Rattle.miette_snippet_rules.specs.views.SettingsView.{settings_of}

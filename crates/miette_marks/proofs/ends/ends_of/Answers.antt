@@ -2,7 +2,7 @@ use Rattle.std.proofs.Common.{◌+◌, ◌<◌, ◌^◌, ◌∙◌, ◌++◌, �
 use Rattle.miette_cells.specs.rules.Cells.{cells_from, characters}
 use Rattle.miette_cells.specs.rules.Widths.{width_of}
 use Rattle.miette_source_lines.specs.views.Walking.{line_of_text}
-use Rattle.miette_labels.specs.views.GivenLabels.{drawn_of}
+use Rattle.miette_label_rules.specs.views.GivenLabels.{drawn_of}
 use Rattle.miette_snippet_rules.specs.rules.CutEnds.{mark_ends, spread_ends}
 use Rattle.miette_snippet_rules.specs.rules.Marks.{Text}
 use Rattle.miette_snippet_rules.specs.rules.SnippetLayout.{text_of_cells}

@@ -1,4 +1,4 @@
-use Rattle.miette_labels.specs.views.Sweeping.{nothing}
+use Rattle.miette_label_rules.specs.views.GivenLabels.{nothing}
 use Rattle.miette_source_lines.specs.views.Walking.{line_of_text}
 use Rattle.miette_marks.proofs.EndColumns.{spread_done, spread_more}
 use Rattle.miette_marks.proofs.ends.push_spread_ends.Goals as goal

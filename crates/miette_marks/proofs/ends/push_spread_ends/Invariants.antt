@@ -1,6 +1,6 @@
 use Rattle.std.proofs.Common.{◌≡◌, ◌++◌, map, drop}
 use Rattle.miette_source_lines.specs.views.Walking.{line_of_text}
-use Rattle.miette_labels.specs.views.GivenLabels.{drawn_of}
+use Rattle.miette_label_rules.specs.views.GivenLabels.{drawn_of}
 use Rattle.miette_snippet_rules.specs.rules.CutEnds.{spread_ends}
 use Rattle.miette_marks.proofs.ends.push_spread_ends.Given as goal
 

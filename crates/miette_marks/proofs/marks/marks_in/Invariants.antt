@@ -2,7 +2,7 @@ use Rattle.std.proofs.Common.{◌≡◌, ◌++◌, map, drop}
 use Rattle.std.specs.List.{All}
 use Rattle.miette_snippet_rules.specs.rules.Marks.{marks, marks_from}
 use Rattle.miette_snippet_rules.specs.views.MadeMarks.{mark_of, IsAnchored}
-use Rattle.miette_labels.specs.views.GivenLabels.{drawn_of}
+use Rattle.miette_label_rules.specs.views.GivenLabels.{drawn_of}
 use Rattle.miette_marks.proofs.marks.marks_in.Given as goal
 
 abbrev pub invariant-loop-label : goal.invariant-loop-label

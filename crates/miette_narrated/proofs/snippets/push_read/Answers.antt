@@ -1,8 +1,8 @@
 use Rattle.std.proofs.Common.{◌≡◌, ◌++◌, ap, ◌∙◌, map, List, string_bytes, subst, sym}
 use Rattle.std.specs.Option.{option_map}
-use Rattle.miette_labels.specs.rules.Around.{group_context}
-use Rattle.miette_labels.specs.rules.Groups.{in_order}
-use Rattle.miette_labels.specs.declared.sweep.PlacedLabel.{PlacedLabel}
+use Rattle.miette_label_rules.specs.rules.Around.{group_context}
+use Rattle.miette_label_rules.specs.rules.Groups.{in_order}
+use Rattle.miette_label_rules.specs.declared.placed.PlacedLabel.{PlacedLabel}
 use Rattle.miette_labels.specs.views.Placing.{placed_of}
 use Rattle.miette_labels.specs.views.Reads.{AreGroups}
 use Rattle.miette_labels.proofs.GroupsOfReads.{are_grouped}

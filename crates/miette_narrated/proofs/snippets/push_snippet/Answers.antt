@@ -1,6 +1,6 @@
 use Rattle.std.proofs.Common.{◌+◌, string_bytes}
 use Rattle.std.proofs.lemmas.Result.{on_ok_weaker}
-use Rattle.miette_labels.specs.rules.Contexts.{lines_of_contents}
+use Rattle.miette_label_rules.specs.rules.Contexts.{lines_of_contents}
 use Rattle.miette_narrated.specs.rules.Lines.{rows_of_lines}
 use Rattle.miette_narrated.specs.steps.Conversions.{ranges_of}
 use Rattle.miette_narrated.specs.rules.Snippets.{begin_rows}

@@ -1,5 +1,5 @@
 use Rattle.std.proofs.Common.{ap, ◌∙◌, map}
-use Rattle.miette_labels.specs.views.GivenLabels.{label_at}
+use Rattle.miette_label_rules.specs.views.GivenLabels.{label_at}
 use Rattle.miette_narrated.proofs.Reading.{refused_read}
 use Rattle.miette_narrated.proofs.snippets.push_snippets.Goals as goal
 

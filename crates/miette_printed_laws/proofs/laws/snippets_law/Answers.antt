@@ -5,8 +5,8 @@ use Rattle.std.proofs.Common.{subst}
 use Rattle.std.specs.List.{AllByRecursion}
 use Rattle.miette_protocol.specs.views.Meaning.{Label}
 use Rattle.miette_protocol.specs.rules.Reading.{Source}
-use Rattle.miette_labels.specs.rules.Contexts.{contents}
-use Rattle.miette_labels.specs.rules.Groups.{in_order}
+use Rattle.miette_label_rules.specs.rules.Contexts.{contents}
+use Rattle.miette_label_rules.specs.rules.Groups.{in_order}
 use Rattle.miette_cells.specs.rules.Cells.{Cell}
 use Rattle.miette_page.specs.rules.Rows.{glyphs_of}
 use Rattle.miette_snippet_rules.specs.rules.CutLines.{dots, dots_in, limit_of, shown_runs}
@@ -25,7 +25,7 @@ use Rattle.miette_picture_rules.specs.rules.Sources.{HoldsOfSources, LabelledSou
 use Rattle.miette_picture_rules.specs.rules.Sources.{sources_of}
 use Rattle.miette_picture_rules.specs.rules.PrintedDiagnostics.{HoldsOfPrinted, PrintedDiagnostic, diagnostics_of}
 use Rattle.miette_picture_rules.specs.rules.Snippets.{snippet_settings, shown_rows, source_rows}
-use Rattle.miette_labels.specs.rules.Answers.{Answers}
+use Rattle.miette_label_rules.specs.rules.Answers.{Answers}
 use Rattle.miette_snippet_rules.specs.rules.SnippetLayout.{end_settings, snippet_rows}
 use Rattle.miette_picture_rules.proofs.GroupRows.{none_listed}
 use Rattle.miette_printed_laws.proofs.EndShown.{context_set, end_shown, none_fewer}

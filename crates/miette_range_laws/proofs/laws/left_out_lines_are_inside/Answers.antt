@@ -1,5 +1,5 @@
 use Rattle.std.proofs.Common.{◌+◌, Some, ◌∙◌}
-use Rattle.miette_labels.specs.rules.Groups.{in_order}
+use Rattle.miette_label_rules.specs.rules.Groups.{in_order}
 use Rattle.miette_range_laws.proofs.Inside.{left_out_inside, left_out_same}
 use Rattle.miette_range_laws.proofs.LeftOutPairs.{left_pairs}
 use Rattle.miette_range_laws.proofs.LeftOutRuns.{kept_ordered}

@@ -7,8 +7,8 @@ use Rattle.miette_protocol.specs.views.Meaning.{Label}
 use Rattle.miette_style.specs.declared.style.Style.{Style}
 use Rattle.miette_basics.specs.rules.Lists.{onto}
 use Rattle.miette_style.specs.rules.Styles.{plain}
-use Rattle.miette_labels.specs.rules.Around.{lines_around}
-use Rattle.miette_labels.specs.rules.Contexts.{end_of_span}
+use Rattle.miette_label_rules.specs.rules.Around.{lines_around}
+use Rattle.miette_label_rules.specs.rules.Contexts.{end_of_span}
 
 -- A label as it is drawn, from an offset to its drawn end, with the parts of its text, none where it has no text; and
 -- whether it stands behind the text of its line.

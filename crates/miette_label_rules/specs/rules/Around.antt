@@ -3,7 +3,7 @@ use Rattle.std.specs.Prelude.{ℕ, ◌≤◌, max, List, Bool, is_some, unwrap_o
 use Rattle.std.specs.List.{list_any, AllByRecursion}
 use Rattle.miette_protocol.specs.views.Meaning.{Label}
 use Rattle.miette_protocol.specs.rules.Reading.{Source, Contents}
-use Rattle.miette_labels.specs.rules.Contexts.{contents}
+use Rattle.miette_label_rules.specs.rules.Contexts.{contents}
 
 -- whether some label has its own number of context lines
 abbrev pub has_own : List Label → Bool

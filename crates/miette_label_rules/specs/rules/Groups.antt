@@ -4,9 +4,9 @@ use Rattle.std.specs.Prelude.{if◌then◌else◌, nat_le, drop}
 use Rattle.std.specs.List.{AllByRecursion}
 use Rattle.miette_protocol.specs.views.Meaning.{Label}
 use Rattle.miette_protocol.specs.rules.Reading.{Span, Source, IsAccepted, is_accepted}
-use Rattle.miette_labels.specs.rules.Answers.{next_answer}
-use Rattle.miette_labels.specs.rules.Around.{has_own, contents_around}
-use Rattle.miette_labels.specs.rules.Contexts.{end_of_span, contents, lines_in}
+use Rattle.miette_label_rules.specs.rules.Answers.{next_answer}
+use Rattle.miette_label_rules.specs.rules.Around.{has_own, contents_around}
+use Rattle.miette_label_rules.specs.rules.Contexts.{end_of_span, contents, lines_in}
 
 -- a label comes before the first one that doesn't begin before it
 abbrev pub put_label : Label → List Label → List Label

@@ -1,10 +1,10 @@
 -- Labels as a program gives them.
-use Rattle.std.specs.Prelude.{ℕ, false, List, Option, None, map, slice_get, unwrap_or}
+use Rattle.std.specs.Prelude.{ℕ, false, List, Option, None, slice_get, unwrap_or}
 use Rattle.std.specs.Option.{option_copied, option_map_or}
 use Rattle.miette_protocol.specs.views.Meaning.{Label}
-use Rattle.miette_labels.specs.declared.order.Turn.{Turn}
-use Rattle.miette_labels.specs.declared.sweep.PlacedLabel.{PlacedLabel}
-use Rattle.miette_labels.specs.rules.Labels.{DrawnLabel, parts_of}
+use Rattle.miette_style.specs.rules.Styles.{plain}
+use Rattle.miette_label_rules.specs.declared.placed.PlacedLabel.{PlacedLabel}
+use Rattle.miette_label_rules.specs.rules.Labels.{DrawnLabel, parts_of}
 
 -- the text of the i-th label
 abbrev pub text_at : List Label → ℕ → Option (List ℕ)
@@ -25,6 +25,5 @@ abbrev pub label_at : List Label → ℕ → Label
 label_at labels i = unwrap_or (slice_get labels i)
     (record { text = None; span = record { offset = 0; len = 0 }; primary = false; context = None })
 
--- the labels that turns name, in their order
-abbrev pub turned : List Label → List Turn → List Label
-turned labels turns = map (λ turn. label_at labels turn.index) turns
+abbrev pub nothing : PlacedLabel
+nothing = record { start = 0; after = 0; style = plain; text = None; behind = false }

@@ -18,18 +18,18 @@ use Rattle.miette_style.specs.declared.style.Style.{Style}
 use Rattle.miette_highlight.specs.rules.HighlighterCalls.{Call, Leads, asked, restarted}
 use Rattle.miette_labels.specs.declared.reading.ReadLabel.{ReadLabel}
 use Rattle.miette_source_lines.specs.declared.lines.LineOfText.{LineOfText}
-use Rattle.miette_labels.specs.declared.sweep.PlacedLabel.{PlacedLabel}
-use Rattle.miette_labels.specs.rules.Answers.{Highlight, first_of}
+use Rattle.miette_label_rules.specs.declared.placed.PlacedLabel.{PlacedLabel}
+use Rattle.miette_label_rules.specs.rules.Answers.{Highlight, first_of}
 use Rattle.miette_page.specs.rules.Rows.{Row}
 use Rattle.miette_cells.specs.rules.Cells.{Cell, characters, cells_from}
-use Rattle.miette_labels.specs.rules.Contexts.{contents, lines_of_contents}
+use Rattle.miette_label_rules.specs.rules.Contexts.{contents, lines_of_contents}
 use Rattle.miette_snippet_rules.specs.rules.Folds.{Spread}
 use Rattle.miette_snippet_rules.specs.rules.Frames.{Place, top_row, top_row_of, bottom_row}
 use Rattle.miette_snippet_rules.specs.rules.Frames.{number_width, width_of_lines}
-use Rattle.miette_labels.specs.views.GivenLabels.{drawn_of}
-use Rattle.miette_labels.specs.rules.Groups.{in_order}
+use Rattle.miette_label_rules.specs.views.GivenLabels.{drawn_of}
+use Rattle.miette_label_rules.specs.rules.Groups.{in_order}
 use Rattle.miette_snippet_rules.specs.rules.Gutters.{gutter_columns, most_labels}
-use Rattle.miette_labels.specs.rules.Labels.{DrawnLabel, is_one_line, is_multi_line, one_line, multi_line}
+use Rattle.miette_label_rules.specs.rules.Labels.{DrawnLabel, is_one_line, is_multi_line, one_line, multi_line}
 use Rattle.miette_snippet_rules.specs.rules.SnippetLayout.{cells_of, line_or_break, line_or_break_of, rows_of_lines}
 use Rattle.miette_snippet_rules.specs.rules.SnippetLayout.{left_out, body_rows}
 use Rattle.miette_snippet_rules.specs.rules.Highlighting.{EachHasPieces, ArePieces, decoded_text, texts_of, line_calls}
@@ -40,12 +40,13 @@ use Rattle.miette_labels.specs.views.Placing.{Placed, placed_of, placed_one, pla
 use Rattle.miette_labels.specs.views.Placing.{end_drawn, is_told}
 use Rattle.miette_labels.specs.views.Reads.{IsRead}
 use Rattle.miette_source_lines.specs.views.Walking.{line_of_text}
-use Rattle.miette_labels.specs.views.Sweeping.{is_one, is_multi, nothing, AreSorted}
+use Rattle.miette_labels.specs.views.Sweeping.{is_one, is_multi, AreSorted}
+use Rattle.miette_label_rules.specs.views.GivenLabels.{nothing}
 use Rattle.miette_labels.specs.views.LabelCounts.{most_multi}
 use Rattle.miette_page.specs.views.Tokens.{rows_tokens}
 use Rattle.miette_basics.proofs.Cases.{by_cases}
 use Rattle.miette_source_lines.proofs.Cuts.{cut_from, cut_le}
-use Rattle.miette_snippet_rules.proofs.LabelEnds.{end_told}
+use Rattle.miette_labels.proofs.LabelEnds.{end_told}
 use Rattle.miette_labels.proofs.GroupsOfReads.{reads_ascend}
 use Rattle.miette_labels.proofs.SortedLabels.{Rises, non_decreasing}
 use Rattle.miette_labels.proofs.RefusedLabel.{read_of}

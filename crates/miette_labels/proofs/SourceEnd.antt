@@ -12,14 +12,13 @@ use Rattle.miette_protocol.specs.views.Meaning.{Label}
 use Rattle.miette_protocol.specs.rules.Reading.{Span, Source, reading_end}
 use Rattle.miette_protocol.specs.rules.Context.{first_line, last_line}
 use Rattle.miette_labels.specs.declared.reading.ReadLabel.{ReadLabel}
-use Rattle.miette_labels.specs.rules.Around.{has_own, lines_around, group_context}
-use Rattle.miette_labels.specs.rules.Contexts.{contents, end_of_span}
-use Rattle.miette_labels.specs.rules.Groups.{in_order}
-use Rattle.miette_labels.specs.rules.Labels.{drawn_from, shows_end, some_shows_end}
-use Rattle.miette_labels.specs.views.GivenLabels.{label_at}
+use Rattle.miette_label_rules.specs.rules.Around.{has_own, lines_around, group_context}
+use Rattle.miette_label_rules.specs.rules.Contexts.{contents, end_of_span}
+use Rattle.miette_label_rules.specs.rules.Groups.{in_order}
+use Rattle.miette_label_rules.specs.rules.Labels.{shows_end, some_shows_end}
+use Rattle.miette_label_rules.specs.views.GivenLabels.{label_at}
 use Rattle.miette_labels.specs.views.Reads.{IsRead}
 use Rattle.miette_labels.specs.views.Placing.{lends_before, told_end}
-use Rattle.miette_snippet_rules.specs.rules.SnippetLayout.{drawn_labels, settings_around}
 use Rattle.miette_basics.proofs.Cases.{by_cases}
 use Rattle.miette_source_lines.proofs.Places.{line_end_after, line_end_beyond, line_end_le, line_of_mono}
 use Rattle.miette_source_lines.proofs.Places.{line_start_next}
@@ -27,9 +26,8 @@ use Rattle.miette_source_lines.proofs.Cuts.{start_before_end}
 use Rattle.miette_protocol.proofs.Wholes.{data_are, offset-le-reading, start_is}
 use Rattle.miette_labels.proofs.OwnContexts.{own_ordered}
 use Rattle.miette_labels.proofs.RefusedLabel.{read_of}
-use Rattle.miette_snippet_rules.proofs.LabelEnds.{end_told}
+use Rattle.miette_labels.proofs.LabelEnds.{end_told}
 use Rattle.miette_protocol.proofs.Wholes.{first-lt}
-use Rattle.miette_snippet_rules.specs.rules.Settings.{SnippetSettings}
 
 -- ---- one read
 
@@ -149,12 +147,6 @@ shows_around context n ls =
     any_same (λ l. shows_end n (lines_around (group_context context ls) ls l) l)
     (λ l. shows_end n (lines_around context ls l) l)
     (λ l. ap (λ b. ltb 0 n && (eqb l.span.offset n && b)) (around_group (has_own ls) context l.context)) ls
-
--- the drawn labels are the same with either number
-pub drawn_around : (s : SnippetSettings) (n : ℕ) (ls : List Label) → drawn_labels (settings_around s ls) n ls
-    ≡ drawn_labels s n ls
-drawn_around s n ls = ap (λ b. drawn_from (s.layout.end_labels && b) s.theme.styles.highlights n 0 ls)
-    (shows_around s.layout.context_lines n ls)
 
 wanted_told : (wanted shows : Bool) (n : ℕ) → cond wanted (end_told shows n) None ≡ end_told (wanted && shows) n
 wanted_told true shows n = refl

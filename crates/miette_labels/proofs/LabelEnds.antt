@@ -7,14 +7,14 @@ use Rattle.miette_protocol.specs.views.Meaning.{Label}
 use Rattle.miette_protocol.specs.rules.Reading.{Span, Source, IsAccepted}
 use Rattle.miette_style.specs.declared.style.Style.{Style}
 use Rattle.miette_labels.specs.declared.reading.ReadLabel.{ReadLabel}
-use Rattle.miette_labels.specs.rules.Around.{lines_around}
-use Rattle.miette_labels.specs.rules.Contexts.{contents, end_of_span}
-use Rattle.miette_labels.specs.rules.Labels.{DrawnLabel, drawn_from, drawn_label, style_at, parts_of}
-use Rattle.miette_labels.specs.views.GivenLabels.{label_at, text_at, drawn_of}
+use Rattle.miette_label_rules.specs.rules.Around.{lines_around}
+use Rattle.miette_label_rules.specs.rules.Contexts.{contents, end_of_span}
+use Rattle.miette_label_rules.specs.rules.Labels.{DrawnLabel, drawn_from, drawn_label, style_at, parts_of}
+use Rattle.miette_label_rules.specs.views.GivenLabels.{label_at, text_at, drawn_of}
 use Rattle.miette_labels.specs.views.Reads.{IsRead}
 use Rattle.miette_labels.specs.views.Placing.{end_drawn, is_told, placed_of, placed_one, placed_from}
 use Rattle.miette_labels.specs.views.Placing.{drawn_placed}
-use Rattle.miette_labels.specs.declared.sweep.PlacedLabel.{PlacedLabel}
+use Rattle.miette_label_rules.specs.declared.placed.PlacedLabel.{PlacedLabel}
 use Rattle.miette_basics.proofs.Cases.{by_cases}
 use Rattle.miette_protocol.proofs.Wholes.{shown_end}
 use Rattle.miette_labels.proofs.RefusedLabel.{read_of}
