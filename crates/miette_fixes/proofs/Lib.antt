@@ -3,8 +3,6 @@ pub mod Apart
 pub mod Begins
 pub mod Begun
 pub mod Choosing
-pub mod Moving
 pub mod Overlaps
-pub mod Permuted
 pub mod Sorting
 pub mod Taking

@@ -1,3 +1,2 @@
 -- What holds of the rules.
 pub mod Conflicts
-pub mod Places

@@ -8,6 +8,5 @@ mod beginnings;
 mod edit;
 mod error;
 pub mod fix;
-pub mod laws;
 mod order;
 mod proposal;

@@ -1,5 +1,5 @@
 use Rattle.miette_fixes.proofs.Taking.{maximal, neighbours, together}
-use Rattle.miette_fixes.proofs.laws.all_applied_laws.Goals as goal
+use Rattle.miette_edit_laws.proofs.laws.all_applied_laws.Goals as goal
 
 pub returns-clause-maximal : goal.returns-clause-maximal
 returns-clause-maximal c = maximal

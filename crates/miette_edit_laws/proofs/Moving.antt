@@ -7,7 +7,7 @@ use Rattle.std.proofs.lemmas.Bool.{le-leb, leb-false, leb-true, lt-leb, ltb-fals
 use Rattle.std.proofs.lemmas.List.{length-drop, length-take}
 use Rattle.std.proofs.lemmas.List.Sums.{sum_by-cons}
 use Rattle.miette_basics.proofs.Cases.{by_cases}
-use Rattle.miette_fixes.specs.laws.Places.{deleted, inserted, is_covered, deleted_before, inserted_before, moved}
+use Rattle.miette_edit_laws.specs.laws.Places.{deleted, inserted, is_covered, deleted_before, inserted_before, moved}
 use Rattle.miette_fixes.specs.rules.Edits.{Replacement, end_of, is_behind}
 use Rattle.miette_fixes.specs.rules.Applying.{put_edit, by_offset, applied, refusal, text_from}
 use Rattle.miette_fixes.specs.views.Ordered.{FitFrom}

@@ -4,7 +4,7 @@ ghost use Rattle.std.specs.Prelude.{◌≡◌, ◌≢◌, ◌⊎◌, ℕ, ◌+�
 ghost use Rattle.std.specs.Prelude.{take, None, Some, false, true};
 ghost use Rattle.std.specs.List.Sorted.{IsPermutation};
 ghost use Rattle.miette_fixes.specs.laws.Conflicts.{NoTwoConflict};
-ghost use Rattle.miette_fixes.specs.laws.Places.{deleted, inserted, is_covered, moved};
+ghost use Rattle.miette_edit_laws.specs.laws.Places.{deleted, inserted, is_covered, moved};
 ghost use Rattle.miette_fixes.specs.rules.Applying.{applied, refusal};
 ghost use Rattle.miette_fixes.specs.rules.ApplyingAll.{all_applied, all_of, counted, some_conflict, taken};
 ghost use Rattle.miette_fixes.specs.rules.Edits.{Replacement};

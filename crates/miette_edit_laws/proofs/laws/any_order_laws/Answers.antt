@@ -1,8 +1,8 @@
 use Rattle.std.proofs.Common.{[], length}
 use Rattle.miette_fixes.specs.rules.ApplyingAll.{counted}
 use Rattle.miette_fixes.proofs.Apart.{counted_apart, taken_apart}
-use Rattle.miette_fixes.proofs.Permuted.{permuted}
-use Rattle.miette_fixes.proofs.laws.any_order_laws.Goals as goal
+use Rattle.miette_edit_laws.proofs.Permuted.{permuted}
+use Rattle.miette_edit_laws.proofs.laws.any_order_laws.Goals as goal
 
 pub returns-clause-taken : goal.returns-clause-taken
 returns-clause-taken c = taken_apart

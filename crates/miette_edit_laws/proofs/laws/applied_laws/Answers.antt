@@ -1,5 +1,5 @@
-use Rattle.miette_fixes.proofs.Moving.{lengths, outside, order}
-use Rattle.miette_fixes.proofs.laws.applied_laws.Goals as goal
+use Rattle.miette_edit_laws.proofs.Moving.{lengths, outside, order}
+use Rattle.miette_edit_laws.proofs.laws.applied_laws.Goals as goal
 
 pub returns-clause-lengths : goal.returns-clause-lengths
 returns-clause-lengths c = lengths
