@@ -35,7 +35,5 @@ pub mod PassedLines
 pub mod WholeLines
 pub mod SingleRows
 pub mod Fitting
-pub mod WordLaws
-pub mod SameWords
 pub mod Feeds
 pub mod FittingRows

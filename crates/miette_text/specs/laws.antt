@@ -1,5 +1,4 @@
 -- What holds of the rules.
 pub mod FilledRows
 pub mod FittingRows
-pub mod PlainWords
 pub mod Tame

@@ -22,7 +22,7 @@ use Rattle.miette_line_breaks.proofs.AsciiClasses.{ascii-property, same_class}
 use Rattle.miette_line_breaks.proofs.States.{break-is, state-step}
 use Rattle.miette_runs.specs.rules.Cells.{Cell}
 use Rattle.miette_text.specs.declared.wrap.WordSeparator.TheVariants.{AsciiSpace, UnicodeBreakProperties}
-use Rattle.miette_text.specs.laws.PlainWords.{is_plain, is_plain_text, is_point, plain_behind}
+use Rattle.miette_word_laws.specs.laws.PlainWords.{is_plain, is_plain_text, is_point, plain_behind}
 use Rattle.miette_text.specs.rules.Wrapping.{ends_word, is_hyphen, is_space, pieces, starts_word, word_of, words}
 use Rattle.miette_text.specs.steps.Ends.{codes_of}
 

@@ -1,5 +1,0 @@
-use Rattle.miette_text.proofs.SameWords.{words-same}
-use Rattle.miette_text.proofs.wrap.laws.separators_law.Goals as goal
-
-pub returns : goal.returns
-returns c = words-same

@@ -1,0 +1,2 @@
+pub mod SameWords
+pub mod WordLaws

@@ -1,0 +1,4 @@
+//! What holds of the words of a text that is wrapped.
+#![tactic(auto)]
+
+pub mod laws;
