@@ -13,8 +13,8 @@ use Rattle.miette_program.specs.declared.job_handler.JobHandler.{JobHandler}
 use Rattle.miette_program.specs.declared.language.LanguageHighlighter.{LanguageHighlighter}
 use Rattle.miette_program.specs.declared.option_words.Choice.{Choice}
 use Rattle.miette_show.specs.rules.ShowCalls.{CallShows, CallShowsFirst}
-use Rattle.miette_show.specs.rules.ShowWords.{ShowRequest}
-use Rattle.miette_show.specs.rules.Shown.{Shows, ShowsFirst}
+use Rattle.miette_row_reports.specs.rules.ShowWords.{ShowRequest}
+use Rattle.miette_row_reports.specs.rules.Shown.{Shows, ShowsFirst}
 use Rattle.miette_tool_rows.specs.rules.Statuses.{status_of}
 use Rattle.miette_tool_rows.specs.declared.verdict.Verdict.{Verdict}
 use Rattle.miette_show.proofs.Showing.{first_by, shows_by}

@@ -1,8 +1,6 @@
 pub mod Calls
-pub mod Logging
 pub mod Progress
 pub mod ReportSteps
 pub mod Showing
 pub mod TerminalSteps
 pub mod TextSteps
-pub mod WordSteps

@@ -13,13 +13,13 @@ use Rattle.miette_protocol.specs.rules.Reading.{Source}
 use Rattle.miette_devices.specs.views.Device.{TakesBeginning}
 use Rattle.miette_tree.specs.rules.Tree.{Tree}
 use Rattle.miette_tool_rows.specs.rules.Parts.{ends_in, parts_of}
-use Rattle.miette_show.specs.rules.Shown.{ShowsFirst, IsShown, Shown, Shows, is_error, is_unread}
+use Rattle.miette_row_reports.specs.rules.Shown.{ShowsFirst, IsShown, Shown, Shows, is_error, is_unread}
 use Rattle.miette_tool_rows.specs.rules.Notes.{kind_grave, kind_unread}
-use Rattle.miette_show.specs.rules.Shown.{notes_from, passed_on, text_of, verdict_of}
+use Rattle.miette_row_reports.specs.rules.Shown.{notes_from, passed_on, text_of, verdict_of}
 use Rattle.miette_tool_rows.specs.views.Reading.{IsNextPart}
 use Rattle.miette_tool_rows.specs.declared.verdict.RowKind.{RowKind}
 use Rattle.miette_tool_rows.specs.declared.verdict.Verdict.{Verdict}
-use Rattle.miette_show.specs.declared.words.Format.{Format}
+use Rattle.miette_row_reports.specs.declared.words.Format.{Format}
 use Rattle.miette_tool_rows.proofs.Beginnings.{all_taken, taken_then}
 use Rattle.miette_tool_rows.proofs.PartSteps.{PartsLeft, first_parts, parts_begin, parts_end, parts_more}
 

@@ -9,10 +9,10 @@ use Rattle.miette_program.specs.declared.job_handler.JobHandler.{JobHandler}
 use Rattle.miette_program.specs.steps.JobHandler.{IsGiven, IsLed, Stays}
 use Rattle.miette_tool_rows.proofs.Going.{found_before}
 use Rattle.miette_tool_rows.specs.rules.Looking.{Goes, IsFoundBy}
-use Rattle.miette_show.specs.rules.Shown.{AreDrawn, IsRowText, IsShown, Shown, Shows, ShowsFirst}
+use Rattle.miette_row_reports.specs.rules.Shown.{AreDrawn, IsRowText, IsShown, Shown, Shows, ShowsFirst}
 use Rattle.miette_tool_rows.specs.declared.verdict.RowKind.{RowKind}
 use Rattle.miette_tool_rows.specs.declared.verdict.Verdict.{Verdict}
-use Rattle.miette_show.specs.declared.words.Format.{Format}
+use Rattle.miette_row_reports.specs.declared.words.Format.{Format}
 use Rattle.miette_tool_rows.specs.declared.verdict.RowKind.TheVariants.{Passed, Unread, Messages}
 
 drawn_by : (p q : Tree → List ℕ → Type 0) → ((t : Tree) (x : List ℕ) → p t x → q t x) → (ts : List Tree)

@@ -2,7 +2,7 @@
 use Rattle.std.proofs.Common.{◌≡◌, ℕ, List, [], ◌∷◌, ◌++◌, Option, Some, None, Bool, true, false, refl, sym, ap, ap₂}
 use Rattle.std.proofs.Common.{subst, ◌∙◌, append_assoc}
 use Rattle.std.proofs.Common.{◌⊎◌, IfOk, OnErr, Ok, Err, Result, String, inl, inr, string_bytes}
-use Rattle.std.specs.Prelude.{IsUtf8, ◌||◌, option_and_then}
+use Rattle.std.specs.Prelude.{IsUtf8, ◌||◌}
 use Rattle.std.specs.List.{list_any}
 use Rattle.std.proofs.lemmas.List.Folds.{list_any-append}
 use Rattle.serde_json.specs.Data.{Data}
@@ -16,13 +16,14 @@ use Rattle.miette_devices.specs.declared.fault.Fault.TheVariants.{Memory, Refuse
 use Rattle.miette_program.specs.declared.job_handler.JobHandler.{JobHandler}
 use Rattle.miette_program.specs.declared.job_handler.JobHandler.TheVariants as chosen
 use Rattle.miette_program.specs.steps.JobHandler.{MayRefuse}
-use Rattle.miette_show.specs.rules.Shown.{begins_message}
-use Rattle.miette_show.specs.rules.Shown.{AreDrawn, IsRowText, IsShown, row_trees, tree_grave, value_trees}
+use Rattle.miette_row_reports.specs.rules.Shown.{begins_message}
+use Rattle.miette_row_reports.specs.rules.Shown.{AreDrawn, IsRowText, IsShown, tree_grave, value_trees}
 use Rattle.miette_tool_rows.specs.rules.Looking.{all_names}
 use Rattle.miette_show.specs.views.Texts.{AreTexts, IsPushed, IsValueText}
 use Rattle.miette_tool_rows.specs.declared.verdict.RowKind.{RowKind}
 use Rattle.miette_tool_rows.specs.declared.verdict.RowKind.TheVariants.{Passed, Unread, Messages}
-use Rattle.miette_show.specs.declared.words.Format.{Format}
+use Rattle.miette_row_reports.specs.declared.words.Format.{Format}
+use Rattle.miette_row_reports.proofs.ReportSteps.{none_said, says_of}
 
 abbrev Given : Type 1
 Given = Tree → List ℕ → Type 0
@@ -37,11 +38,6 @@ pub passed : (from : Format) (gives : Given) (found : Finding) (files : List ℕ
 passed from gives found files row text not none =
     (files, (λ d utf8 begins is. (let no : false ≡ true = sym not ∙ begins in cc)), (not, none))
 
--- one that is no value says nothing
-pub none_said : (from : Format) (files : List ℕ → Option Source) (row : List ℕ) → (IsUtf8 row → read row ≡ None)
-    → IsUtf8 row → row_trees from files row ≡ None
-none_said from files row none utf8 = ap (option_and_then (value_trees from files)) (none utf8)
-
 -- one that is no value
 pub unread : (from : Format) (gives : Given) (found : Finding) (files : List ℕ → Option Source) (row text : List ℕ)
     → begins_message from row ≡ true → (IsUtf8 row → read row ≡ None) → text ≡ []
@@ -51,10 +47,6 @@ unread from gives found files row text begins none empty = (
   (λ d utf8 b is. (let no : None ≡ Some d = sym (none utf8) ∙ is in cc)),
   (begins, none_said from files row none, empty),
 )
-
-pub says_of : (from : Format) (files : List ℕ → Option Source) (row : List ℕ) (d : Data) → read row ≡ Some d
-    → row_trees from files row ≡ value_trees from files d
-says_of from files row d is = ap (option_and_then (value_trees from files)) is
 
 text_of : (from : Format) (gives : Given) (files : List ℕ → Option Source) (row : List ℕ) (d : Data) (kind : RowKind)
     (text : List ℕ) → begins_message from row ≡ true → IsUtf8 row → read row ≡ Some d

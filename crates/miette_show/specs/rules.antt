@@ -1,6 +1,3 @@
 -- What users rely on, in the words of docs/RULES.md.
-pub mod Shown
-pub mod Logging
-pub mod ShowWords
 pub mod ShowCalls
 pub mod TerminalWords

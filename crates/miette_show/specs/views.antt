@@ -1,3 +1,1 @@
-pub mod Asked
-pub mod Logged
 pub mod Texts

@@ -3,9 +3,8 @@
 
 pub mod log;
 mod message;
-mod reports;
 pub mod show;
 pub mod terminal;
-pub mod words;
 
+pub use miette_row_reports::words;
 pub use miette_tool_rows::{folder, folder_store, loader, mend, row_reader, store, verdict};

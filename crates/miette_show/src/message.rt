@@ -1,51 +1,31 @@
 //! What is shown of a row.
 
-ghost use Rattle.std.specs.Prelude.{◌≡◌, ◌||◌, IfOk, None, OnErr, OnOk, Some, map, string_bytes, true};
+ghost use Rattle.std.specs.Prelude.{◌≡◌, ◌||◌, IfOk, OnErr, OnOk, Some, map, string_bytes, true};
 ghost use Rattle.std.specs.List.{All};
 ghost use Rattle.serde_json.specs.View.{view};
 ghost use Rattle.miette_tree.specs.rules.Reads.{AlwaysReads, report_accepted};
 ghost use Rattle.miette_tree.specs.views.Report.{tree_of};
 ghost use Rattle.miette_program.specs.steps.JobHandler.{IsGiven, IsLed, Stays};
 ghost use Rattle.miette_tool_rows.specs.rules.Looking.{Goes, IsFoundBy};
-ghost use Rattle.miette_tool_rows.specs.rules.Rows.{begins_array, begins_object};
-ghost use Rattle.miette_show.specs.rules.Shown.{begins_message, IsShown, is_grave, value_trees};
+ghost use Rattle.miette_row_reports.specs.rules.Shown.{begins_message, IsShown, value_trees};
 ghost use Rattle.miette_show.specs.views.Texts.{AreTexts, IsPushed, IsValueText};
 
-use crate::reports::reports_of;
-use crate::words::Format;
 use miette_devices::fault::Fault;
 use miette_highlight::highlight::Highlighter;
 use miette_program::job_handler::JobHandler;
-use miette_protocol::protocol::{Diagnostic, Severity};
+use miette_protocol::protocol::Diagnostic;
 use miette_protocol::source::SourceCode;
 use miette_readers::files::Files;
 use miette_readers::rustc::ReadError;
+use miette_row_reports::reports::reports_of;
+use miette_row_reports::rows::{Row, begins_message, is_error};
+use miette_row_reports::words::Format;
 use miette_tool_rows::loader::{Loader, load_all};
-use miette_tool_rows::value::{begins_array, begins_object, value_in};
+use miette_tool_rows::value::value_in;
 use miette_tool_rows::verdict::RowKind;
 use miette_tree::report::Report;
 use serde_json::Value;
 use std::alloc::Global;
-
-/// A row, and the format that it is read in.
-#[derive(Clone, Copy)]
-pub(crate) struct Row<'r> {
-    /// The format.
-    pub from: Format,
-    /// The bytes of the row, with its end.
-    pub bytes: &'r [u8],
-}
-
-/// Whether a row begins as messages do.
-pub(crate) fn begins_message(from: Format, row: &[u8]) -> bool
-    ensures { result ≡ begins_message from row.now }
-{
-    match from {
-        Format::Auto => begins_object(row) || begins_array(row),
-        Format::Rustc | Format::Sarif | Format::ShellCheck => begins_object(row),
-        Format::Gcc => begins_array(row),
-    }
-}
 
 /// The text of a report whose labels are accepted: it isn't refused.
 fn accepted_text<H: Highlighter, D: Diagnostic, S: SourceCode>(
@@ -138,16 +118,6 @@ fn value_text<H: Highlighter, F: Files>(
     };
     let (error, text) = texts_of(alloc, handler, reports.as_slice())?;
     Ok((RowKind::Messages(error), text))
-}
-
-/// Whether it is the severity of an error.
-pub(crate) fn is_error(severity: Option<Severity>) -> bool
-    ensures { result ≡ is_grave severity }
-{
-    match severity {
-        Some(Severity::Error) => true,
-        Some(Severity::Warning | Severity::Advice) | None => false,
-    }
 }
 
 /// What a row is, and the text that is shown of it.

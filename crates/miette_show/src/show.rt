@@ -7,14 +7,13 @@ ghost use Rattle.miette_program.specs.steps.JobHandler.{IsGiven, IsLed, Stays};
 ghost use Rattle.miette_devices.specs.views.Device.{TakesBeginning};
 ghost use Rattle.miette_tool_rows.specs.rules.Looking.{Goes, IsFoundBy};
 ghost use Rattle.miette_show.specs.rules.ShowCalls.{CallShows, CallShowsFirst};
-ghost use Rattle.miette_show.specs.rules.Shown.{IsShown, Shows, ShowsFirst, passed_on};
+ghost use Rattle.miette_row_reports.specs.rules.Shown.{IsShown, Shows, ShowsFirst};
 ghost use Rattle.miette_tool_rows.specs.rules.Statuses.{status_of};
 ghost use Rattle.miette_tool_rows.specs.declared.verdict.Verdict.{Verdict};
-ghost use Rattle.miette_show.specs.views.Asked.{request_of, words_of};
+ghost use Rattle.miette_row_reports.specs.views.Asked.{request_of, words_of};
 ghost use Rattle.miette_tool_rows.specs.views.Reading.{left_of};
 
-use crate::message::{Row, row_text};
-use crate::words::{Format, ShowWords};
+use crate::message::row_text;
 use miette_devices::device::Device;
 use miette_devices::fault::{Fault, Program};
 use miette_devices::whole::write_whole;
@@ -22,9 +21,10 @@ use miette_highlight::highlight::Highlighter;
 use miette_program::arguments::Arguments;
 use miette_program::job_handler::JobHandler;
 use miette_program::language::LanguageHighlighter;
+use miette_row_reports::rows::{Row, pass_on};
+use miette_row_reports::words::{Format, ShowWords};
 use miette_tool_rows::loader::Loader;
 pub use miette_tool_rows::streams::Streams;
-use miette_tool_rows::streams::note;
 use miette_tool_rows::verdict::{RowKind, Verdict};
 use std::alloc::Global;
 use std::io::{Read, Write};
@@ -57,33 +57,6 @@ fn show_row<H: Highlighter, F: Loader, W: Write>(
     let (kind, text) = row_text(alloc, handler, files, row)?;
     write_whole(writer, text.as_bytes())?;
     Ok(kind)
-}
-
-/// Passes on a row that isn't shown, behind a note where it can't be read.
-pub(crate) fn pass_on<E: Write>(
-    alloc: Global,
-    faults: &mut Device<E>,
-    number: u64,
-    kind: RowKind,
-    row: &[u8],
-) -> Result<(), Fault>
-    requires sound { faults.old.failed ≡ false }
-    ensures passed { OnOk result (Appends (E.contents faults.old.inner) (E.contents faults.new.inner)
-        (passed_on number kind row.now)) }
-    ensures beginning { (result ≡ Err Fault.Write) → TakesBeginning (E.contents faults.old.inner)
-        (E.contents faults.new.inner) (passed_on number kind row.now) }
-    ensures untouched { OnErr result ((result ≡ Err Fault.Write) ⊎ (faults.new ≡ faults.old)) }
-    ensures failed { IsTrue faults.new.failed ↔ (result ≡ Err Fault.Write) }
-    ensures others { OnErr result ((result ≡ Err Fault.Memory) ⊎ (result ≡ Err Fault.Write)) }
-{
-    match kind {
-        RowKind::Passed => write_whole(faults, row),
-        RowKind::Unread => {
-            note(alloc, faults, number, kind)?;
-            write_whole(faults, row)
-        }
-        RowKind::Messages(_) => Ok(()),
-    }
 }
 
 /// Shows all rows that are left.

@@ -4,8 +4,8 @@ use Rattle.miette_protocol.specs.rules.Reading.{Source}
 use Rattle.miette_program.specs.rules.JobText.{IsJobText}
 use Rattle.miette_program.specs.rules.OptionWords.{ForAsked}
 use Rattle.miette_program.specs.declared.language.LanguageHighlighter.{LanguageHighlighter}
-use Rattle.miette_show.specs.rules.Shown.{Shows, ShowsFirst}
-use Rattle.miette_show.specs.rules.ShowWords.{ShowRequest}
+use Rattle.miette_row_reports.specs.rules.Shown.{Shows, ShowsFirst}
+use Rattle.miette_row_reports.specs.rules.ShowWords.{ShowRequest}
 use Rattle.miette_tool_rows.specs.declared.verdict.Verdict.{Verdict}
 
 -- The rows of these bytes are shown in the format and by the handler that are asked for, and this holds of text and

@@ -2,7 +2,7 @@
 use Rattle.std.specs.Prelude.{◌≡◌, ℕ, List, [], ◌∷◌, ◌++◌, Bool, Option, Some, None}
 use Rattle.std.specs.List.{list_any}
 use Rattle.miette_tree.specs.rules.Tree.{Tree}
-use Rattle.miette_show.specs.rules.Shown.{AreDrawn, tree_grave}
+use Rattle.miette_row_reports.specs.rules.Shown.{AreDrawn, tree_grave}
 use Rattle.miette_tool_rows.specs.declared.verdict.RowKind.{RowKind}
 use Rattle.miette_tool_rows.specs.declared.verdict.RowKind.TheVariants.{Passed, Unread, Messages}
 

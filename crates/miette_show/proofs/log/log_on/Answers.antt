@@ -12,7 +12,7 @@ use Rattle.miette_tree.specs.rules.Tree.{trees}
 use Rattle.miette_tree.specs.views.Report.{tree_of}
 use Rattle.miette_tool_rows.specs.views.Reading.{left_of}
 use Rattle.miette_tool_rows.proofs.Beginnings.{none_taken}
-use Rattle.miette_show.proofs.Logging.{all_first, all_read, logs_all, logs_first, logs_none, logs_some}
+use Rattle.miette_row_reports.proofs.Logging.{all_first, all_read, logs_all, logs_first, logs_none, logs_some}
 use Rattle.miette_tool_rows.proofs.NoteEnds.{no_other, on_err_of}
 use Rattle.miette_show.proofs.log.log_on.Goals as goal
 

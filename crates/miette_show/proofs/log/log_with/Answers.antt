@@ -4,7 +4,7 @@ use Rattle.miette_program.specs.rules.LogWords.{logged_text}
 use Rattle.miette_tree.specs.rules.Tree.{trees}
 use Rattle.miette_tool_rows.specs.rules.Looking.{IsFoundBy}
 use Rattle.miette_tool_rows.specs.views.Reading.{left_of}
-use Rattle.miette_show.proofs.Logging.{logs_status}
+use Rattle.miette_row_reports.proofs.Logging.{logs_status}
 use Rattle.miette_show.proofs.log.log_with.Goals as goal
 
 pub returns-in-Ok-clause-status : goal.returns-in-Ok-clause-status

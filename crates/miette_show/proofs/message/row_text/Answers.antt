@@ -3,7 +3,7 @@ use Rattle.serde_json.specs.Read.{read}
 use Rattle.serde_json.specs.View.{view}
 use Rattle.miette_program.specs.steps.JobHandler.{IsGiven}
 use Rattle.miette_tool_rows.specs.rules.Looking.{IsFoundBy}
-use Rattle.miette_show.specs.rules.Shown.{begins_message}
+use Rattle.miette_row_reports.specs.rules.Shown.{begins_message}
 use Rattle.miette_show.proofs.TextSteps.{passed, told_ok, unread}
 use Rattle.miette_show.proofs.message.row_text.Goals as goal
 

@@ -3,7 +3,8 @@ use Rattle.miette_tree.specs.rules.Reads.{AlwaysReads, report_accepted}
 use Rattle.miette_tree.specs.views.Report.{tree_of}
 use Rattle.miette_program.proofs.HighlighterSteps.{led-nowhere, led-on}
 use Rattle.miette_program.proofs.JobHandlerSteps.{stays-itself, stays-on}
-use Rattle.miette_show.proofs.ReportSteps.{all_texts, item_holds, one_text_more}
+use Rattle.miette_show.proofs.ReportSteps.{all_texts, one_text_more}
+use Rattle.miette_row_reports.proofs.ReportSteps.{item_holds}
 use Rattle.miette_show.proofs.message.texts_of.Goals as goal
 
 pub loop-report-init : goal.loop-report-init

@@ -3,7 +3,7 @@ use Rattle.std.specs.Io.KnownBytes.{Appends}
 use Rattle.miette_program.proofs.OptionWordSteps.{not-wrong}
 use Rattle.miette_devices.specs.views.Device.{TakesBeginning}
 use Rattle.miette_tool_rows.specs.rules.Looking.{IsFoundBy}
-use Rattle.miette_show.specs.views.Asked.{request_of, words_of}
+use Rattle.miette_row_reports.specs.views.Asked.{request_of, words_of}
 use Rattle.miette_tool_rows.specs.views.Reading.{left_of}
 use Rattle.miette_show.proofs.Calls.{call_first, call_shows}
 use Rattle.miette_tool_rows.proofs.NoteEnds.{on_ok_of}

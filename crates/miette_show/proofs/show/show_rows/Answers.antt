@@ -7,7 +7,7 @@ use Rattle.miette_devices.specs.declared.fault.Fault.TheVariants.{Read, Refused,
 use Rattle.miette_program.specs.steps.JobHandler.{IsGiven}
 use Rattle.miette_devices.specs.views.Device.{TakesBeginning}
 use Rattle.miette_tool_rows.specs.rules.Looking.{IsFoundBy}
-use Rattle.miette_show.specs.rules.Shown.{ShowsFirst, passed_on}
+use Rattle.miette_row_reports.specs.rules.Shown.{ShowsFirst, passed_on}
 use Rattle.miette_tool_rows.specs.views.Reading.{left_of}
 use Rattle.miette_tool_rows.proofs.Beginnings.{all_taken, none_taken}
 use Rattle.miette_tool_rows.proofs.Going.{goes_on, goes_still}

@@ -1,0 +1,3 @@
+pub mod Logging
+pub mod ReportSteps
+pub mod WordSteps

@@ -1,0 +1,4 @@
+-- What users rely on, in the words of docs/RULES.md.
+pub mod Shown
+pub mod Logging
+pub mod ShowWords

@@ -1,0 +1,7 @@
+//! What rows of compilers and linters say, as reports, and the words that ask for them.
+#![tactic(auto)]
+
+pub mod parts;
+pub mod reports;
+pub mod rows;
+pub mod words;

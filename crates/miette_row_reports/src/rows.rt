@@ -1,0 +1,75 @@
+//! A row: whether it begins as messages do, whether an error is among them, and how it is passed on.
+
+ghost use Rattle.std.specs.Prelude.{◌≡◌, ◌↔◌, ◌⊎◌, IsTrue, OnErr, OnOk, false};
+ghost use Rattle.miette_tool_rows.specs.rules.Rows.{begins_array, begins_object};
+ghost use Rattle.miette_row_reports.specs.rules.Shown.{begins_message, is_grave, passed_on};
+ghost use Rattle.std.specs.Io.KnownBytes.{Appends};
+ghost use Rattle.miette_devices.specs.views.Device.{TakesBeginning};
+
+use crate::words::Format;
+use miette_devices::device::Device;
+use miette_devices::fault::Fault;
+use miette_devices::whole::write_whole;
+use miette_protocol::protocol::Severity;
+use miette_tool_rows::streams::note;
+use miette_tool_rows::value::{begins_array, begins_object};
+use miette_tool_rows::verdict::RowKind;
+use std::alloc::Global;
+use std::io::Write;
+
+/// A row, and the format that it is read in.
+#[derive(Clone, Copy)]
+pub struct Row<'r> {
+    /// The format.
+    pub from: Format,
+    /// The bytes of the row, with its end.
+    pub bytes: &'r [u8],
+}
+
+/// Whether a row begins as messages do.
+pub fn begins_message(from: Format, row: &[u8]) -> bool
+    ensures { result ≡ begins_message from row.now }
+{
+    match from {
+        Format::Auto => begins_object(row) || begins_array(row),
+        Format::Rustc | Format::Sarif | Format::ShellCheck => begins_object(row),
+        Format::Gcc => begins_array(row),
+    }
+}
+
+/// Whether it is the severity of an error.
+pub fn is_error(severity: Option<Severity>) -> bool
+    ensures { result ≡ is_grave severity }
+{
+    match severity {
+        Some(Severity::Error) => true,
+        Some(Severity::Warning | Severity::Advice) | None => false,
+    }
+}
+
+/// Passes on a row that isn't shown, behind a note where it can't be read.
+pub fn pass_on<E: Write>(
+    alloc: Global,
+    faults: &mut Device<E>,
+    number: u64,
+    kind: RowKind,
+    row: &[u8],
+) -> Result<(), Fault>
+    requires sound { faults.old.failed ≡ false }
+    ensures passed { OnOk result (Appends (E.contents faults.old.inner) (E.contents faults.new.inner)
+        (passed_on number kind row.now)) }
+    ensures beginning { (result ≡ Err Fault.Write) → TakesBeginning (E.contents faults.old.inner)
+        (E.contents faults.new.inner) (passed_on number kind row.now) }
+    ensures untouched { OnErr result ((result ≡ Err Fault.Write) ⊎ (faults.new ≡ faults.old)) }
+    ensures failed { IsTrue faults.new.failed ↔ (result ≡ Err Fault.Write) }
+    ensures others { OnErr result ((result ≡ Err Fault.Memory) ⊎ (result ≡ Err Fault.Write)) }
+{
+    match kind {
+        RowKind::Passed => write_whole(faults, row),
+        RowKind::Unread => {
+            note(alloc, faults, number, kind)?;
+            write_whole(faults, row)
+        }
+        RowKind::Messages(_) => Ok(()),
+    }
+}

@@ -1,0 +1,102 @@
+//! The words that the program is called with.
+
+ghost use Rattle.std.specs.Prelude.{◌≡◌};
+ghost use Rattle.std.specs.Option.{option_map};
+ghost use Rattle.miette_row_reports.specs.rules.ShowWords.{asked_for, asked_in_front, format_named, is_alone};
+ghost use Rattle.miette_row_reports.specs.views.Asked.{request_of, words_of};
+
+/// What is read.
+#[derive(Clone, Copy, Debug, PartialEq, Eq)]
+pub enum Format {
+    /// Each of the others, told apart by the row.
+    Auto,
+    /// What rustc and cargo write.
+    Rustc,
+    /// What GCC writes.
+    Gcc,
+    /// A SARIF log.
+    Sarif,
+    /// What ShellCheck writes.
+    ShellCheck,
+}
+
+impl Format {
+    /// The format of this name; nothing where there is none.
+    fn named(name: &str) -> Option<Format>
+        ensures { result ≡ format_named name.now }
+    {
+        match name {
+            "auto" => Some(Format::Auto),
+            "rustc" => Some(Format::Rustc),
+            "gcc" => Some(Format::Gcc),
+            "sarif" => Some(Format::Sarif),
+            "shellcheck" => Some(Format::ShellCheck),
+            _ => None,
+        }
+    }
+}
+
+/// What the words ask for.
+#[derive(Clone, Copy)]
+pub struct ShowWords<'w> {
+    /// The folder that names of files are taken from; the one that the program runs in where none is given.
+    pub root: Option<&'w str>,
+    /// What is read.
+    pub from: Format,
+    /// Whether files are fixed; then there are no words of `job`.
+    pub fix: bool,
+    /// The words of `job`.
+    pub options: &'w [String],
+}
+
+impl<'w> ShowWords<'w> {
+    /// What the words ask for by those in front; nothing where these are wrong.
+    fn front(words: &'w [String]) -> Option<ShowWords<'w>>
+        ensures { option_map request_of result ≡ asked_in_front (words_of words.entry) }
+    {
+        let mut root = None;
+        let mut from = Format::Auto;
+        let mut fix = false;
+        let mut rest = words;
+        while let Some((word, more)) = rest.split_first() {
+            match word.as_str() {
+                "--fix" => {
+                    fix = true;
+                    rest = more;
+                }
+                "--root" => {
+                    let (value, after) = more.split_first()?;
+                    root = Some(value.as_str());
+                    rest = after;
+                }
+                "--from" => {
+                    let (value, after) = more.split_first()?;
+                    from = Format::named(value.as_str())?;
+                    rest = after;
+                }
+                _ => break,
+            }
+        }
+        Some(ShowWords {
+            root,
+            from,
+            fix,
+            options: rest,
+        })
+    }
+
+    /// Whether no word of `job` stands behind `--fix`.
+    fn is_alone(&self) -> bool
+        ensures { result ≡ is_alone (request_of self.now) }
+    {
+        !self.fix || self.options.is_empty()
+    }
+
+    /// What the words ask for; nothing where those in front are wrong, or others stand behind `--fix`.
+    pub fn read(words: &'w [String]) -> Option<ShowWords<'w>>
+        ensures { option_map request_of result ≡ asked_for (words_of words.entry) }
+    {
+        let asked = ShowWords::front(words)?;
+        if asked.is_alone() { Some(asked) } else { None }
+    }
+}
