@@ -1,4 +1,4 @@
-//! A row: whether it begins as messages do, whether an error is among them, and how it is passed on.
+//! A row: whether it begins as messages do, and how it is passed on where it has none; whether a message is an error.
 
 ghost use Rattle.std.specs.Prelude.{◌≡◌, ◌↔◌, ◌⊎◌, IsTrue, OnErr, OnOk, false};
 ghost use Rattle.miette_tool_rows.specs.rules.Rows.{begins_array, begins_object};
