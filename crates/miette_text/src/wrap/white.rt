@@ -1,9 +1,13 @@
 //! Lines in which nothing is seen.
 
-ghost use Rattle.std.specs.Prelude.{◌≡◌, ◌≤◌, ◌∷◌, ℕ, Bool, List, chars, false, length, true};
+ghost use Rattle.std.specs.Prelude.{◌≡◌, ◌≤◌, ◌∷◌, ℕ, Bool, List, chars, false, length, take, true};
+ghost use Rattle.std.specs.List.{prefix_len};
 ghost use Rattle.miette_runs.specs.rules.Sequences.{colour_end_len, colour_len, is_parameter, tokens};
 ghost use Rattle.miette_text.specs.declared.wrap.white.Place.TheVariants.{Outside, Escape, Control, Command};
-ghost use Rattle.miette_text.specs.steps.WholeText.{are_passed, front_len, passed_from, passed_through};
+ghost use Rattle.miette_text.specs.steps.WholeText.{IsUnseen, are_passed, front_len, is_in_row, passed_from};
+ghost use Rattle.miette_text.specs.steps.WholeText.{passed_through};
+
+use crate::wrap::feeds::row_len;
 
 // ---- colours and spaces at the front, byte by byte
 
@@ -52,18 +56,27 @@ fn front_len(bytes: &[u8], blanks: bool) -> usize
     colour_len(bytes)
 }
 
+// How many bytes at the front are colours, and spaces where white characters may stand there.
+fn unseen_len(bytes: &[u8], blanks: bool) -> usize
+    ensures unseen { IsUnseen blanks (take result bytes.now) }
+    ensures within { result ≤ length bytes.now }
+{
+    let mut len: usize = 0;
+    'rest: loop {
+        let more = front_len(&bytes[len..], blanks);
+        if more == 0 {
+            return len;
+        }
+        len += more;
+    }
+}
+
 // A text behind the colours that it begins with, and behind the spaces where white characters may stand there.
 fn behind_front(text: &str, blanks: bool) -> &str
     ensures { are_passed blanks (tokens (chars result.now)) ≡ are_passed blanks (tokens (chars text.now)) }
 {
-    let mut rest = text;
-    'rest: loop {
-        let len = front_len(rest.as_bytes(), blanks);
-        if len == 0 {
-            return rest;
-        }
-        rest = &rest[len..];
-    }
+    let front = unseen_len(text.as_bytes(), blanks);
+    &text[front..]
 }
 
 // Whether a text begins with a character from `!` to `~`, which is in no sequence and isn't white.
@@ -179,11 +192,41 @@ fn walk_passes(text: &str, blanks: bool) -> bool
     matches!(place, Place::Outside)
 }
 
+// The same of what stands behind its front: most of it begins with a character that is seen.
+fn rest_passes(rest: &str, blanks: bool) -> bool
+    ensures { result ≡ are_passed blanks (tokens (chars rest.now)) }
+{
+    !begins_seen(rest) && walk_passes(rest, blanks)
+}
+
 /// Whether a text holds nothing but whole sequences, and white characters where these may stand in it too. It is left
 /// at the first other character.
 pub(crate) fn is_passed(text: &str, blanks: bool) -> bool
     ensures { result ≡ are_passed blanks (tokens (chars text.now)) }
 {
-    let rest = behind_front(text, blanks);
-    !begins_seen(rest) && walk_passes(rest, blanks)
+    rest_passes(behind_front(text, blanks), blanks)
+}
+
+// ---- the first line of a text
+
+/// How many bytes a text's first line has, and whether nothing is seen in it.
+#[derive(Clone, Copy)]
+pub(crate) struct FirstLine {
+    pub(crate) len: usize,
+    pub(crate) is_white: bool,
+}
+
+/// The first line of a text, up to its line feed.
+pub(crate) fn first_line(text: &str) -> FirstLine
+    ensures len { result.len ≡ prefix_len is_in_row text.now }
+    ensures within { result.len ≤ length text.now }
+    ensures white { result.is_white ≡ are_passed true (tokens (chars (take result.len text.now))) }
+{
+    let bytes = text.as_bytes();
+    let front = unseen_len(bytes, true);
+    let behind = row_len(&bytes[front..]);
+    let len = front + behind;
+    let line = &text[..len];
+    let is_white = rest_passes(&line[front..], true);
+    FirstLine { len, is_white }
 }
