@@ -39,3 +39,6 @@ pub mod WordLaws
 pub mod SameWords
 pub mod Feeds
 pub mod FittingRows
+pub mod Counts
+pub mod PlainTexts
+pub mod PartSteps

@@ -13,6 +13,7 @@ use crate::wrap::ends::bare_len;
 use crate::wrap::white::{first_line, is_passed};
 use miette_runs::runs::RunsSlice;
 use miette_runs::runs::cells::push_all;
+use miette_runs::runs::codes::Characters;
 use miette_runs::runs::sink::Sink;
 use std::alloc::{AllocError, Global};
 
@@ -23,7 +24,7 @@ fn trim_end(indent: RunsSlice<'_>) -> RunsSlice<'_>
     ensures { interleaving 0 result.codes.now result.tags.now
         ≡ trimmed_row (interleaving 0 indent.entry.codes.now indent.entry.tags.now) }
 {
-    let bare = bare_len(indent.codes);
+    let bare = bare_len(Characters { list: indent.codes });
     RunsSlice {
         codes: &indent.codes[..bare],
         tags: indent.tags,

@@ -7,17 +7,17 @@ use Rattle.miette_text.proofs.PrintedRuns.{printed-columns, printed-part}
 use Rattle.miette_text.proofs.wrap.breaks.part_letters.Goals as goal
 
 pub returns-then-word-cuts-clause-len : goal.returns-then-word-cuts-clause-len
-returns-then-word-cuts-clause-len c =
+returns-then-word-cuts-clause-len g c =
     let n = c.args.word.letters in
-    let cs = take n c.args.codes.now in
-    let all : length cs ≡ n = length-take-le n c.args.codes.now c.requires.fits in
+    let cs = take n (g.C.Codes.codes c.args.codes) in
+    let all : length cs ≡ n = length-take-le n (g.C.Codes.codes c.args.codes) c.requires.fits in
     sym (printed-part (word_cuts UnicodeBreakProperties c.args.cuts) c.args.word.before 0 n cs
     (c.requires.printed c.if-is_printed.true) (omega (arith, all)) c.if-word-cuts.true ∙ all)
 
 pub returns-then-word-cuts-clause-columns : goal.returns-then-word-cuts-clause-columns
-returns-then-word-cuts-clause-columns c =
+returns-then-word-cuts-clause-columns g c =
     let n = c.args.word.letters in
-    let cs = take n c.args.codes.now in
-    let same : take n cs ≡ cs = take-take n n c.args.codes.now (omega arith) in
+    let cs = take n (g.C.Codes.codes c.args.codes) in
+    let same : take n cs ≡ cs = take-take n n (g.C.Codes.codes c.args.codes) (omega arith) in
     sym (ap code_columns same ∙ printed-columns cs (c.requires.printed c.if-is_printed.true)
-    ∙ length-take-le n c.args.codes.now c.requires.fits)
+    ∙ length-take-le n (g.C.Codes.codes c.args.codes) c.requires.fits)
