@@ -56,11 +56,12 @@ fn push_row<S: Sink, C: Codes>(
         ≡ left_at start (drop start (C.codes row.entry.codes)) row.entry.tags.now) }
     ensures within { IfOk result (λ n. n ≤ length row.entry.tags.now) }
 {
+    let all = row.codes.count();
     let codes = row.codes.from(start);
     let bare = bare_len(codes);
     let used = push_cells(out, start, codes.front(bare), row.tags)?;
-    let all = row.codes.count();
-    if start + bare == all {
+    let end = start + bare;
+    if end == all {
         return Ok(used);
     }
     let dropped = push_signs(out, all - 1, &row.tags[used..])?;

@@ -17,8 +17,12 @@ pub returns-then-left-gap-clause-text : goal.returns-then-left-gap-clause-text
 returns-then-left-gap-clause-text g c =
     let cs = g.C.Codes.codes c.args.codes in
     let rest = c.from-rest.ensures in
-    let all : length (drop c.loop-n.start cs) ≤ c.saturating_sub-gap.result = omega (arith, c.if-left-gap.true,
-    c.count-left.ensures, ap length rest) in
+    let all : length (drop c.loop-n.start cs) ≤ c.saturating_sub-gap.result = omega (
+      arith,
+      c.if-left-gap.true,
+      c.count-left.ensures,
+      ap length rest,
+    ) in
     c.in_ok-push_to.ensures
     ∙ ap (λ us. g.S.Canvas.written c.loop-n.out ++ us) (rest ∙ text-rest c.loop-n.place c.loop-n.start c.loop-n.n
     c.saturating_sub-gap.result cs c.args.tags.now c.index-tags-n.result c.loop-n-test.true
@@ -28,8 +32,12 @@ returns-then-left-gap-clause-text g c =
 pub returns-then-left-gap-clause-left : goal.returns-then-left-gap-clause-left
 returns-then-left-gap-clause-left g c =
     let cs = g.C.Codes.codes c.args.codes in
-    let all : length (drop c.loop-n.start cs) ≤ c.saturating_sub-gap.result = omega (arith, c.if-left-gap.true,
-    c.count-left.ensures, ap length c.from-rest.ensures) in
+    let all : length (drop c.loop-n.start cs) ≤ c.saturating_sub-gap.result = omega (
+      arith,
+      c.if-left-gap.true,
+      c.count-left.ensures,
+      ap length c.from-rest.ensures,
+    ) in
     left-rest c.loop-n.place c.loop-n.start c.loop-n.n c.saturating_sub-gap.result cs c.args.tags.now
     c.index-tags-n.result c.loop-n-test.true c.index-tags-n.is c.saturating_sub-gap.ensures all
     ∙ c.loop-n.invariant.left

@@ -13,8 +13,12 @@ returns-clause-left g c = λ cuts cells q.
     let k = c.word_len-len.result.0 in
     let b = c.bare_len-letters.result in
     let some : 0 < k = omega (arith, c.word_len-len.ensures.len, piece-some c.args.start codes c.requires) in
-    let within : b ≤ k = omega (arith, c.bare_len-letters.ensures.within, ap length c.front.ensures,
-    length-take {A = ℕ} k codes) in
+    let within : b ≤ k = omega (
+      arith,
+      c.bare_len-letters.ensures.within,
+      ap length c.front.ensures,
+      length-take {A = ℕ} k codes,
+    ) in
     first-left cuts c.args.start c.word_len-len.result.1 k b cells codes q c.requires c.word_len-len.ensures.len some
     within c.word_len-len.ensures.state
     (c.bare_len-letters.ensures.value ∙ ap (λ xs. bare_len (plain_cells xs)) c.front.ensures)
@@ -24,8 +28,12 @@ returns-clause-fits g c =
     let codes = g.C.Codes.codes c.args.codes in
     let k = c.word_len-len.result.0 in
     let b = c.bare_len-letters.result in
-    let within : b ≤ k = omega (arith, c.bare_len-letters.ensures.within, ap length c.front.ensures,
-    length-take {A = ℕ} k codes) in (
+    let within : b ≤ k = omega (
+      arith,
+      c.bare_len-letters.ensures.within,
+      ap length c.front.ensures,
+      length-take {A = ℕ} k codes,
+    ) in (
       omega (arith, c.word_len-len.ensures.within),
       first-spaces k b codes c.word_len-len.ensures.within within
           (c.bare_len-letters.ensures.value ∙ ap (λ xs. bare_len (plain_cells xs)) c.front.ensures),
@@ -37,8 +45,12 @@ returns-clause-some g c =
     let k = c.word_len-len.result.0 in
     let b = c.bare_len-letters.result in
     let some : 0 < k = omega (arith, c.word_len-len.ensures.len, piece-some c.args.start codes c.requires) in
-    let within : b ≤ k = omega (arith, c.bare_len-letters.ensures.within, ap length c.front.ensures,
-    length-take {A = ℕ} k codes) in
+    let within : b ≤ k = omega (
+      arith,
+      c.bare_len-letters.ensures.within,
+      ap length c.front.ensures,
+      length-take {A = ℕ} k codes,
+    ) in
     not-done (begun b (k - b) c.word_len-len.result.1) (omega arith)
 
 pub returns-clause-printed : goal.returns-clause-printed
@@ -46,6 +58,10 @@ returns-clause-printed g c = λ h.
     let codes = g.C.Codes.codes c.args.codes in
     let k = c.word_len-len.result.0 in
     let b = c.bare_len-letters.result in
-    let within : b ≤ k = omega (arith, c.bare_len-letters.ensures.within, ap length c.front.ensures,
-    length-take {A = ℕ} k codes) in
+    let within : b ≤ k = omega (
+      arith,
+      c.bare_len-letters.ensures.within,
+      ap length c.front.ensures,
+      length-take {A = ℕ} k codes,
+    ) in
     printed-fewer b k codes within (c.word_len-len.ensures.printed h)

@@ -17,6 +17,16 @@ piece-all s j all cs i l told =
     let end : piece_len s j (drop i cs) ≡ 0 = ap (piece_len s j) (drop_all i cs l) in
     omega (arith, told, end)
 
+pub overflow_add-i : goal.overflow_add-i
+overflow_add-i g c = omega (
+  arith,
+  c.passed_len.ensures.within,
+  ap length c.from.ensures,
+  length-drop (c.rest.i + 1) (g.C.Codes.codes c.args.codes),
+  c.count-n.ensures,
+  c.rest-test.true,
+)
+
 pub rest-preserved : goal.rest-preserved
 rest-preserved g c =
     let cs = g.C.Codes.codes c.args.codes in

@@ -17,8 +17,12 @@ returns-clause-len g c = λ separator.
     let least : n ≡ min (solid_len cs) c.args.cuts.narrow = c.solid_len-n.ensures.value ∙ ap solid_len c.front.ensures
     ∙ solid-least c.args.cuts.narrow c.min-most.result cs
     (c.min-most.ensures ∙ ap (λ k. min k c.args.cuts.narrow) c.count.ensures) in
-    let within : n ≤ length cs = omega (arith, c.solid_len-n.ensures.within, ap length c.front.ensures,
-    length-take c.min-most.result cs) in
+    let within : n ≤ length cs = omega (
+      arith,
+      c.solid_len-n.ensures.within,
+      ap length c.front.ensures,
+      length-take c.min-most.result cs,
+    ) in
     let some : 0 < n = omega (arith, c.if-n-eq0.false) in
     let h : n ≤ solid_len cs = omega (arith, least) in
     let r : c.in_ok-rest.rest.len ≡ part_len stop cuts (code_behind first n cs) n (drop n cs) =
@@ -43,6 +47,10 @@ returns-clause-columns g c =
 pub returns-clause-within : goal.returns-clause-within
 returns-clause-within g c =
     let cs = g.C.Codes.codes c.args.codes in
-    let within : c.solid_len-n.result ≤ length cs = omega (arith, c.solid_len-n.ensures.within,
-    ap length c.front.ensures, length-take c.min-most.result cs) in
+    let within : c.solid_len-n.result ≤ length cs = omega (
+      arith,
+      c.solid_len-n.ensures.within,
+      ap length c.front.ensures,
+      length-take c.min-most.result cs,
+    ) in
     omega (arith, within, c.in_ok-rest.ensures.within, ap length c.from.ensures, length-drop c.solid_len-n.result cs)

@@ -52,8 +52,13 @@ pub returns-then-is_cut-clause-columns : goal.returns-then-is_cut-clause-columns
 returns-then-is_cut-clause-columns g c =
     let cs = g.C.Codes.codes c.args.codes in
     let inside : c.rest.i < length cs = omega (arith, c.count-n.ensures, c.rest-test.true) in
-    omega (arith, c.in_ok-both.ensures, c.char_columns.ensures, c.rest.invariant.columns,
-    columns-more cs c.rest.i c.at-code.result inside c.at-code.ensures)
+    omega (
+      arith,
+      c.in_ok-both.ensures,
+      c.char_columns.ensures,
+      c.rest.invariant.columns,
+      columns-more cs c.rest.i c.at-code.result inside c.at-code.ensures,
+    )
 
 pub rest-preserved : goal.rest-preserved
 rest-preserved g c =
@@ -72,8 +77,12 @@ rest-preserved g c =
           (ap (λ xs. cuts.hyphens && ((c.at-code.result == 45) && is_alphanumeric c.rest.before && begins_word xs))
           (sym c.from.ensures) ∙ sym c.is_cut.ensures ∙ c.if-is_cut.false) (c.rest.invariant.len separator)
           ∙ ap (λ n. (c.rest.i + 1) + part_len stop cuts c.at-code.result n (drop (c.rest.i + 1) cs)) (sym both);
-      columns = omega (arith, both, c.rest.invariant.columns,
-          columns-more cs c.rest.i c.at-code.result inside c.at-code.ensures);
+      columns = omega (
+        arith,
+        both,
+        c.rest.invariant.columns,
+        columns-more cs c.rest.i c.at-code.result inside c.at-code.ensures,
+      );
       within = omega (arith, inside);
     }
 

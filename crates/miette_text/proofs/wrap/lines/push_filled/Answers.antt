@@ -1,4 +1,4 @@
-use Rattle.std.proofs.Common.{◌≡◌, ◌∙◌, ◌+◌, ◌<◌, ◌++◌, ap, arith, drop, length, length-drop, sym}
+use Rattle.std.proofs.Common.{◌≡◌, ◌∙◌, ◌+◌, ◌<◌, ◌++◌, ap, arith, drop, length, length-drop, length-take, sym}
 use Rattle.std.proofs.lemmas.List.{take_rest}
 use Rattle.miette_runs.specs.views.Interleaving.{interleaving, left_at}
 use Rattle.miette_text.proofs.Filling.{codes_of_row, last-filled, line_rows, next-filled, tags_from}
@@ -7,6 +7,38 @@ use Rattle.miette_text.specs.rules.Wrapping.{text_lines}
 use Rattle.miette_text.specs.steps.Ends.{line_len}
 use Rattle.miette_text.specs.views.Cutting.{word_cuts}
 use Rattle.miette_text.proofs.wrap.lines.push_filled.Goals as goal
+
+pub overflow_add-end : goal.overflow_add-end
+overflow_add-end g c = omega (
+  arith,
+  c.line_len-n.ensures.within,
+  ap length c.from.ensures,
+  length-drop c.rest.start (g.C.Codes.codes c.args.text.codes),
+  c.count-all.ensures,
+  c.rest.invariant.within,
+)
+
+pub front-requires : goal.front-requires
+front-requires g c = omega (
+  arith,
+  c.line_len-n.ensures.within,
+  ap length c.from.ensures,
+  length-drop c.rest.start (g.C.Codes.codes c.args.text.codes),
+  c.rest.invariant.within,
+)
+
+pub push_rows-inside-requires : goal.push_rows-inside-requires
+push_rows-inside-requires g c =
+    let cs = g.C.Codes.codes c.args.text.codes in
+    omega (
+      arith,
+      c.line_len-n.ensures.within,
+      ap length c.from.ensures,
+      length-drop c.rest.start cs,
+      c.rest.invariant.within,
+      ap length c.front.ensures,
+      length-take (c.rest.start + c.line_len-n.result) cs,
+    )
 
 pub returns-then-end-all : goal.returns-then-end-all
 returns-then-end-all g c =

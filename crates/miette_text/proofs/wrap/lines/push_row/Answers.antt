@@ -8,8 +8,27 @@ use Rattle.miette_text.proofs.BareRows.{bare-left, bare-row, spaced-left, spaced
 use Rattle.miette_text.specs.steps.Ends.{bare_len}
 use Rattle.miette_text.proofs.wrap.lines.push_row.Goals as goal
 
-pub returns-then-start-all-clause-text : goal.returns-then-start-all-clause-text
-returns-then-start-all-clause-text g c =
+pub overflow_add-end : goal.overflow_add-end
+overflow_add-end g c = omega (
+  arith,
+  c.bare_len-bare.ensures.within,
+  ap length c.from-codes.ensures,
+  length-drop c.args.start (g.C.Codes.codes c.args.row.codes),
+  c.count-all.ensures,
+)
+
+pub overflow_sub-dropped : goal.overflow_sub-dropped
+overflow_sub-dropped g c = omega (
+  arith,
+  c.bare_len-bare.ensures.within,
+  ap length c.from-codes.ensures,
+  length-drop c.args.start (g.C.Codes.codes c.args.row.codes),
+  c.count-all.ensures,
+  c.if-end-all.false,
+)
+
+pub returns-then-end-all-clause-text : goal.returns-then-end-all-clause-text
+returns-then-end-all-clause-text g c =
     let cs = g.C.Codes.codes c.args.row.codes in
     let ms = c.args.row.tags.now in
     let s = c.args.start in
@@ -17,18 +36,18 @@ returns-then-start-all-clause-text g c =
     let q = c.from-codes.ensures in
     let value : n ≡ bare_len (plain_cells (drop s cs)) = c.bare_len-bare.ensures.value
     ∙ ap (λ us. bare_len (plain_cells us)) q in
-    let long : length (drop s cs) ≤ n = omega (arith, c.if-start-all.true, c.count-all.ensures, length-drop s cs) in
+    let long : length (drop s cs) ≤ n = omega (arith, c.if-end-all.true, c.count-all.ensures, length-drop s cs) in
     c.in_ok-used.ensures.text
     ∙ ap (λ us. g.S.Canvas.written c.args.out.now ++ piece_text (cells_at s us ms)) (c.front.ensures ∙ ap (take n) q)
     ∙ ap (λ us. g.S.Canvas.written c.args.out.now ++ us) (bare-row s n (drop s cs) ms value long)
 
-pub returns-then-start-all-clause-left : goal.returns-then-start-all-clause-left
-returns-then-start-all-clause-left g c =
+pub returns-then-end-all-clause-left : goal.returns-then-end-all-clause-left
+returns-then-end-all-clause-left g c =
     let cs = g.C.Codes.codes c.args.row.codes in
     let ms = c.args.row.tags.now in
     let s = c.args.start in
     let n = c.bare_len-bare.result in
-    let long : length (drop s cs) ≤ n = omega (arith, c.if-start-all.true, c.count-all.ensures, length-drop s cs) in
+    let long : length (drop s cs) ≤ n = omega (arith, c.if-end-all.true, c.count-all.ensures, length-drop s cs) in
     c.in_ok-used.ensures.left
     ∙ ap (λ us. left_at s us ms) (c.front.ensures ∙ ap (take n) c.from-codes.ensures)
     ∙ bare-left s n (drop s cs) ms long
@@ -42,8 +61,14 @@ returns-clause-text g c =
     let q = c.from-codes.ensures in
     let value : n ≡ bare_len (plain_cells (drop s cs)) = c.bare_len-bare.ensures.value
     ∙ ap (λ us. bare_len (plain_cells us)) q in
-    let less : n < length (drop s cs) = omega (arith, c.if-start-all.false, c.count-all.ensures, length-drop s cs,
-    c.bare_len-bare.ensures.within, ap length q) in
+    let less : n < length (drop s cs) = omega (
+      arith,
+      c.if-end-all.false,
+      c.count-all.ensures,
+      length-drop s cs,
+      c.bare_len-bare.ensures.within,
+      ap length q,
+    ) in
     let own = c.front.ensures ∙ ap (take n) q in
     let row : List ℕ = piece_text (cells_at s (take n (drop s cs)) ms) in
     let left = left_at s (take n (drop s cs)) ms in
@@ -65,8 +90,14 @@ returns-clause-left g c =
     let n = c.bare_len-bare.result in
     let k = c.in_ok-used.used in
     let q = c.from-codes.ensures in
-    let less : n < length (drop s cs) = omega (arith, c.if-start-all.false, c.count-all.ensures, length-drop s cs,
-    c.bare_len-bare.ensures.within, ap length q) in
+    let less : n < length (drop s cs) = omega (
+      arith,
+      c.if-end-all.false,
+      c.count-all.ensures,
+      length-drop s cs,
+      c.bare_len-bare.ensures.within,
+      ap length q,
+    ) in
     sym (drop-drop c.in_ok-dropped.dropped k ms)
     ∙ ap (drop c.in_ok-dropped.dropped) (sym (take_rest ms k))
     ∙ c.in_ok-dropped.ensures.left

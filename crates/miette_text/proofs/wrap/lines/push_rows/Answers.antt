@@ -1,5 +1,5 @@
 use Rattle.std.proofs.Common.{◌≡◌, ◌∙◌, ◌+◌, ◌-◌, ◌<◌, ◌≤◌, ◌++◌, [], ap, ap₂, arith, drop, drop-drop, length}
-use Rattle.std.proofs.Common.{length-drop, subst, sym, take}
+use Rattle.std.proofs.Common.{length-drop, length-take, subst, sym, take}
 use Rattle.std.proofs.lemmas.List.{take_all, take_rest}
 use Rattle.miette_runs.specs.rules.Sequences.{spell}
 use Rattle.miette_runs.specs.views.Interleaving.{cells_at, left_at, interleaving}
@@ -10,8 +10,40 @@ use Rattle.miette_text.proofs.Joining.{piece-printed}
 use Rattle.miette_text.specs.views.Cutting.{word_cuts}
 use Rattle.miette_text.proofs.wrap.lines.push_rows.Goals as goal
 
-pub row_len-requires : goal.row_len-requires
-row_len-requires g c = subst (λ xs. g.W.Words.fits c.rest.words xs) (sym c.from.ensures) c.rest.invariant.fits
+pub row_len-n-requires : goal.row_len-n-requires
+row_len-n-requires g c = subst (λ xs. g.W.Words.fits c.rest.words xs) (sym c.from.ensures) c.rest.invariant.fits
+
+pub overflow_add-end : goal.overflow_add-end
+overflow_add-end g c = omega (
+  arith,
+  c.in_ok-n.ensures.within,
+  ap length c.from.ensures,
+  length-drop c.rest.start (g.C.Codes.codes c.args.line.codes),
+  c.count-all.ensures,
+  c.rest.invariant.within,
+)
+
+pub front-requires : goal.front-requires
+front-requires g c = omega (
+  arith,
+  c.in_ok-n.ensures.within,
+  ap length c.from.ensures,
+  length-drop c.rest.start (g.C.Codes.codes c.args.line.codes),
+  c.rest.invariant.within,
+)
+
+pub push_row-more-requires : goal.push_row-more-requires
+push_row-more-requires g c =
+    let cs = g.C.Codes.codes c.args.line.codes in
+    omega (
+      arith,
+      c.in_ok-n.ensures.within,
+      ap length c.from.ensures,
+      length-drop c.rest.start cs,
+      c.rest.invariant.within,
+      ap length c.front.ensures,
+      length-take (c.rest.start + c.in_ok-n.n) cs,
+    )
 
 pub returns-then-end-all-clause-text : goal.returns-then-end-all-clause-text
 returns-then-end-all-clause-text g c =
@@ -65,8 +97,13 @@ rest-preserved g c =
     let cuts = word_cuts g.W.Words.separator c.args.cuts in
     let first = g.W.Words.left c.rest.words cuts in
     let behind = g.W.Words.left c.in_ok-n.behind cuts in
-    let less : s + n < length cs = omega (arith, c.if-end-all.false, c.count-all.ensures, inside,
-    c.rest.invariant.within) in
+    let less : s + n < length cs = omega (
+      arith,
+      c.if-end-all.false,
+      c.count-all.ensures,
+      inside,
+      c.rest.invariant.within,
+    ) in
     let row : g.S.Canvas.written c.push_row.new.out ≡ o ++ row_text s (codes_of_row s n cs) (tags_from k all) =
     c.in_ok-more.ensures.text ∙ ap (λ xs. o ++ row_text s (drop s xs) (tags_from k all)) c.front.ensures in
     let more : drop m (tags_from k all) ≡ left_at s (codes_of_row s n cs) (tags_from k all) = c.in_ok-more.ensures.left
@@ -97,7 +134,12 @@ rest-smaller g c =
     let s = c.rest.start in
     let long : length (g.C.Codes.codes c.from.result) ≡ length cs - s = ap length c.from.ensures ∙ length-drop s cs in
     let inside : c.in_ok-n.n ≤ length cs - s = omega (arith, c.in_ok-n.ensures.within, long) in
-    let less : s + c.in_ok-n.n < length cs = omega (arith, c.if-end-all.false, c.count-all.ensures, inside,
-    c.rest.invariant.within) in
+    let less : s + c.in_ok-n.n < length cs = omega (
+      arith,
+      c.if-end-all.false,
+      c.count-all.ensures,
+      inside,
+      c.rest.invariant.within,
+    ) in
     let some : 0 < c.in_ok-n.n = c.in_ok-n.ensures.some (omega (arith, long, less)) in
     omega (arith, some, less)

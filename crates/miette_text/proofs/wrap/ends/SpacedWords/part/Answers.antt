@@ -10,8 +10,14 @@ pub overflow_add-before : goal.overflow_add-before
 overflow_add-before g c =
     let codes = g.C.Codes.codes c.args.codes in
     let n = c.in_ok-letters.letters.len in
-    omega (arith, c.in_ok-letters.ensures.within, c.in_ok-letters.ensures.counted, c.gap_len-spaces.ensures.within,
-    ap length c.from.ensures, length-drop n codes)
+    omega (
+      arith,
+      c.in_ok-letters.ensures.within,
+      c.in_ok-letters.ensures.counted,
+      c.gap_len-spaces.ensures.within,
+      ap length c.from.ensures,
+      length-drop n codes,
+    )
 
 pub overflow_sub-before : goal.overflow_sub-before
 overflow_sub-before g c =
@@ -29,8 +35,14 @@ at-before-requires g c =
     let some = spaced-some (word_cuts AsciiSpace c.args.cuts) c.args.self.before n c.gap_len-spaces.result codes
     c.requires.some (c.in_ok-letters.ensures.len AsciiSpace)
     (c.gap_len-spaces.ensures.value ∙ ap gap_len c.from.ensures) in
-    omega (arith, some, c.in_ok-letters.ensures.within, c.gap_len-spaces.ensures.within, ap length c.from.ensures,
-    length-drop n codes)
+    omega (
+      arith,
+      some,
+      c.in_ok-letters.ensures.within,
+      c.gap_len-spaces.ensures.within,
+      ap length c.from.ensures,
+      length-drop n codes,
+    )
 
 pub returns-clause-is : goal.returns-clause-is
 returns-clause-is g c =
@@ -72,5 +84,10 @@ pub returns-clause-within : goal.returns-clause-within
 returns-clause-within g c =
     let codes = g.C.Codes.codes c.args.codes in
     let n = c.in_ok-letters.letters.len in
-    omega (arith, c.in_ok-letters.ensures.within, c.gap_len-spaces.ensures.within, ap length c.from.ensures,
-    length-drop n codes)
+    omega (
+      arith,
+      c.in_ok-letters.ensures.within,
+      c.gap_len-spaces.ensures.within,
+      ap length c.from.ensures,
+      length-drop n codes,
+    )
