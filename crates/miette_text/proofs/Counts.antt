@@ -1,7 +1,8 @@
 -- Loops that count the codes of a class at the front.
-use Rattle.std.proofs.Common.{◌≡◌, ℕ, suc, ◌+◌, ◌<◌, ◌≤◌, Bool, true, false, not, List, [], ◌∷◌, length, drop, get_or}
+use Rattle.std.proofs.Common.{◌≡◌, ℕ, suc, ◌+◌, ◌<◌, ◌≤◌, Bool, true, false, not, cond, List, [], ◌∷◌, length, drop, get_or}
 use Rattle.std.proofs.Common.{refl, sym, ap, ◌∙◌, arith, if◌then◌else◌}
 use Rattle.std.specs.Char.{is_ascii_alphabetic}
+use Rattle.std.specs.List.{prefix_len}
 use Rattle.std.proofs.lemmas.List.{drop_all, drop_more}
 use Rattle.miette_runs.specs.rules.Sequences.{is_line_feed}
 use Rattle.miette_text.specs.rules.Wrapping.{is_space}
@@ -22,12 +23,14 @@ gaps = record { none = refl; more = λ c cs. refl }
 pub solids : Counts solid_len is_solid
 solids = record { none = refl; more = λ c cs. refl }
 
-turned : (b : Bool) (n : ℕ) → (if b then 0 else suc n) ≡ (if not b then suc n else 0)
-turned true n = refl
-turned false n = refl
+row-more : (b : Bool) (n m : ℕ) → n ≡ m → cond (not b) (1 + n) 0 ≡ (if b then 0 else suc m)
+row-more true n m e = refl
+row-more false n m e = omega (arith, e)
 
-pub lines : Counts line_len is_in_row
-lines = record { none = refl; more = λ c cs. turned (is_line_feed c) (line_len cs) }
+-- a line's codes are those before the first line feed
+pub line-row : (cs : List ℕ) → prefix_len is_in_row cs ≡ line_len cs
+line-row [] = refl
+line-row (c ∷ cs) = row-more (is_line_feed c) (prefix_len is_in_row cs) (line_len cs) (line-row cs)
 
 -- ---- behind i of them
 

@@ -43,12 +43,12 @@ mod whole;
 
 use crate::wrap::breaks::Broken;
 use crate::wrap::ends::{Cuts, Spaced};
-use crate::wrap::lines::{Signed, Under, push_filled};
+use crate::wrap::lines::{Lines, Signed, Under, push_filled};
 use crate::wrap::whole::push_whole;
 use memchr::memchr;
 use miette_runs::runs::Runs;
 use miette_runs::runs::cells::push_all;
-use miette_runs::runs::codes::{Ascii, Characters, Codes};
+use miette_runs::runs::codes::{Ascii, Characters};
 use miette_runs::runs::columns::token_columns;
 pub use miette_runs::runs::cutting;
 use miette_runs::runs::output::Output;
@@ -112,7 +112,7 @@ pub struct Plan<'a> {
     pub further: &'a Runs,
 }
 
-fn push_filled_under<S: Sink, C: Codes>(
+fn push_filled_under<S: Sink, C: Lines>(
     out: &mut S,
     plan: Plan<'_>,
     text: Signed<'_, C>,

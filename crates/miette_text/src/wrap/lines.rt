@@ -4,15 +4,16 @@ ghost use Rattle.std.specs.Prelude.{◌≡◌, ◌≤◌, ◌++◌, ◌∷◌, [
 ghost use Rattle.miette_text.specs.steps.Ends.{line_len};
 ghost use Rattle.miette_text.specs.views.Cutting.{word_cuts};
 ghost use Rattle.miette_runs.specs.steps.Cells.{plain_cells};
-ghost use Rattle.miette_runs.specs.rules.Sequences.{is_line_feed, spell};
+ghost use Rattle.miette_runs.specs.rules.Sequences.{spell};
 ghost use Rattle.miette_runs.specs.views.Interleaving.{cells_at, left_at, interleaving};
 ghost use Rattle.miette_text.specs.rules.Wrapping.{cell_tokens, joined_rows, text_line_rows, text_lines, text_rows};
 ghost use Rattle.miette_text.specs.rules.Wrapping.{trimmed_row};
 
 use crate::wrap::ends::{Cuts, Words, bare_len, row_len};
+use crate::wrap::feeds;
 use miette_runs::runs::RunsSlice;
 use miette_runs::runs::cells::{push_all, push_cells, push_signs, push_tags};
-use miette_runs::runs::codes::Codes;
+use miette_runs::runs::codes::{Ascii, Characters, Codes};
 use miette_runs::runs::sign::Tag;
 use miette_runs::runs::sink::Sink;
 use std::alloc::AllocError;
@@ -111,31 +112,33 @@ fn push_rows<S: Sink, W: Words, C: Codes>(
 
 // ---- lines
 
-fn is_feed(code: char) -> bool
-    ensures { result ≡ is_line_feed code }
-{
-    code == '\n'
+/// Characters whose line feeds are looked for.
+pub(crate) trait Lines: Codes {
+    /// How many there are up to the first line feed, or to the end.
+    fn line_len(self) -> usize
+        ensures value { result ≡ line_len (Self.codes self) }
+        ensures within { result ≤ length (Self.codes self) };
 }
 
-/// How many codes there are up to the first line feed, or to the end.
-pub(crate) fn line_len<C: Codes>(codes: C) -> usize
-    ensures value { result ≡ line_len (C.codes codes) }
-    ensures within { result ≤ length (C.codes codes) }
-{
-    let n = codes.count();
-    let mut i: usize = 0;
-    'rest: while i < n {
-        let code = codes.at(i);
-        if is_feed(code) {
-            return i;
+impl<'a> Lines for Characters<'a> {
+    fn line_len(self) -> usize {
+        for (i, code) in self.list.iter().enumerate() {
+            if *code == '\n' {
+                return i;
+            }
         }
-        i += 1;
+        self.list.len()
     }
-    i
+}
+
+impl<'a> Lines for Ascii<'a> {
+    fn line_len(self) -> usize {
+        feeds::row_len(self.text.as_bytes())
+    }
 }
 
 /// A text, wrapped by words that are told apart so, its first row under an indent of its own.
-pub(crate) fn push_filled<S: Sink, W: Words, C: Codes>(
+pub(crate) fn push_filled<S: Sink, W: Words, C: Lines>(
     out: &mut S,
     cuts: Cuts,
     under: Under<'_>,
@@ -151,7 +154,7 @@ pub(crate) fn push_filled<S: Sink, W: Words, C: Codes>(
     let mut used: usize = 0;
     let mut room = under.room;
     'rest: loop {
-        let n = line_len(text.codes.from(start));
+        let n = text.codes.from(start).line_len();
         let end = start + n;
         let place = Under { room, ..under };
         let line = Signed {
