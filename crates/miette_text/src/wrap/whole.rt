@@ -1,6 +1,6 @@
 //! Text under indents, not wrapped.
 
-ghost use Rattle.std.specs.Prelude.{◌≡◌, ◌++◌, ◌<◌, ◌∷◌, [], IfOk, IfSome, OnOk, chars, length, string_bytes};
+ghost use Rattle.std.specs.Prelude.{◌≡◌, ◌++◌, ◌<◌, ◌≤◌, ◌∷◌, [], IfOk, IfSome, OnOk, chars, length, string_bytes};
 ghost use Rattle.std.specs.Prelude.{take, true};
 ghost use Rattle.std.specs.List.{prefix_len};
 ghost use Rattle.miette_runs.specs.rules.Sequences.{spell, tokens};
@@ -158,6 +158,13 @@ fn push_printed<S: Sink>(
     push_further(out, indent, Some(both), text)
 }
 
+/// How many bytes a text takes with its indents, which are less than a fourth of most texts.
+pub(crate) fn room_for(text: &str) -> usize
+    ensures { length text.now ≤ result }
+{
+    text.len() + text.len() / 4 + ROOM
+}
+
 // From so many bytes on an indent is printed once for all their lines.
 const LONG: usize = 256;
 
@@ -179,8 +186,7 @@ pub(crate) fn push_whole<S: Sink>(
     if len == text.len() {
         return push_last(out, first, line.is_white, text);
     }
-    // the indents of most texts are less than a fourth of them
-    out.reserve(' ', text.len() + text.len() / 4 + ROOM)?;
+    out.reserve(' ', room_for(text))?;
     let (fed, behind) = cut_line(text, len);
     push_indent(out, first, None, line.is_white)?;
     out.push_str(fed)?;

@@ -23,7 +23,7 @@ returns-in-Some g c =
     let wraps : p.wraps ≡ true = cc in
     let is = rw c.in-Some.is at c.plain.ensures in
     on_ok_weaker c.push_filled_under.result (λ h. h
-    ∙ ap (λ ts. old ++ spell (filled_text p ts)) is
+    ∙ ap₂ (λ us ts. us ++ spell (filled_text p ts)) c.in_ok-reserve.ensures is
     ∙ ap (λ us. old ++ spell us) (wrapped-filled p (tokens (chars c.args.text.now)) wraps)) c.push_filled_under.ensures
 
 pub returns : goal.returns
