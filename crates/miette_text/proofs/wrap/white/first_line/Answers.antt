@@ -14,8 +14,13 @@ overflow_add-len c =
     let n = c.unseen_len-front.result in
     let behind : c.row_len-behind.result ≡ prefix_len is_in_row (drop n bytes) = c.row_len-behind.ensures
     ∙ ap (prefix_len is_in_row) (take_rest bytes n) in
-    omega (arith, behind, prefix_len-le-length is_in_row (drop n bytes), length-drop n bytes,
-    c.unseen_len-front.ensures.within)
+    omega (
+      arith,
+      behind,
+      prefix_len-le-length is_in_row (drop n bytes),
+      length-drop n bytes,
+      c.unseen_len-front.ensures.within,
+    )
 
 pub range-line-requires-clause-end_boundary : goal.range-line-requires-clause-end_boundary
 range-line-requires-clause-end_boundary c =
