@@ -231,7 +231,7 @@ first-feed text fed rest n u e h a b =
 -- so many bytes, behind which a text may be cut
 pub record IsLine (text : List ℕ) (n : ℕ) : Type 0 where
   pub len : n ≡ prefix_len is_in_row text
-  pub within : n ≤ length text
+  pub inside : n ≤ length text
   pub boundary : IsCharBoundary text n
 
 row-boundary : (text : List ℕ) (n : ℕ) → n ≡ prefix_len is_in_row text → IsCharBoundary text n
@@ -261,6 +261,6 @@ line-behind text bytes n m is h l e =
     let len : n + m ≡ prefix_len is_in_row text = omega (arith, more, all, e, length-take-le n bytes l) in
     record {
       len = len;
-      within = omega (arith, len, prefix_len-le-length is_in_row text);
+      inside = omega (arith, len, prefix_len-le-length is_in_row text);
       boundary = row-boundary text (n + m) len;
     }

@@ -41,7 +41,7 @@ range_from-requires c =
     let own = line-behind text bytes n m is front.unseen.in_row front.within
     (c.row_len-behind.ensures ∙ ap (prefix_len is_in_row) (take_rest bytes n)) in
     let cut : c.range-line.result.now ≡ take (n + m) text = search rules in
-    λ _. (line_passed text bytes c.range-line.result.now n (n + m) is front.unseen (omega arith) own.within cut
+    λ _. (line_passed text bytes c.range-line.result.now n (n + m) is front.unseen (omega arith) own.inside cut
     c.range-line.utf8).boundary
 
 pub returns-clause-len : goal.returns-clause-len
@@ -58,7 +58,7 @@ returns-clause-within c =
     let n = c.unseen_len-front.result in
     let front = c.unseen_len-front.ensures in
     (line-behind c.args.text.now bytes n c.row_len-behind.result c.as_bytes-bytes.ensures.value front.unseen.in_row
-    front.within (c.row_len-behind.ensures ∙ ap (prefix_len is_in_row) (take_rest bytes n))).within
+    front.within (c.row_len-behind.ensures ∙ ap (prefix_len is_in_row) (take_rest bytes n))).inside
 
 pub returns-clause-white : goal.returns-clause-white
 returns-clause-white c =
@@ -73,6 +73,6 @@ returns-clause-white c =
     let cut : c.range-line.result.now ≡ take (n + m) text = search rules in
     c.rest_passes-is_white.ensures
     ∙ ap (λ xs. are_passed true (tokens (chars xs))) c.range_from.ensures.value
-    ∙ (line_passed text bytes c.range-line.result.now n (n + m) is front.unseen (omega arith) own.within cut
+    ∙ (line_passed text bytes c.range-line.result.now n (n + m) is front.unseen (omega arith) own.inside cut
     c.range-line.utf8).same
     ∙ ap (λ xs. are_passed true (tokens (chars xs))) cut
