@@ -38,8 +38,8 @@ fn indent_before<'a>(indent: RunsSlice<'a>, is_white: bool) -> RunsSlice<'a>
     if is_white { trim_end(indent) } else { indent }
 }
 
-// How many bytes the print of an indent has room for at once.
-const ROOM: usize = 32;
+// How many bytes most indents print at most, with their colours.
+const ROOM: usize = 16;
 
 // What an indent prints.
 fn printed_text(alloc: Global, indent: RunsSlice<'_>) -> Result<String, AllocError>
@@ -178,8 +178,8 @@ pub(crate) fn push_whole<S: Sink>(
     if len == text.len() {
         return push_last(out, first, line.is_white, text);
     }
-    // the indents of most texts are less than a fourth of them
-    out.reserve(' ', text.len() + text.len() / 4 + ROOM)?;
+    // the indents of most texts are less than half of them
+    out.reserve(' ', text.len() + text.len() / 2 + ROOM)?;
     let (fed, behind) = cut_line(text, len);
     push_indent(out, first, None, line.is_white)?;
     out.push_str(fed)?;
