@@ -44,7 +44,7 @@ mod whole;
 use crate::wrap::breaks::Broken;
 use crate::wrap::ends::{Cuts, Spaced};
 use crate::wrap::lines::{Lines, Signed, Under, push_filled};
-use crate::wrap::whole::{push_whole, room_for};
+use crate::wrap::whole::push_whole;
 use memchr::memchr;
 use miette_runs::runs::Runs;
 use miette_runs::runs::cells::push_all;
@@ -188,7 +188,8 @@ fn push_wrapped<S: Sink>(
         return push_whole(alloc, out, plan.first.parts(), plan.further.parts(), text);
     }
     if let Some(codes) = plain(text) {
-        out.reserve(' ', room_for(text))?;
+        // the indents of most texts are less than a fourth of them
+        out.reserve(' ', text.len() + text.len() / 4)?;
         return push_filled_under(out, plan, Signed { codes, tags: &[] });
     }
     let read = read_text(alloc, text)?;

@@ -1,6 +1,6 @@
 //! Text under indents, not wrapped.
 
-ghost use Rattle.std.specs.Prelude.{◌≡◌, ◌++◌, ◌<◌, ◌≤◌, ◌∷◌, [], IfOk, IfSome, OnOk, chars, length, string_bytes};
+ghost use Rattle.std.specs.Prelude.{◌≡◌, ◌++◌, ◌<◌, ◌∷◌, [], IfOk, IfSome, OnOk, chars, length, string_bytes};
 ghost use Rattle.std.specs.Prelude.{take, true};
 ghost use Rattle.std.specs.List.{prefix_len};
 ghost use Rattle.miette_runs.specs.rules.Sequences.{spell, tokens};
@@ -39,8 +39,8 @@ fn indent_before<'a>(indent: RunsSlice<'a>, is_white: bool) -> RunsSlice<'a>
     if is_white { trim_end(indent) } else { indent }
 }
 
-// How many bytes the print of an indent has room for at once.
-const ROOM: usize = 32;
+// How many bytes most indents print at most, with their colours.
+const ROOM: usize = 16;
 
 // What an indent prints.
 fn printed_text(alloc: Global, indent: RunsSlice<'_>) -> Result<String, AllocError>
@@ -158,13 +158,6 @@ fn push_printed<S: Sink>(
     push_further(out, indent, Some(both), text)
 }
 
-/// How many bytes a text takes with its indents, which are less than a fourth of most texts.
-pub(crate) fn room_for(text: &str) -> usize
-    ensures { length text.now ≤ result }
-{
-    text.len() + text.len() / 4 + ROOM
-}
-
 // From so many bytes on an indent is printed once for all their lines.
 const LONG: usize = 256;
 
@@ -186,7 +179,8 @@ pub(crate) fn push_whole<S: Sink>(
     if len == text.len() {
         return push_last(out, first, line.is_white, text);
     }
-    out.reserve(' ', room_for(text))?;
+    // the indents of most texts are less than half of them
+    out.reserve(' ', text.len() + text.len() / 2 + ROOM)?;
     let (fed, behind) = cut_line(text, len);
     push_indent(out, first, None, line.is_white)?;
     out.push_str(fed)?;
