@@ -1,8 +1,8 @@
 -- A character that is seen at the end of a line: it stands behind one that would end a sequence.
 use Rattle.std.proofs.Common.{◌≡◌, ℕ, zero, suc, ◌+◌, ◌-◌, ◌<◌, ◌≤◌, Bool, true, false, not, ◌&&◌, ◌==◌, ◌⊎◌, inl, inr}
 use Rattle.std.proofs.Common.{List, [], ◌∷◌, ◌++◌, IsAscii, IsUtf8, length, take, drop, get_or, refl, sym, ap, ◌∙◌, arith}
-use Rattle.std.proofs.Common.{if◌then◌else◌, leb-true, subst}
-use Rattle.std.specs.Prelude.{chars, nat_le}
+use Rattle.std.proofs.Common.{if◌then◌else◌, subst}
+use Rattle.std.specs.Prelude.{chars}
 use Rattle.std.specs.Char.{is_whitespace}
 use Rattle.std.proofs.lemmas.Bool.{and_parts}
 use Rattle.std.proofs.lemmas.Bool.Decides.{nat_tests}
@@ -169,8 +169,9 @@ visible_low c h = grind (arith, nat_tests)
 visible_high : (c : ℕ) → is_visible c ≡ true → c ≤ 126
 visible_high c h = grind (arith, nat_tests)
 
-not_bracket : (p : ℕ) → not (p == 91) ≡ true → (p == 91) ≡ false
-not_bracket p h = grind (arith, nat_tests)
+not_true : (b : Bool) → not b ≡ true → b ≡ false
+not_true true h = cc
+not_true false h = refl
 
 pub line_seen : (line : List ℕ) (n : ℕ) → IsUtf8 line → 2 ≤ n → n ≤ length line
     → (drop n line ≡ []) ⊎ (drop n line ≡ colour_stop) → closes (get_or line (n - 2) 0) ≡ true
@@ -185,9 +186,10 @@ line_seen line n u l m tail h k b =
     let closed = and_parts (is_final p) (not (p == 91)) h in
     let low : p < 128 = omega (arith, final_high p closed.0) in
     let seen : c < 128 = omega (arith, visible_high c k) in
+    let next : i + 1 ≡ n - 1 = omega (arith, l) in
+    let last : (n - 1) + 1 ≡ n = omega (arith, l) in
     let second : drop (i + 1) line ≡ c ∷ t = drop_more line (i + 1) 0 (omega (arith, l, m))
-    ∙ ap (λ j. get_or line j 0 ∷ drop (j + 1) line) (omega (arith, l))
-    ∙ ap (λ j. c ∷ drop j line) (omega (arith, l)) in
+    ∙ ap (λ j. get_or line j 0 ∷ drop (j + 1) line) next ∙ ap (λ j. c ∷ drop j line) last in
     let parts : line ≡ front ++ p ∷ c ∷ t = sym (take-append-drop i line)
     ∙ ap (λ xs. front ++ xs) (drop_more line i 0 (omega (arith, l, m)) ∙ ap (λ xs. p ∷ xs) second) in
     let own : IsUtf8 front = IsUtf8-take line i u (IsCharBoundary-before_ascii line i (omega (arith, l, m)) low) in
@@ -195,5 +197,5 @@ line_seen line n u l m tail h k b =
     let text : chars line ≡ chars front ++ p ∷ c ∷ t = ap chars parts ∙ chars-append front (p ∷ c ∷ t) own
     ∙ ap (λ xs. chars front ++ xs) (chars-IsAscii (p ∷ c ∷ t) ascii) in
     ap (λ xs. are_passed b (tokens xs)) text
-    ∙ behind_seen b p (c ∷ t) closed.0 (not_bracket p closed.1) (quiet_more c t k end.quiet)
+    ∙ behind_seen b p (c ∷ t) closed.0 (not_true (p == 91) closed.1) (quiet_more c t k end.quiet)
     (visible c b t (visible_low c k) (visible_high c k)) (chars front) 0 (omega arith)
