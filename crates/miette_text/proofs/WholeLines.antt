@@ -8,9 +8,8 @@ use Rattle.std.specs.List.{prefix_len}
 use Rattle.std.specs.Str.{IsCharBoundary}
 use Rattle.std.proofs.Math.Bool.{and-true, and_assoc}
 use Rattle.std.proofs.Math.Seq.{take-append_seam}
-use Rattle.std.proofs.lemmas.Bool.{and_parts}
 use Rattle.std.proofs.lemmas.Bool.Decides.{nat_tests}
-use Rattle.std.proofs.lemmas.List.{drop_at, drop_more, get_or-append-add, length-take-le, take_all, take_more}
+use Rattle.std.proofs.lemmas.List.{drop_at, drop_more, get_or-append-add, take_all, take_more}
 use Rattle.std.proofs.lemmas.List.Sums.{prefix_len-le-length, prefix_len_stops}
 use Rattle.std.proofs.lemmas.Str.{chars-append, chars-IsAscii, chars_past_char, encode_ascii, encodes-chars}
 use Rattle.std.proofs.lemmas.Str.{IsUtf8-drop, IsUtf8-take, IsCharBoundary-before_ascii, IsCharBoundary-end}
@@ -117,7 +116,7 @@ line-printed indent further text line rest fed white o p q is w f h k =
 
 -- ---- a text is parted at its first line feed
 
-pub row-append : (xs ys : List ℕ) → is_row (xs ++ ys) ≡ (is_row xs && is_row ys)
+row-append : (xs ys : List ℕ) → is_row (xs ++ ys) ≡ (is_row xs && is_row ys)
 row-append [] ys = refl
 row-append (x ∷ xs) ys =
     ap (λ b. is_in_row x && b) (row-append xs ys) ∙ sym (and_assoc (is_in_row x) (is_row xs) (is_row ys))
@@ -245,22 +244,11 @@ row-boundary text n e = elim (nat_lt n (length text)) as (λ b. nat_lt n (length
       subst (IsCharBoundary text) end (IsCharBoundary-end text)
 ] refl
 
-row-behind : (s r : List ℕ) → is_row s ≡ true → prefix_len is_in_row (s ++ r) ≡ length s + prefix_len is_in_row r
-row-behind [] r h = omega arith
-row-behind (x ∷ s) r h =
-    let p = and_parts (is_in_row x) (is_row s) h in
-    ap (λ b. cond b (1 + prefix_len is_in_row (s ++ r)) 0) p.0 ∙ omega (arith, row-behind s r p.1)
-
--- What is known to be in it isn't looked at again.
-pub line-behind : (text bytes : List ℕ) (n m : ℕ) → bytes ≡ text → is_row (take n bytes) ≡ true → n ≤ length bytes
-    → m ≡ prefix_len is_in_row (drop n bytes) → IsLine text (n + m)
-line-behind text bytes n m is h l e =
-    let more = row-behind (take n bytes) (drop n bytes) h in
-    let all : prefix_len is_in_row (take n bytes ++ drop n bytes) ≡ prefix_len is_in_row text =
-    ap (prefix_len is_in_row) (take-append-drop n bytes ∙ is) in
-    let len : n + m ≡ prefix_len is_in_row text = omega (arith, more, all, e, length-take-le n bytes l) in
+pub line-of : (text bytes : List ℕ) (n : ℕ) → bytes ≡ text → n ≡ prefix_len is_in_row bytes → IsLine text n
+line-of text bytes n is e =
+    let len : n ≡ prefix_len is_in_row text = e ∙ ap (prefix_len is_in_row) is in
     record {
       len = len;
       inside = omega (arith, len, prefix_len-le-length is_in_row text);
-      boundary = row-boundary text (n + m) len;
+      boundary = row-boundary text n len;
     }

@@ -1,9 +1,10 @@
 -- Text under indents that is not wrapped, in the steps of the code.
 use Rattle.std.specs.Prelude.{◌≡◌, ℕ, zero, suc, Bool, true, false, ◌&&◌, Option, None, Some, List, [], ◌∷◌, ◌++◌, chars}
-use Rattle.std.specs.Prelude.{IsAscii, if◌then◌else◌, not}
+use Rattle.std.specs.Prelude.{◌==◌, if◌then◌else◌, nat_le, not}
 use Rattle.std.specs.Char.{is_whitespace}
 use Rattle.miette_runs.specs.rules.Sequences.{Token, Character, Sequence, after_escape_len, begins, colour_len}
-use Rattle.miette_runs.specs.rules.Sequences.{command_len, control_len, is_line_feed, spell, tokens, tokens_behind}
+use Rattle.miette_runs.specs.rules.Sequences.{command_len, control_len, is_final, is_line_feed, spell, tokens}
+use Rattle.miette_runs.specs.rules.Sequences.{tokens_behind}
 use Rattle.miette_text.specs.declared.wrap.white.Place.{Place}
 use Rattle.miette_text.specs.declared.wrap.white.Place.TheVariants.{Outside, Escape, Control, Command, CommandEscape}
 use Rattle.miette_text.specs.laws.FittingRows.{is_row}
@@ -50,11 +51,13 @@ passed_through (Some place) blanks cs = passed_from place blanks cs
 abbrev pub front_len : Bool → List ℕ → ℕ
 front_len blanks bytes = if blanks && begins 32 bytes then 1 else colour_len bytes
 
--- ASCII of one line of which nothing is seen, whatever stands behind it
-pub record IsUnseen (blanks : Bool) (s : List ℕ) : Type 0 where
-  pub ascii : IsAscii s
-  pub in_row : is_row s ≡ true
-  pub passed : (rest : List ℕ) → are_passed blanks (tokens (s ++ rest)) ≡ are_passed blanks (tokens rest)
+-- from `!` to `~`
+abbrev pub is_visible : ℕ → Bool
+is_visible c = nat_le 33 c && nat_le c 126
+
+-- it would end a sequence that begins with `ESC [`, but for the `[` of the next one
+abbrev pub closes : ℕ → Bool
+closes c = is_final c && not (c == 91)
 
 -- ---- a line under its indent
 

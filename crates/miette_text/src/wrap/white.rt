@@ -1,11 +1,12 @@
 //! Lines in which nothing is seen.
 
-ghost use Rattle.std.specs.Prelude.{◌≡◌, ◌≤◌, ◌∷◌, ℕ, Bool, List, chars, false, length, take, true};
+ghost use Rattle.std.specs.Prelude.{◌≡◌, ◌≤◌, ◌⊎◌, ◌∷◌, [], ℕ, Bool, List, chars, drop, false, length, take, true};
 ghost use Rattle.std.specs.List.{prefix_len};
 ghost use Rattle.miette_runs.specs.rules.Sequences.{colour_end_len, colour_len, is_parameter, tokens};
+ghost use Rattle.miette_style.specs.rules.Codes.{colour_stop};
 ghost use Rattle.miette_text.specs.declared.wrap.white.Place.TheVariants.{Outside, Escape, Control, Command};
-ghost use Rattle.miette_text.specs.steps.WholeText.{IsUnseen, are_passed, front_len, is_in_row, passed_from};
-ghost use Rattle.miette_text.specs.steps.WholeText.{passed_through};
+ghost use Rattle.miette_text.specs.steps.WholeText.{are_passed, closes, front_len, is_in_row, is_visible};
+ghost use Rattle.miette_text.specs.steps.WholeText.{passed_from, passed_through};
 
 use crate::wrap::feeds::row_len;
 
@@ -56,27 +57,25 @@ fn front_len(bytes: &[u8], blanks: bool) -> usize
     colour_len(bytes)
 }
 
-// How many bytes at the front are colours, and spaces where white characters may stand there.
-fn unseen_len(bytes: &[u8], blanks: bool) -> usize
-    ensures unseen { IsUnseen blanks (take result bytes.now) }
-    ensures within { result ≤ length bytes.now }
-{
-    let mut len: usize = 0;
-    'rest: loop {
-        let more = front_len(&bytes[len..], blanks);
-        if more == 0 {
-            return len;
-        }
-        len += more;
-    }
-}
-
 // A text behind the colours that it begins with, and behind the spaces where white characters may stand there.
 fn behind_front(text: &str, blanks: bool) -> &str
     ensures { are_passed blanks (tokens (chars result.now)) ≡ are_passed blanks (tokens (chars text.now)) }
 {
-    let front = unseen_len(text.as_bytes(), blanks);
-    &text[front..]
+    let mut rest = text;
+    'rest: loop {
+        let len = front_len(rest.as_bytes(), blanks);
+        if len == 0 {
+            return rest;
+        }
+        rest = &rest[len..];
+    }
+}
+
+// Whether it is one from `!` to `~`.
+fn is_visible(byte: u8) -> bool
+    ensures { result ≡ is_visible byte }
+{
+    b'!' <= byte && byte <= b'~'
 }
 
 // Whether a text begins with a character from `!` to `~`, which is in no sequence and isn't white.
@@ -87,6 +86,57 @@ fn begins_seen(text: &str) -> bool
         [byte, ..] => b'!' <= *byte && *byte <= b'~',
         [] => false,
     }
+}
+
+// ---- the end of a line
+
+// Whether a byte would end a sequence that begins with `ESC [`, but for the `[` of the next one.
+fn closes(byte: u8) -> bool
+    ensures { result ≡ closes byte }
+{
+    b'@' <= byte && byte <= b'~' && byte != b'['
+}
+
+// Whether bytes are the code that ends a style.
+fn ends_style(code: &[u8]) -> bool
+    ensures { result ≡ true → code.now ≡ colour_stop }
+{
+    match code {
+        [a, b, c, d] => *a == b'\x1B' && *b == b'[' && *c == b'0' && *d == b'm',
+        _ => false,
+    }
+}
+
+// How many bytes a line has before the code that ends a style, where it ends with that, or at all.
+fn styled_len(line: &[u8]) -> usize
+    ensures tail { (drop result line.now ≡ []) ⊎ (drop result line.now ≡ colour_stop) }
+    ensures within { result ≤ length line.now }
+{
+    let all = line.len();
+    if all < 4 {
+        return all;
+    }
+    let len = all - 4;
+    if ends_style(&line[len..]) {
+        return len;
+    }
+    all
+}
+
+// Whether the last characters of a line, before the code that ends a style, show that something is seen: one from `!`
+// to `~`, behind one that would end a sequence.
+fn ends_seen(line: &str) -> bool
+    ensures { result ≡ true → (blanks : Bool) → are_passed blanks (tokens (chars line.now)) ≡ false }
+{
+    let bytes = line.as_bytes();
+    let len = styled_len(bytes);
+    if len < 2 {
+        return false;
+    }
+    if !closes(bytes[len - 2]) {
+        return false;
+    }
+    is_visible(bytes[len - 1])
 }
 
 // ---- all that is passed, character by character
@@ -192,22 +242,24 @@ fn walk_passes(text: &str, blanks: bool) -> bool
     matches!(place, Place::Outside)
 }
 
-// The same of what stands behind its front: most of it begins with a character that is seen.
-fn rest_passes(rest: &str, blanks: bool) -> bool
-    ensures { result ≡ are_passed blanks (tokens (chars rest.now)) }
-{
-    !begins_seen(rest) && walk_passes(rest, blanks)
-}
-
 /// Whether a text holds nothing but whole sequences, and white characters where these may stand in it too. It is left
 /// at the first other character.
 pub(crate) fn is_passed(text: &str, blanks: bool) -> bool
     ensures { result ≡ are_passed blanks (tokens (chars text.now)) }
 {
-    rest_passes(behind_front(text, blanks), blanks)
+    let rest = behind_front(text, blanks);
+    !begins_seen(rest) && walk_passes(rest, blanks)
 }
 
 // ---- the first line of a text
+
+// Whether a text holds nothing but whole sequences and white characters; most have a character that is seen at their
+// front or at their end.
+fn is_white(line: &str) -> bool
+    ensures { result ≡ are_passed true (tokens (chars line.now)) }
+{
+    !begins_seen(line) && !ends_seen(line) && is_passed(line, true)
+}
 
 /// How many bytes a text's first line has, and whether nothing is seen in it.
 #[derive(Clone, Copy)]
@@ -222,11 +274,7 @@ pub(crate) fn first_line(text: &str) -> FirstLine
     ensures within { result.len ≤ length text.now }
     ensures white { result.is_white ≡ are_passed true (tokens (chars (take result.len text.now))) }
 {
-    let bytes = text.as_bytes();
-    let front = unseen_len(bytes, true);
-    let behind = row_len(&bytes[front..]);
-    let len = front + behind;
-    let line = &text[..len];
-    let is_white = rest_passes(&line[front..], true);
+    let len = row_len(text.as_bytes());
+    let is_white = is_white(&text[..len]);
     FirstLine { len, is_white }
 }

@@ -1,26 +1,25 @@
-use Rattle.std.proofs.Common.{◌≤◌, ◌∙◌, ap, arith, chars, length, subst, take}
+use Rattle.std.proofs.Common.{◌≡◌, ◌∙◌, ap, arith, chars}
 use Rattle.miette_runs.specs.rules.Sequences.{tokens}
-use Rattle.miette_text.specs.steps.WholeText.{IsUnseen, are_passed}
+use Rattle.miette_text.specs.steps.WholeText.{are_passed, front_len}
 use Rattle.miette_text.proofs.PassedFronts.{front_passed}
 use Rattle.miette_text.proofs.wrap.white.behind_front.Goals as goal
 
-pub range_from-requires : goal.range_from-requires
-range_from-requires c =
-    let text = c.args.text.now in
-    let n = c.unseen_len-front.result in
-    let is = c.as_bytes.ensures.value in
-    let within : n ≤ length text = omega (arith, c.unseen_len-front.ensures.within, ap length is) in
-    let none : IsUnseen c.args.blanks (take n text) = subst (λ xs. IsUnseen c.args.blanks (take n xs)) is
-    c.unseen_len-front.ensures.unseen in
-    λ _. (front_passed c.args.blanks text n c.utf8.text within none).boundary
+pub range_from-rest-requires : goal.range_from-rest-requires
+range_from-rest-requires c =
+    let n = c.front_len-len.result in
+    let is : n ≡ front_len c.args.blanks c.rest.rest.now = c.front_len-len.ensures.value
+    ∙ ap (front_len c.args.blanks) c.as_bytes.ensures.value in
+    let front = front_passed c.args.blanks c.rest.rest.now n c.rest.invariant.text (omega arith) (omega arith) is in
+    λ _. front.boundary
 
-pub returns : goal.returns
-returns c =
-    let text = c.args.text.now in
-    let n = c.unseen_len-front.result in
-    let is = c.as_bytes.ensures.value in
-    let within : n ≤ length text = omega (arith, c.unseen_len-front.ensures.within, ap length is) in
-    let none : IsUnseen c.args.blanks (take n text) = subst (λ xs. IsUnseen c.args.blanks (take n xs)) is
-    c.unseen_len-front.ensures.unseen in
-    ap (λ xs. are_passed c.args.blanks (tokens (chars xs))) c.range_from.ensures.value
-    ∙ (front_passed c.args.blanks text n c.utf8.text within none).same
+pub rest-preserved : goal.rest-preserved
+rest-preserved c =
+    let n = c.front_len-len.result in
+    let is : n ≡ front_len c.args.blanks c.rest.rest.now = c.front_len-len.ensures.value
+    ∙ ap (front_len c.args.blanks) c.as_bytes.ensures.value in
+    let front = front_passed c.args.blanks c.rest.rest.now n c.rest.invariant.text (omega arith) (omega arith) is in
+    record {
+      told = ap (λ bs. are_passed c.args.blanks (tokens (chars bs))) c.range_from-rest.ensures.value ∙ front.same
+          ∙ c.rest.invariant.told;
+      text = c.range_from-rest.utf8;
+    }
