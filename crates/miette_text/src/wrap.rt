@@ -43,7 +43,7 @@ mod whole;
 
 use crate::wrap::breaks::Broken;
 use crate::wrap::ends::{Cuts, Spaced};
-use crate::wrap::lines::{Lines, Signed, Under, push_filled};
+use crate::wrap::lines::{Lined, Signed, Under, push_filled};
 use crate::wrap::whole::push_whole;
 use memchr::memchr;
 use miette_runs::runs::Runs;
@@ -112,7 +112,7 @@ pub struct Plan<'a> {
     pub further: &'a Runs,
 }
 
-fn push_filled_under<S: Sink, C: Lines>(
+fn push_filled_under<S: Sink, C: Lined>(
     out: &mut S,
     plan: Plan<'_>,
     text: Signed<'_, C>,

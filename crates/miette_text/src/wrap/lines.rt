@@ -113,14 +113,14 @@ fn push_rows<S: Sink, W: Words, C: Codes>(
 // ---- lines
 
 /// Characters whose line feeds are looked for.
-pub(crate) trait Lines: Codes {
+pub(crate) trait Lined: Codes {
     /// How many there are up to the first line feed, or to the end.
     fn line_len(self) -> usize
         ensures value { result ≡ line_len (Self.codes self) }
         ensures within { result ≤ length (Self.codes self) };
 }
 
-impl<'a> Lines for Characters<'a> {
+impl<'a> Lined for Characters<'a> {
     fn line_len(self) -> usize {
         for (i, code) in self.list.iter().enumerate() {
             if *code == '\n' {
@@ -131,14 +131,14 @@ impl<'a> Lines for Characters<'a> {
     }
 }
 
-impl<'a> Lines for Ascii<'a> {
+impl<'a> Lined for Ascii<'a> {
     fn line_len(self) -> usize {
         feeds::row_len(self.text.as_bytes())
     }
 }
 
 /// A text, wrapped by words that are told apart so, its first row under an indent of its own.
-pub(crate) fn push_filled<S: Sink, W: Words, C: Lines>(
+pub(crate) fn push_filled<S: Sink, W: Words, C: Lined>(
     out: &mut S,
     cuts: Cuts,
     under: Under<'_>,

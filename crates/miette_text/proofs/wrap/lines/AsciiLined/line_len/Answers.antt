@@ -3,7 +3,7 @@ use Rattle.std.specs.List.{prefix_len}
 use Rattle.std.proofs.lemmas.List.Sums.{prefix_len-le-length}
 use Rattle.miette_text.specs.steps.WholeText.{is_in_row}
 use Rattle.miette_text.proofs.Counts.{line-row}
-use Rattle.miette_text.proofs.wrap.lines.AsciiLines.line_len.Goals as goal
+use Rattle.miette_text.proofs.wrap.lines.AsciiLined.line_len.Goals as goal
 
 pub returns-clause-value : goal.returns-clause-value
 returns-clause-value c = c.row_len.ensures ∙ ap (prefix_len is_in_row) c.as_bytes.ensures.value
