@@ -34,6 +34,7 @@ mod feeds;
 pub mod fitting;
 pub mod laws;
 mod lines;
+mod printable;
 mod white;
 mod whole;
 
