@@ -30,6 +30,7 @@ pub mod BareRows
 pub mod Filling
 pub mod TrimmedIndents
 pub mod PassedFronts
+pub mod PrintableBlocks
 pub mod SeenEnds
 pub mod FeedBlocks
 pub mod PassedLines

@@ -38,6 +38,7 @@ mod feeds;
 pub mod fitting;
 pub mod laws;
 mod lines;
+mod printable;
 mod white;
 mod whole;
 
