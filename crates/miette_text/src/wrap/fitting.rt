@@ -32,10 +32,25 @@ fn walk_fits(room: usize, text: &str) -> bool
     bare
 }
 
-// The same; the columns of printable ASCII are its bytes. A text with more bytes than columns is left soon.
+// Whether a text begins with more printable ASCII than there is room for.
+fn is_wider(room: usize, text: &str) -> bool
+    ensures { result ≡ true → fits_row room (chars text.now) ≡ false }
+{
+    let bytes = text.as_bytes();
+    if bytes.len() <= room {
+        return false;
+    }
+    is_printable(&bytes[..room + 1])
+}
+
+// The same as of the walk; the columns of printable ASCII are its bytes. Another text with more bytes than columns is
+// left soon.
 fn fits_row(room: usize, text: &str) -> bool
     ensures { result ≡ fits_row room (chars text.now) }
 {
+    if is_wider(room, text) {
+        return false;
+    }
     let bytes = text.as_bytes();
     if room < bytes.len() || !is_printable(bytes) {
         return walk_fits(room, text);
