@@ -6,7 +6,7 @@ use Rattle.std.specs.Prelude.{chars}
 use Rattle.std.specs.Char.{is_whitespace}
 use Rattle.std.proofs.lemmas.Bool.{and_parts}
 use Rattle.std.proofs.lemmas.Bool.Decides.{nat_tests}
-use Rattle.std.proofs.lemmas.List.{drop_more, take-append-drop}
+use Rattle.std.proofs.lemmas.List.{drop_all, drop_more, take-append-drop}
 use Rattle.std.proofs.Math.Bool.{and-false}
 use Rattle.std.proofs.lemmas.Str.{IsCharBoundary-before_ascii, IsUtf8-take, chars-IsAscii, chars-append}
 use Rattle.std.proofs.lemmas.Str.Ascii.{IsAscii-cons, IsAscii-nil}
@@ -15,7 +15,7 @@ use Rattle.miette_style.specs.rules.Escapes.{is_escape}
 use Rattle.miette_runs.specs.rules.Sequences.{Token, Character, Sequence, after_escape_len, begins, begins_terminator}
 use Rattle.miette_runs.specs.rules.Sequences.{command_len, control_len, is_bell, is_final, is_line_feed, one_more}
 use Rattle.miette_runs.specs.rules.Sequences.{sequence_len, tokens, tokens_behind}
-use Rattle.miette_text.specs.steps.WholeText.{are_passed, closes, is_visible}
+use Rattle.miette_text.specs.steps.WholeText.{are_passed, closes, is_low, is_visible}
 use Rattle.miette_text.proofs.PassedFronts.{visible}
 
 -- ---- a sequence that begins before a code that would end one ends there at last
@@ -97,53 +97,7 @@ sequence_closed : (p c : ℕ) (t y : List ℕ) → is_final p ≡ true → (p ==
 sequence_closed p c t y h b k = sequence_next (is_escape c) (after_escape_len (y ++ p ∷ t)) (suc (length y))
     (escape_closed p t y h b k)
 
--- ---- so what is behind that code is seen
-
-final_low : (p : ℕ) → is_final p ≡ true → 33 ≤ p
-final_low p h = grind (arith, nat_tests)
-
-final_high : (p : ℕ) → is_final p ≡ true → p ≤ 126
-final_high p h = grind (arith, nat_tests)
-
-behind_seen : (b : Bool) (p : ℕ) (t : List ℕ) → is_final p ≡ true → (p == 91) ≡ false → command_len t ≡ 0
-    → are_passed b (tokens t) ≡ false → (y : List ℕ) (j : ℕ) → j ≤ suc (length y)
-    → are_passed b (tokens_behind j (y ++ p ∷ t)) ≡ false
-behind_seen b p t h e k s [] zero l = visible p b t (final_low p h) (final_high p h)
-behind_seen b p t h e k s [] (suc zero) l = s
-behind_seen b p t h e k s [] (suc (suc j)) l = absurd (omega (arith, l))
-behind_seen b p t h e k s (c ∷ y) (suc j) l = behind_seen b p t h e k s y j (omega (arith, l))
-behind_seen b p t h e k s (c ∷ y) zero l =
-    let rest = y ++ p ∷ t in
-    elim (sequence_len (c ∷ rest)) as (λ (n : ℕ). n ≤ suc (suc (length y))
-    → are_passed b (elim n as (λ _. List Token) [
-      | zero ↦ Character c ∷ tokens_behind 0 rest
-      | suc k ↦ Sequence (take (suc k) (c ∷ rest)) ∷ tokens_behind k rest
-    ]) ≡ false) [
-      | zero ↦ λ m. ap (λ v. (b && is_whitespace c) && v) (behind_seen b p t h e k s y 0 (omega arith))
-          ∙ and-false (b && is_whitespace c)
-      | suc i ↦ λ m. behind_seen b p t h e k s y i (omega (arith, m))
-    ] (sequence_closed p c t y h e k)
-
--- ---- at the end of a line, or before the code that ends a style there
-
--- no end of a sequence that begins with `ESC ]`
-record IsTail (t : List ℕ) : Type 0 where
-  pub ascii : IsAscii t
-  pub quiet : command_len t ≡ 0
-
-none_tail : IsTail []
-none_tail = record { ascii = IsAscii-nil; quiet = refl }
-
-stop_tail : IsTail colour_stop
-stop_tail = record {
-  ascii = IsAscii-cons 27 (91 ∷ 48 ∷ 109 ∷ []) (omega arith) (IsAscii-cons 91 (48 ∷ 109 ∷ []) (omega arith)
-      (IsAscii-cons 48 (109 ∷ []) (omega arith) (IsAscii-cons 109 [] (omega arith) IsAscii-nil)));
-  quiet = refl;
-}
-
-tail_of : (t : List ℕ) → (t ≡ []) ⊎ (t ≡ colour_stop) → IsTail t
-tail_of t (inl e) = subst (λ s. IsTail s) (sym e) none_tail
-tail_of t (inr e) = subst (λ s. IsTail s) (sym e) stop_tail
+-- ---- a code that is visible begins and ends no sequence
 
 not_feed : (c : ℕ) → is_visible c ≡ true → is_line_feed c ≡ false
 not_feed c h = grind (arith, nat_tests)
@@ -168,6 +122,128 @@ visible_low c h = grind (arith, nat_tests)
 
 visible_high : (c : ℕ) → is_visible c ≡ true → c ≤ 126
 visible_high c h = grind (arith, nat_tests)
+
+-- ---- a walk up to codes of which one is seen, where no sequence that begins before them is longer than so many more
+
+walk_seen : (b : Bool) (s : List ℕ) (m : ℕ)
+    → ((c : ℕ) (y : List ℕ) → sequence_len (c ∷ (y ++ s)) ≤ suc (m + length y))
+    → ((j : ℕ) → j ≤ m → are_passed b (tokens_behind j s) ≡ false)
+    → (y : List ℕ) (j : ℕ) → j ≤ m + length y → are_passed b (tokens_behind j (y ++ s)) ≡ false
+walk_seen b s m ends seen [] j l = seen j (omega (arith, l))
+walk_seen b s m ends seen (c ∷ y) (suc j) l = walk_seen b s m ends seen y j (omega (arith, l))
+walk_seen b s m ends seen (c ∷ y) zero l =
+    let rest = y ++ s in
+    elim (sequence_len (c ∷ rest)) as (λ (n : ℕ). n ≤ suc (m + length y)
+    → are_passed b (elim n as (λ _. List Token) [
+      | zero ↦ Character c ∷ tokens_behind 0 rest
+      | suc k ↦ Sequence (take (suc k) (c ∷ rest)) ∷ tokens_behind k rest
+    ]) ≡ false) [
+      | zero ↦ λ k. ap (λ v. (b && is_whitespace c) && v) (walk_seen b s m ends seen y 0 (omega arith))
+          ∙ and-false (b && is_whitespace c)
+      | suc i ↦ λ k. walk_seen b s m ends seen y i (omega (arith, k))
+    ] (ends c y)
+
+-- ---- so what is behind that code is seen
+
+final_low : (p : ℕ) → is_final p ≡ true → 33 ≤ p
+final_low p h = grind (arith, nat_tests)
+
+final_high : (p : ℕ) → is_final p ≡ true → p ≤ 126
+final_high p h = grind (arith, nat_tests)
+
+closed_seen : (b : Bool) (p : ℕ) (t : List ℕ) → is_final p ≡ true → are_passed b (tokens t) ≡ false
+    → (j : ℕ) → j ≤ 1 → are_passed b (tokens_behind j (p ∷ t)) ≡ false
+closed_seen b p t h s zero l = visible p b t (final_low p h) (final_high p h)
+closed_seen b p t h s (suc zero) l = s
+closed_seen b p t h s (suc (suc j)) l = absurd (omega (arith, l))
+
+closed_ends : (p : ℕ) (t : List ℕ) → is_final p ≡ true → (p == 91) ≡ false → command_len t ≡ 0
+    → (c : ℕ) (y : List ℕ) → sequence_len (c ∷ (y ++ p ∷ t)) ≤ suc (1 + length y)
+closed_ends p t h e k c y = omega (arith, sequence_closed p c t y h e k)
+
+behind_seen : (b : Bool) (p : ℕ) (t : List ℕ) → is_final p ≡ true → (p == 91) ≡ false → command_len t ≡ 0
+    → are_passed b (tokens t) ≡ false → (y : List ℕ) → are_passed b (tokens (y ++ p ∷ t)) ≡ false
+behind_seen b p t h e k s y =
+    walk_seen b (p ∷ t) 1 (closed_ends p t h e k) (closed_seen b p t h s) y 0 (omega arith)
+
+-- ---- and a code that would end none is seen at the very end
+
+low_final : (c : ℕ) → is_low c ≡ true → is_final c ≡ false
+low_final c h = grind (arith, nat_tests)
+
+low_backslash : (c : ℕ) → is_low c ≡ true → (c == 92) ≡ false
+low_backslash c h = grind (arith, nat_tests)
+
+low_visible : (c : ℕ) → is_low c ≡ true → is_visible c ≡ true
+low_visible c h = grind (arith, nat_tests)
+
+control_last : (f g : Bool) → g ≡ false → (if f then 0 else if g then 1 else one_more 0) ≤ 0
+control_last true g h = omega arith
+control_last false true h = absurd (cc)
+control_last false false h = omega arith
+
+control_low : (c : ℕ) (y : List ℕ) → is_low c ≡ true → control_len (y ++ c ∷ []) ≤ length y
+control_low c [] h = control_last (is_line_feed c) (is_final c) (low_final c h)
+control_low c (d ∷ y) h =
+    control_next (is_line_feed d) (is_final d) (control_len (y ++ c ∷ [])) (length y) (control_low c y h)
+
+command_none : (c : ℕ) → is_low c ≡ true → command_len (c ∷ []) ≡ 0
+command_none c h = quiet_more c [] (low_visible c h) refl
+
+command_low : (c : ℕ) (y : List ℕ) → is_low c ≡ true → command_len (y ++ c ∷ []) ≤ length y
+command_low c [] h = omega (arith, command_none c h)
+command_low c (d ∷ []) h =
+    command_first (is_line_feed d) (is_bell d) (begins_terminator (d ∷ c ∷ [])) (command_len (c ∷ []))
+    (ap (λ b. is_escape d && b) (low_backslash c h) ∙ and-false (is_escape d)) (command_none c h)
+command_low c (d ∷ e ∷ y) h =
+    command_next (is_line_feed d) (is_bell d) (begins_terminator (d ∷ e ∷ (y ++ c ∷ [])))
+    (command_len (e ∷ (y ++ c ∷ []))) (suc (length y)) (omega arith) (command_low c (e ∷ y) h)
+
+escape_last : (f g : Bool) → (if f then one_more 0 else if g then one_more 0 else 0) ≤ 0
+escape_last true g = omega arith
+escape_last false true = omega arith
+escape_last false false = omega arith
+
+escape_low : (c : ℕ) (y : List ℕ) → is_low c ≡ true → after_escape_len (y ++ c ∷ []) ≤ length y
+escape_low c [] h = escape_last (c == 91) (c == 93)
+escape_low c (d ∷ y) h =
+    escape_next (d == 91) (d == 93) (control_len (y ++ c ∷ [])) (command_len (y ++ c ∷ [])) (length y)
+    (control_low c y h) (command_low c y h)
+
+low_ends : (c : ℕ) → is_low c ≡ true → (d : ℕ) (y : List ℕ) → sequence_len (d ∷ (y ++ c ∷ [])) ≤ suc (0 + length y)
+low_ends c h d y = omega (
+  arith,
+  sequence_next (is_escape d) (after_escape_len (y ++ c ∷ [])) (length y) (escape_low c y h),
+)
+
+low_seen : (b : Bool) (c : ℕ) → is_low c ≡ true → (j : ℕ) → j ≤ 0 → are_passed b (tokens_behind j (c ∷ [])) ≡ false
+low_seen b c h zero l =
+    visible c b [] (visible_low c (low_visible c h)) (visible_high c (low_visible c h))
+low_seen b c h (suc j) l = absurd (omega (arith, l))
+
+last_seen : (b : Bool) (c : ℕ) → is_low c ≡ true → (y : List ℕ) → are_passed b (tokens (y ++ c ∷ [])) ≡ false
+last_seen b c h y = walk_seen b (c ∷ []) 0 (low_ends c h) (low_seen b c h) y 0 (omega arith)
+
+-- ---- at the end of a line, or before the code that ends a style there
+
+-- no end of a sequence that begins with `ESC ]`
+record IsTail (t : List ℕ) : Type 0 where
+  pub ascii : IsAscii t
+  pub quiet : command_len t ≡ 0
+
+none_tail : IsTail []
+none_tail = record { ascii = IsAscii-nil; quiet = refl }
+
+stop_tail : IsTail colour_stop
+stop_tail = record {
+  ascii = IsAscii-cons 27 (91 ∷ 48 ∷ 109 ∷ []) (omega arith) (IsAscii-cons 91 (48 ∷ 109 ∷ []) (omega arith)
+      (IsAscii-cons 48 (109 ∷ []) (omega arith) (IsAscii-cons 109 [] (omega arith) IsAscii-nil)));
+  quiet = refl;
+}
+
+tail_of : (t : List ℕ) → (t ≡ []) ⊎ (t ≡ colour_stop) → IsTail t
+tail_of t (inl e) = subst (λ s. IsTail s) (sym e) none_tail
+tail_of t (inr e) = subst (λ s. IsTail s) (sym e) stop_tail
 
 not_true : (b : Bool) → not b ≡ true → b ≡ false
 not_true true h = cc
@@ -198,4 +274,19 @@ line_seen line n u l m tail h k b =
     ∙ ap (λ xs. chars front ++ xs) (chars-IsAscii (p ∷ c ∷ t) ascii) in
     ap (λ xs. are_passed b (tokens xs)) text
     ∙ behind_seen b p (c ∷ t) closed.0 (not_true (p == 91) closed.1) (quiet_more c t k end.quiet)
-    (visible c b t (visible_low c k) (visible_high c k)) (chars front) 0 (omega arith)
+    (visible c b t (visible_low c k) (visible_high c k)) (chars front)
+
+pub end_seen : (line : List ℕ) → IsUtf8 line → 1 ≤ length line → is_low (get_or line (length line - 1) 0) ≡ true
+    → (b : Bool) → are_passed b (tokens (chars line)) ≡ false
+end_seen line u l h b =
+    let i = length line - 1 in
+    let c = get_or line i 0 in
+    let front = take i line in
+    let low : c < 128 = omega (arith, visible_high c (low_visible c h)) in
+    let none : drop (i + 1) line ≡ [] = drop_all (i + 1) line (omega (arith, l)) in
+    let parts : line ≡ front ++ c ∷ [] = sym (take-append-drop i line)
+    ∙ ap (λ xs. front ++ xs) (drop_more line i 0 (omega (arith, l)) ∙ ap (λ xs. c ∷ xs) none) in
+    let own : IsUtf8 front = IsUtf8-take line i u (IsCharBoundary-before_ascii line i (omega (arith, l)) low) in
+    let text : chars line ≡ chars front ++ c ∷ [] = ap chars parts ∙ chars-append front (c ∷ []) own
+    ∙ ap (λ xs. chars front ++ xs) (chars-IsAscii (c ∷ []) (IsAscii-cons c [] low IsAscii-nil)) in
+    ap (λ xs. are_passed b (tokens xs)) text ∙ last_seen b c h (chars front)

@@ -55,6 +55,10 @@ front_len blanks bytes = if blanks && begins 32 bytes then 1 else colour_len byt
 abbrev pub is_visible : ℕ → Bool
 is_visible c = nat_le 33 c && nat_le c 126
 
+-- from `!` to `?`: it ends no sequence
+abbrev pub is_low : ℕ → Bool
+is_low c = nat_le 33 c && nat_le c 63
+
 -- it would end a sequence that begins with `ESC [`, but for the `[` of the next one
 abbrev pub closes : ℕ → Bool
 closes c = is_final c && not (c == 91)

@@ -5,8 +5,8 @@ ghost use Rattle.std.specs.List.{prefix_len};
 ghost use Rattle.miette_runs.specs.rules.Sequences.{colour_end_len, colour_len, is_parameter, tokens};
 ghost use Rattle.miette_style.specs.rules.Codes.{colour_stop};
 ghost use Rattle.miette_text.specs.declared.wrap.white.Place.TheVariants.{Outside, Escape, Control, Command};
-ghost use Rattle.miette_text.specs.steps.WholeText.{are_passed, closes, front_len, is_in_row, is_visible};
-ghost use Rattle.miette_text.specs.steps.WholeText.{passed_from, passed_through};
+ghost use Rattle.miette_text.specs.steps.WholeText.{are_passed, closes, front_len, is_in_row, is_low};
+ghost use Rattle.miette_text.specs.steps.WholeText.{is_visible, passed_from, passed_through};
 
 use crate::wrap::feeds::row_len;
 
@@ -123,8 +123,15 @@ fn styled_len(line: &[u8]) -> usize
     all
 }
 
-// Whether the last characters of a line, before the code that ends a style, show that something is seen: one from `!`
-// to `~`, behind one that would end a sequence.
+// Whether it is one from `!` to `?`, which ends no sequence.
+fn is_low(byte: u8) -> bool
+    ensures { result ≡ is_low byte }
+{
+    b'!' <= byte && byte <= b'?'
+}
+
+// Whether the last characters of a line show that something is seen: before the code that ends a style, one from `!` to
+// `~` behind one that would end a sequence, or at the very end one that ends none.
 fn ends_seen(line: &str) -> bool
     ensures { result ≡ true → (blanks : Bool) → are_passed blanks (tokens (chars line.now)) ≡ false }
 {
@@ -133,10 +140,10 @@ fn ends_seen(line: &str) -> bool
     if len < 2 {
         return false;
     }
-    if !closes(bytes[len - 2]) {
-        return false;
+    if closes(bytes[len - 2]) {
+        return is_visible(bytes[len - 1]);
     }
-    is_visible(bytes[len - 1])
+    is_low(bytes[bytes.len() - 1])
 }
 
 // ---- all that is passed, character by character
