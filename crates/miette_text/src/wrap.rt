@@ -16,7 +16,7 @@
 //! | how many characters a row takes: parts, each with the spaces behind it | `row_len` (`ends.rt`) |
 //! | rows are printed with the signs that stand in them | `push_filled` (`lines.rt`) |
 //! | lines of a text that aren't wrapped are printed whole, and not read | `push_whole` (`whole.rt`) |
-//! | of a line in which nothing is seen the indent is shorter | `is_passed` (`white.rt`) |
+//! | of a line in which nothing is seen the indent is shorter | `first_line` (`white.rt`) |
 //!
 //! `fill` wraps a text, `wrap_text` a text under runs, `wrap` runs. Where a text stands in one row as it is,
 //! `push_fitting` (`fitting.rt`) appends it without any of these stages, for callers that try it first. `cutting` cuts
