@@ -8,7 +8,8 @@
 //!
 //! | Stage | Function |
 //! |---|---|
-//! | a text is read as runs, its escape sequences as signs | `read_text`, `reread` (`reading.rt` of `miette_runs`) |
+//! | a text is read where it stands, if it is ASCII without an escape | `Ascii` (`codes.rt` of `miette_runs`) |
+//! | or as runs, its escape sequences as signs | `read_text`, `reread` (`reading.rt` of `miette_runs`) |
 //! | lines are parted at line feeds | `line_len` (`lines.rt`) |
 //! | the part at the front, with the spaces behind it: of words that end at spaces | `Spaced` (`ends.rt`) |
 //! | of words that lie between the places at which a line may be broken | `Broken` (`breaks.rt`) |
