@@ -1,4 +1,4 @@
-use Rattle.std.proofs.Common.{◌<◌, ◌∙◌, arith, sym}
+use Rattle.std.proofs.Common.{◌∙◌, arith, sym}
 use Rattle.miette_text.proofs.PrintableBlocks.{all_passed, byte_other, byte_passed, other_found, plain_passed}
 use Rattle.miette_text.proofs.wrap.printable.is_printable.Goals as goal
 
