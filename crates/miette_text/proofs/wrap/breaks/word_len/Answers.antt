@@ -1,8 +1,9 @@
 use Rattle.std.proofs.Common.{◌≡◌, ◌∙◌, ◌+◌, ◌&&◌, ◌<◌, Bool, false, true, length, not, ap, ap₂, arith, sym}
-use Rattle.std.proofs.Common.{get_or, take}
+use Rattle.std.proofs.Common.{ℕ, List, [], ◌∷◌, drop, get_or, refl, take}
 use Rattle.std.proofs.lemmas.List.{drop_all, get_or_default}
 use Rattle.std.proofs.Math.Bool.{and-false}
 use Rattle.std.specs.Option.{is_some}
+use Rattle.miette_line_breaks.specs.declared.state.State.{State}
 use Rattle.miette_line_breaks.specs.views.Places.{found_before}
 use Rattle.miette_line_breaks.specs.views.Printable.{state_in}
 use Rattle.miette_text.specs.rules.Wrapping.{is_hyphen}
@@ -13,6 +14,20 @@ use Rattle.miette_text.proofs.FirstRow.{behind-last}
 use Rattle.miette_text.proofs.PrintedRuns.{printable-printed, printed-next}
 use Rattle.miette_text.proofs.wrap.breaks.word_len.Goals as goal
 use Rattle.miette_text.proofs.wrap.breaks.word_len.Goals.{in-Within, in-Hyphen, in-Broken+else-not-is_hyphen}
+
+piece-none : (s : State) (j : Bool) (cs : List ℕ) → length cs ≡ 0 → 0 ≡ piece_len s j cs
+piece-none s j [] e = refl
+piece-none s j (c ∷ cs) e = absurd (omega arith)
+
+pub returns-then-n-eq0 : goal.returns-then-n-eq0
+returns-then-n-eq0 g c =
+    record {
+      len = piece-none c.args.start true (g.C.Codes.codes c.args.codes)
+          (omega (arith, c.count-n.ensures, c.if-n-eq0.true));
+      state = refl;
+      printed = λ h. refl;
+      within = omega arith;
+    }
 
 pub returns-then-not-is_hyphen-clause-len : goal.returns-then-not-is_hyphen-clause-len
 returns-then-not-is_hyphen-clause-len g c =
@@ -92,6 +107,11 @@ rest-preserved g c =
       within = omega (arith, inside);
     }
 
-piece-none : (s : State) (j : Bool) (cs : List ℕ) → length cs ≡ 0 → 0 ≡ piece_len s j cs
-piece-none s j [] e = refl
-piece-none s j (c ∷ cs) e = absurd (omega arith)
+pub returns-clause-len : goal.returns-clause-len
+returns-clause-len g c =
+    let cs = g.C.Codes.codes c.args.codes in
+    let i = c.rest.i in
+    let none : piece_len (state_in c.rest.place) (is_hyphen (code_behind 0 i cs)) (drop i cs) ≡ 0 =
+    ap (piece_len (state_in c.rest.place) (is_hyphen (code_behind 0 i cs)))
+    (drop_all i cs (omega (arith, c.count-n.ensures, c.rest-test.false))) in
+    omega (arith, c.rest.invariant.walked.len, none)

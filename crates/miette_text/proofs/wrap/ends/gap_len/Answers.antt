@@ -1,4 +1,4 @@
-use Rattle.std.proofs.Common.{◌≡◌, ◌<◌, ◌∙◌, ap, arith, length, not, sym, true, false}
+use Rattle.std.proofs.Common.{◌<◌, ◌∙◌, arith, length, sym}
 use Rattle.miette_text.specs.rules.Wrapping.{is_space}
 use Rattle.miette_text.specs.steps.Ends.{gap_len}
 use Rattle.miette_text.proofs.Counts.{counted-all, counted-more, counted-stop, gaps}

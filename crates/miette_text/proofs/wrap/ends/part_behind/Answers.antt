@@ -1,6 +1,5 @@
-use Rattle.std.proofs.Common.{◌≡◌, ◌<◌, ◌+◌, ◌∙◌, ◌&&◌, Bool, ◌==◌, ap, arith, drop, length, nat_lt, sym}
+use Rattle.std.proofs.Common.{◌≡◌, ◌<◌, ◌+◌, ◌∙◌, ◌&&◌, ◌==◌, ap, arith, drop, length, nat_lt, sym}
 use Rattle.miette_runs.specs.rules.Cells.{width}
-use Rattle.miette_text.specs.declared.wrap.WordSeparator.{WordSeparator}
 use Rattle.miette_text.specs.rules.Wrapping.{is_alphanumeric}
 use Rattle.miette_text.specs.steps.Ends.{begins_word, part_len}
 use Rattle.miette_text.specs.views.Cutting.{word_cuts}

@@ -1,4 +1,4 @@
-use Rattle.std.proofs.Common.{◌≡◌, ◌<◌, ◌∙◌, ap, arith, length, not, sym, true, false}
+use Rattle.std.proofs.Common.{◌<◌, ◌∙◌, arith, length, sym}
 use Rattle.miette_text.specs.steps.Ends.{is_solid, solid_len}
 use Rattle.miette_text.proofs.Counts.{counted-all, counted-more, counted-stop, solids}
 use Rattle.miette_text.proofs.wrap.ends.solid_len.Goals as goal
