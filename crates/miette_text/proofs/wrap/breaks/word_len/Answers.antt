@@ -1,6 +1,7 @@
 use Rattle.std.proofs.Common.{◌≡◌, ◌∙◌, ◌+◌, ◌&&◌, ◌<◌, Bool, false, true, length, not, ap, ap₂, arith, sym}
-use Rattle.std.proofs.Common.{ℕ, List, [], ◌∷◌, drop, get_or, refl, take}
-use Rattle.std.proofs.lemmas.List.{drop_all, get_or_default}
+use Rattle.std.proofs.Common.{ℕ, List, [], ◌∷◌, ◌==◌, drop, get_or, refl, subst, take}
+use Rattle.std.proofs.lemmas.Bool.Decides.{nat_tests}
+use Rattle.std.proofs.lemmas.List.{drop_all, drop_more, get_or_default}
 use Rattle.std.proofs.Math.Bool.{and-false}
 use Rattle.std.specs.Option.{is_some}
 use Rattle.miette_line_breaks.specs.declared.state.State.{State}
@@ -9,7 +10,7 @@ use Rattle.miette_line_breaks.specs.views.Printable.{state_in}
 use Rattle.miette_text.specs.rules.Wrapping.{is_hyphen}
 use Rattle.miette_text.specs.steps.Ends.{code_behind}
 use Rattle.miette_text.specs.views.Breaks.{all_printed, piece_len, state_at}
-use Rattle.miette_text.proofs.BreakParts.{Walked, walked-next, walked-over, walked-rest}
+use Rattle.miette_text.proofs.BreakParts.{Walked, walked-first, walked-next, walked-over, walked-rest}
 use Rattle.miette_text.proofs.FirstRow.{behind-last}
 use Rattle.miette_text.proofs.PrintedRuns.{printable-printed, printed-next}
 use Rattle.miette_text.proofs.wrap.breaks.word_len.Goals as goal
@@ -27,6 +28,24 @@ returns-then-n-eq0 g c =
       state = refl;
       printed = λ h. refl;
       within = omega arith;
+    }
+
+pub rest-init : goal.rest-init
+rest-init g c =
+    let cs = g.C.Codes.codes c.args.codes in
+    let x = c.at-first.result in
+    let place = state_in c.in-Some.place in
+    let some : 0 < length cs = omega (arith, c.count-n.ensures, c.if-n-eq0.false) in
+    let is : x ≡ get_or cs 0 x = c.at-first.ensures ∙ get_or_default cs 0 0 x some in
+    let front : cs ≡ x ∷ drop 1 cs = drop_more cs 0 0 some ∙ ap (λ y. y ∷ drop 1 cs) (sym c.at-first.ensures) in
+    record {
+      walked = subst (λ xs. Walked c.args.start place 1 xs) (sym front)
+          (walked-first c.args.start place x (drop 1 cs) (sym c.in-Some.ensures.1));
+      printed = λ h.
+          let dash : (x == 45) ≡ false = grind (arith, nat_tests) in
+          printed-next 0 x cs is some refl (printable-printed x c.in-Some.ensures.0 dash);
+      some = omega arith;
+      within = omega (arith, some);
     }
 
 pub returns-then-not-is_hyphen-clause-len : goal.returns-then-not-is_hyphen-clause-len
