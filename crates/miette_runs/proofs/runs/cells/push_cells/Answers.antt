@@ -2,7 +2,7 @@ use Rattle.std.proofs.Common.{◌≡◌, ◌∙◌, ◌<◌, ◌≤◌, ◌++◌
 use Rattle.std.proofs.lemmas.List.{drop_all}
 use Rattle.miette_runs.specs.rules.Cells.{piece_text}
 use Rattle.miette_runs.specs.views.Interleaving.{cells_at, left_at}
-use Rattle.miette_runs.proofs.Weaving.{left-none, left-rest, left-step, text-none, text-rest, text-step}
+use Rattle.miette_runs.proofs.Weaving.{left-empty, left-none, left-rest, left-step, text-empty, text-none, text-rest, text-step}
 use Rattle.miette_runs.proofs.runs.cells.push_cells.Goals as goal
 
 pub returns-then-many-eq0-clause-text : goal.returns-then-many-eq0-clause-text
@@ -56,7 +56,7 @@ loop-n-preserved g c =
     let o = g.S.Canvas.written c.loop-n.out in
     record {
       printed =
-          text-step o (g.S.Canvas.written c.push_to-2.new.out) (g.S.Canvas.written c.push_sign.new.self)
+          text-step o (g.S.Canvas.written c.push_to-in-loop-n.new.out) (g.S.Canvas.written c.push_sign.new.self)
           p s n k cs ms m c.loop-n-test.true c.index-tags-n.is c.saturating_sub-gap.ensures l
           (c.in_ok-push_to-2.ensures ∙ ap (λ us. o ++ us) (c.front.ensures ∙ ap (take k) rest))
           c.in_ok-push_sign.ensures
@@ -72,7 +72,7 @@ returns-clause-text g c =
     let s = c.loop-n.start in
     let none : drop c.loop-n.n c.args.tags.now ≡ [] = drop_all c.loop-n.n c.args.tags.now (omega arith) in
     c.in_ok-push_to-3.ensures
-    ∙ ap (λ us. g.S.Canvas.written c.loop-n.out ++ us) (c.from-2.ensures ∙ sym (text-none c.loop-n.place (drop s cs))
+    ∙ ap (λ us. g.S.Canvas.written c.loop-n.out ++ us) (c.from.ensures ∙ sym (text-none c.loop-n.place (drop s cs))
     ∙ ap (λ vs. piece_text (cells_at c.loop-n.place (drop s cs) vs)) (sym none))
     ∙ c.loop-n.invariant.printed
 

@@ -7,5 +7,6 @@ range_from-requires c = λ _.
     IsCharBoundary-from_ascii c.args.self.text.now c.args.n c.args.self.ascii c.requires
 
 pub invariant_of-result : goal.invariant_of-result
-invariant_of-result c = subst IsAscii (sym c.range_from.ensures.value)
-    (IsAscii-drop c.args.self.text.now c.args.n c.args.self.ascii)
+invariant_of-result c = record {
+  ascii = subst IsAscii (sym c.range_from.ensures.value) (IsAscii-drop c.args.self.text.now c.args.n c.args.self.ascii);
+}

@@ -10,4 +10,4 @@ pub invariant_of-result : goal.invariant_of-result
 invariant_of-result c =
     let text = c.args.self.text.now in
     let cut : c.range.result.now ≡ take c.args.n text = search rules in
-    subst IsAscii (sym cut) (IsAscii-take text c.args.n c.args.self.ascii)
+    record { ascii = subst IsAscii (sym cut) (IsAscii-take text c.args.n c.args.self.ascii) }
