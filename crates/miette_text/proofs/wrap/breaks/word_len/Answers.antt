@@ -1,5 +1,5 @@
 use Rattle.std.proofs.Common.{◌≡◌, ◌∙◌, ◌+◌, ◌&&◌, ◌<◌, Bool, false, true, length, not, ap, ap₂, arith, sym}
-use Rattle.std.proofs.Common.{ℕ, List, [], ◌∷◌, ◌==◌, drop, get_or, refl, subst, take}
+use Rattle.std.proofs.Common.{ℕ, List, [], ◌∷◌, ◌==◌, drop, get_or, length-drop, refl, subst, take}
 use Rattle.std.proofs.lemmas.Bool.Decides.{nat_tests}
 use Rattle.std.proofs.lemmas.List.{drop_all, drop_more, get_or_default}
 use Rattle.std.proofs.Math.Bool.{and-false}
@@ -66,6 +66,7 @@ returns-in-Other g c =
     let cs = g.C.Codes.codes c.args.codes in
     let i = c.rest.i in
     let v = c.rest.invariant in
+    let inside : i < length cs = omega (arith, c.count-n.ensures, c.rest-test.true) in
     let n = c.rest_len-len-in-Other.result.0 in
     let j = c.is_hyphen-joined.result in
     let walked = walked-rest c.args.start (state_in c.rest.place) c.rest_len-len-in-Other.result.1 i n j cs v.walked
@@ -79,7 +80,13 @@ returns-in-Other g c =
       len = walked.0;
       state = walked.1;
       printed = λ printed. absurd (cc);
-      within = grind arith;
+      within = omega (
+        arith,
+        c.rest_len-len-in-Other.ensures.within,
+        ap length c.from.ensures,
+        length-drop i cs,
+        inside,
+      );
     }
 
 impossible : {A : Type 0} → false ≡ true → A

@@ -18,6 +18,13 @@ overflow_sub-behind g c =
     c.in_ok-letters.ensures.within c.if-letters-word.false in
     omega (arith, some.0)
 
+pub overflow_sub-letters : goal.overflow_sub-letters
+overflow_sub-letters g c =
+    let some = more-some (word_cuts UnicodeBreakProperties c.args.cuts) c.args.word c.in_ok-letters.letters.len
+    (g.C.Codes.codes c.args.codes) c.requires.fits.0 c.in_ok-letters.ensures.len
+    c.in_ok-letters.ensures.within c.if-letters-word.false in
+    omega (arith, some.0)
+
 pub returns-clause-is : goal.returns-clause-is
 returns-clause-is g c =
     let cuts = word_cuts UnicodeBreakProperties c.args.cuts in

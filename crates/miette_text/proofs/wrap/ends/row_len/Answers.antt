@@ -8,12 +8,12 @@ use Rattle.miette_text.proofs.wrap.ends.row_len.Goals as goal
 use Rattle.miette_text.proofs.wrap.ends.row_len.Goals.{else-end-gt0-via-then-end-gt0+else-room-wide}
 use Rattle.miette_text.proofs.wrap.ends.row_len.Goals.{else-end-gt0-via-else-end-gt0}
 
-pub part-part-requires-clause-fits : goal.part-part-requires-clause-fits
-part-part-requires-clause-fits g c = subst (λ xs. g.W.Words.fits c.rest.words xs) (sym c.from.ensures)
+pub part-requires-clause-fits : goal.part-requires-clause-fits
+part-requires-clause-fits g c = subst (λ xs. g.W.Words.fits c.rest.words xs) (sym c.from.ensures)
     c.rest.invariant.fits
 
-pub part-part-requires-clause-some : goal.part-part-requires-clause-some
-part-part-requires-clause-some g c = omega (
+pub part-requires-clause-some : goal.part-requires-clause-some
+part-requires-clause-some g c = omega (
   arith,
   ap length c.from.ensures,
   length-drop c.rest.end (g.C.Codes.codes c.args.codes),

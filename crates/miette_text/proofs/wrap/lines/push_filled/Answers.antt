@@ -27,8 +27,8 @@ front-requires g c = omega (
   c.rest.invariant.within,
 )
 
-pub push_rows-inside-requires : goal.push_rows-inside-requires
-push_rows-inside-requires g c =
+pub push_rows-requires : goal.push_rows-requires
+push_rows-requires g c =
     let cs = g.C.Codes.codes c.args.text.codes in
     omega (
       arith,

@@ -17,8 +17,8 @@ overflow_add-end g c = omega (
   c.count-all.ensures,
 )
 
-pub overflow_sub-dropped : goal.overflow_sub-dropped
-overflow_sub-dropped g c = omega (
+pub overflow_sub-all : goal.overflow_sub-all
+overflow_sub-all g c = omega (
   arith,
   c.bare_len-bare.ensures.within,
   ap length c.from-codes.ensures,

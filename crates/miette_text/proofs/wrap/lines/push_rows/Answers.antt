@@ -10,8 +10,8 @@ use Rattle.miette_text.proofs.Joining.{piece-printed}
 use Rattle.miette_text.specs.views.Cutting.{word_cuts}
 use Rattle.miette_text.proofs.wrap.lines.push_rows.Goals as goal
 
-pub row_len-n-requires : goal.row_len-n-requires
-row_len-n-requires g c = subst (λ xs. g.W.Words.fits c.rest.words xs) (sym c.from.ensures) c.rest.invariant.fits
+pub row_len-requires : goal.row_len-requires
+row_len-requires g c = subst (λ xs. g.W.Words.fits c.rest.words xs) (sym c.from.ensures) c.rest.invariant.fits
 
 pub overflow_add-end : goal.overflow_add-end
 overflow_add-end g c = omega (
@@ -32,8 +32,8 @@ front-requires g c = omega (
   c.rest.invariant.within,
 )
 
-pub push_row-more-requires : goal.push_row-more-requires
-push_row-more-requires g c =
+pub push_row-requires : goal.push_row-requires
+push_row-requires g c =
     let cs = g.C.Codes.codes c.args.line.codes in
     omega (
       arith,

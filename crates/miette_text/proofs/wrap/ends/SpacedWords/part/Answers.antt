@@ -6,8 +6,8 @@ use Rattle.miette_text.specs.views.Cutting.{word_cuts}
 use Rattle.miette_text.proofs.FirstRow.{behind-last, gap-columns, spaced-part, spaced-some}
 use Rattle.miette_text.proofs.wrap.ends.SpacedWords.part.Goals as goal
 
-pub overflow_add-before : goal.overflow_add-before
-overflow_add-before g c =
+pub overflow_add-letters : goal.overflow_add-letters
+overflow_add-letters g c =
     let codes = g.C.Codes.codes c.args.codes in
     let n = c.in_ok-letters.letters.len in
     omega (
@@ -19,8 +19,8 @@ overflow_add-before g c =
       length-drop n codes,
     )
 
-pub overflow_sub-before : goal.overflow_sub-before
-overflow_sub-before g c =
+pub overflow_sub-letters : goal.overflow_sub-letters
+overflow_sub-letters g c =
     let codes = g.C.Codes.codes c.args.codes in
     let n = c.in_ok-letters.letters.len in
     let some = spaced-some (word_cuts AsciiSpace c.args.cuts) c.args.self.before n c.gap_len-spaces.result codes
