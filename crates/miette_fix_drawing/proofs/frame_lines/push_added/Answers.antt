@@ -1,4 +1,4 @@
-use Rattle.std.proofs.Common.{◌-◌, ◌≡◌, ◌++◌, ◌∙◌, ap, ap₂}
+use Rattle.std.proofs.Common.{◌-◌, ◌++◌, ◌∙◌, ap, ap₂}
 use Rattle.miette_fix_rows.specs.rules.DiffFrames.{added_from, added_with}
 use Rattle.miette_fix_drawing.specs.views.ShownLines.{lines_of_segments}
 use Rattle.miette_fix_drawing.proofs.Framing.{added_more, texts_size}
