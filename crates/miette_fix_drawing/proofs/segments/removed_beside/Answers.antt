@@ -21,6 +21,7 @@ returns-clause-lines c =
     ∙ ap (λ o. option_map (removed_beside context at) (option_map other_of o)) (sym c.in-Some.is)
 
 pub returns-clause-readable : goal.returns-clause-readable
-returns-clause-readable c =
-    (omega (arith, c.in_ok-_end.ensures, ap (λ (it : ChangedLine). length it.text) c.in_ok-line.ensures),
-    subst AreApart (sym (ap (λ (it : ChangedLine). it.spans) c.in_ok-line.ensures)) c.requires)
+returns-clause-readable c = (
+  omega (arith, c.in_ok-_end.ensures, ap (λ (it : ChangedLine). length it.text) c.in_ok-line.ensures),
+  subst AreApart (sym (ap (λ (it : ChangedLine). it.spans) c.in_ok-line.ensures)) c.requires,
+)
