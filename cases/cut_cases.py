@@ -77,7 +77,7 @@ def case(number):
         labels = labels[: dice.randint(0, 2)] + [at_end(dice, data) for _ in range(dice.randint(1, 2))]
     report = {"message": "m", "source": source, "labels": labels}
     limit = dice.choice([1, 3, 4, 7, 8, 12, 16, 20, 40, 60, dice.randint(1, 200)])
-    tab, context = dice.choice([4, 4, 8, 3]), dice.choice([1, 1, 2])
+    tab, context = dice.choice([4, 4, 8, 3]), dice.choice([0, 1, 2] if ends else [1, 1, 2])
     cutting = ["--line-columns", str(limit)]
     if number >= COUNT + WITH_ENDS:
         cutting, limit = fitting(dice)

@@ -9,7 +9,7 @@ from itertools import groupby
 from typing import NamedTuple
 
 from fix_model import Edit, applied, by_offset, refusal
-from model import DOTS, Settings, Source, cut_stretches, places_of, printed
+from model import DOTS, LEAST, Settings, Source, cut_by, cut_stretches, places_of, printed, reach_of
 
 
 class Theme(NamedTuple):
@@ -159,6 +159,10 @@ class Side:
                 found.append((max(begin, line.start), min(end, line.end)))
         return found
 
+    def with_ends(self, number):
+        """A line, and the columns around which it is cut."""
+        return self.line(number), ends_of(self.line(number), self.parts(number))
+
 
 def sides_of(source, edits, theme):
     order, moved, inserted = by_offset(edits), 0, []
@@ -198,13 +202,22 @@ def look_alike(old, new):
 # ---- rows
 
 
-def laid_out(line, limit, ends, dots):
+def laid_out(line, cut, dots):
     """The stretches of cells that are shown, with none in place of those that dots stand for, and where a column is in
     the row."""
-    cut = cut_stretches(line, limit, ends, len(dots))
     if cut is None:
         return [line.cells], lambda column: column
     return [cells if is_shown else None for is_shown, cells in cut], places_of(line, cut, len(dots))
+
+
+def cut_beside(of, other, limit, dots):
+    """The stretches of a changed line that is cut, by the smaller reach of it and of the one that goes with it: each is a
+    line with its ends."""
+    line, ends = of
+    if limit is None or line.width <= max(limit, LEAST):
+        return None
+    reach = min(reach_of(it[0], limit, it[1], len(dots)) for it in [of, other] if it)
+    return cut_by(line, limit, reach, ends, len(dots))
 
 
 def text_of(stretches, parts, code, dots):
@@ -255,13 +268,16 @@ class Frame:
         return painted(self.theme.dots(), self.theme.linum)
 
     def unchanged(self, source, number):
-        stretches, _ = laid_out(source.lines[number], self.settings.line_columns, [], self.theme.dots())
+        line, dots = source.lines[number], self.theme.dots()
+        stretches, _ = laid_out(line, cut_stretches(line, self.settings.line_columns, [], len(dots)), dots)
         return self.head(number, self.theme.drawn("│")) + text_of(stretches, [], "", self.dots())
 
-    def changed(self, side, number, alike):
-        """The row of a removed or an added line, and that of its marks, where it has some."""
-        line, parts = side.line(number), side.parts(number)
-        stretches, place = laid_out(line, self.settings.line_columns, ends_of(line, parts), self.theme.dots())
+    def changed(self, side, number, other, alike):
+        """The row of a removed or an added line, and that of its marks, where it has some; told the ends of the line that
+        goes with it, if there is one."""
+        line, parts, dots = side.line(number), side.parts(number), self.theme.dots()
+        cut = cut_beside(side.with_ends(number), other, self.settings.line_columns, dots)
+        stretches, place = laid_out(line, cut, dots)
         text = text_of(stretches, parts, side.code, self.dots())
         rows = [self.head(number, painted(side.sign, side.code)) + text]
         marks = mark_row(line, parts, place, side) if alike else ""
@@ -273,12 +289,14 @@ def stretch_rows(frame, stretch, sides):
     old, new = sides
     removed, added = [], []
     for change in stretch:
-        pairs = zip(range(change.first, change.after), range(change.added, change.added_after))
+        pairs = list(zip(range(change.first, change.after), range(change.added, change.added_after)))
         alike = [(a, b) for a, b in pairs if look_alike((old.source, old.line(a)), (new.source, new.line(b)))]
+        others = {a: new.with_ends(b) for a, b in pairs}
         for number in range(change.first, change.after):
-            removed += frame.changed(old, number, number in [a for a, _ in alike])
+            removed += frame.changed(old, number, others.get(number), number in [a for a, _ in alike])
+        others = {b: old.with_ends(a) for a, b in pairs}
         for number in range(change.added, change.added_after):
-            added += frame.changed(new, number, number in [b for _, b in alike])
+            added += frame.changed(new, number, others.get(number), number in [b for _, b in alike])
     return removed + added
 
 

@@ -108,6 +108,38 @@ WORKED = [
    ╰────"""),
 ]
 
+TOTAL = "let total = first_value + retrun_value + third_value + last;\n"
+LETTERS = "aaaaaaaaaa bbbbbbbbbb cccccccccc dddddddddd\neeeeeeeeee ffffffffff gggggggggg hhhhhhhhhh\n"
+# the same, with lines that are cut where they have more columns than a limit
+CUT = [
+    ("the smaller reach of two", TOTAL, [(26, 6, "return_the_long")], 30, """
+   ╭─[f:1:27]
+ 1 - …lue + retrun_value…
+ 1 + …lue + return_the_long_value…
+   ╰────"""),
+    ("beside a line that fits", TOTAL, [(26, 34, "b;")], 30, """
+   ╭─[f:1:27]
+ 1 - …value + retrun_va…e + last;
+ 1 + let total = first_value + b;
+   ╰────"""),
+    ("two lines, each by its own pair", LETTERS, [(11, 10, "B"), (77, 10, "H" * 20)], 20, """
+   ╭─[f:1:12]
+ 1 - …aaa bbbbbbbbbb ccc…
+ 2 - …gggg hhhhhhhhhh
+ 1 + …aaa B ccc…
+ 2 + …gggg HHHHHH…HHHHHH
+   ╰────"""),
+    ("lines added in front of one", LETTERS, [(0, 22, "x\ny\naaaaaaaaaa bbbbb "), (77, 10, "H")], 20, """
+   ╭─[f:1:1]
+ 1 - aaaaaa…bbbbb ccccc…
+ 2 - …gggggggg hhhhhhhhhh
+ 1 + x
+ 2 + y
+ 3 + aaaaaa…bbbbb ccccc…
+ 4 + …gggggggg H
+   ╰────"""),
+]
+
 COLON = {
     "message": "m",
     "source": {"name": "f.py", "text": "def f(x):\n    if x\n        return 1\n"},
@@ -163,9 +195,9 @@ REPORTS = {
 
 def pictures():
     """Each worked picture's name, what was made by hand, and what the model gives."""
-    for name, text, edits, wanted in WORKED:
+    for name, text, edits, limit, wanted in [(*case[:3], None, case[3]) for case in WORKED] + CUT:
         made = [Edit(offset, length, new.encode()) for offset, length, new in edits]
-        rows = fix_rows(made, text.encode(), "f", Settings())
+        rows = fix_rows(made, text.encode(), "f", Settings(line_columns=limit))
         yield name, wanted, "".join("\n" + row for row in rows)
     for name, ((report, page), wanted) in REPORTS.items():
         yield name, wanted, "\n" + whole_picture(report, page)

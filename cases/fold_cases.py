@@ -74,7 +74,7 @@ def with_ends(number):
         if dice.random() < 0.8:
             label["label"] = dice.choice(TEXTS)
         report["labels"].insert(dice.randint(0, len(report["labels"])), label)
-    return report, context, limit
+    return report, dice.choice([0, context, context]), limit
 
 
 def with_more(number):

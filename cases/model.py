@@ -176,15 +176,16 @@ class Labels:
     """The labels of a report by offset, and their groups."""
 
     def __init__(self, source, given, settings):
-        self.source, self.context = source, settings.context
+        length = len(source.data)
+        asks = settings.end_labels and any(it["offset"] == length > 0 and it.get("context", 1) for it in given)
+        self.source, self.context = source, max(settings.context, 1) if asks else settings.context
         self.has_own = any("context" in it for it in given)
         common = max(self.context, 1) if self.has_own else self.context
         self.labels = [Label(it, source, common) for it in sorted(given, key=lambda it: it["offset"])]
-        length = len(source.data)
-        at_end = [it for it in self.labels if it.offset == length > 0]
-        if settings.end_labels and any(it.context for it in at_end):
-            for label in at_end:
-                label.move_to_end(length)
+        if asks:
+            for label in self.labels:
+                if label.offset == length:
+                    label.move_to_end(length)
 
     def groups(self):
         """Each group as the read that is shown, and the primary label of it."""
@@ -286,14 +287,24 @@ def cut_stretches(line, limit, ends, wide):
     reach of an end: the most columns by which the row is no wider than the limit. Without ends it is the first cells."""
     if limit is None or line.width <= max(limit, LEAST):
         return None
-    limit = max(limit, LEAST)
+    return cut_by(line, limit, reach_of(line, limit, ends, wide), ends, wide)
+
+
+def cut_by(line, limit, reach, ends, wide):
+    """The stretches of a line that is cut so many columns around its ends."""
     if not ends:
-        return parted(line, wide, lambda cell: cell.next_column + wide <= limit)
+        return parted(line, wide, lambda cell: cell.next_column + wide <= max(limit, LEAST))
+    return parted(line, wide, lambda it: any(it.column - reach <= end < it.next_column + reach for end in ends))
+
+
+def reach_of(line, limit, ends, wide):
+    """How many columns around its ends a line is shown: the most, up to the limit, that have room."""
+    limit = max(limit, LEAST)
     for reach in range(limit, -1, -1):
-        parts = parted(line, wide, lambda it: any(it.column - reach <= end < it.next_column + reach for end in ends))
-        if row_columns(parts, wide) <= limit:
-            break
-    return parts
+        near = parted(line, wide, lambda it: any(it.column - reach <= end < it.next_column + reach for end in ends))
+        if row_columns(near, wide) <= limit:
+            return reach
+    return 0
 
 
 def places_of(line, parts, wide):

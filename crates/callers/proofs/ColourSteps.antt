@@ -123,12 +123,13 @@ pub stateless_text : {H : Type 0} (h : H) (old : Handling H) (after : Option H) 
     → ((calls : List Call) → follows_of Plainly old calls → AnsweredBy answer calls)
     → follows Plainly after [] → all_read (diagnostics_of old.settings t) ≡ true
     → new ≡ before ++ encode_utf8_all (report_text whole_drawing old.settings t
-    (answers_by answer old.settings.layout.context_lines t)))
-    → new ≡ encode_utf8_all (report_text whole_drawing plain warning_tree (answers_by plain_pieces 1 warning_tree))
+    (answers_by answer old.settings.layout t)))
+    → new ≡ encode_utf8_all (report_text whole_drawing plain warning_tree
+    (answers_by plain_pieces plain.layout warning_tree))
 stateless_text h old after t before new p o q none law =
     law plain_pieces (λ calls may. subst (λ x. follows Plainly x calls) o may) (may-end after)
     (read old.settings t plain p q refl)
     ∙ ap (λ x. x ++ encode_utf8_all (report_text whole_drawing old.settings t
-    (answers_by plain_pieces old.settings.layout.context_lines t))) none
+    (answers_by plain_pieces old.settings.layout t))) none
     ∙ ap₂ (λ v w. encode_utf8_all (report_text whole_drawing v w
-    (answers_by plain_pieces v.layout.context_lines w))) p q
+    (answers_by plain_pieces v.layout w))) p q

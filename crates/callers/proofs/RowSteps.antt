@@ -42,14 +42,14 @@ plain_line : IsPlainLine context host
 unfolding ends_line pieces_from char_width
 plain_line = record { numbers = refl; alone = refl; whole = refl }
 
-printable : PrintsItself (group_settings plain (name_label ∷ [])) settings_file.bytes host
+printable : PrintsItself (group_settings plain settings_file (name_label ∷ [])) settings_file.bytes host
     → encode_utf8_all (printed_line (context.cells host)) ≡ line_bytes settings_file.bytes host
 unfolding ends_line
 printable itself = itself refl
 
 -- its bytes
 host_bytes : (number : PrintsNumber context host 2)
-    → PrintsItself (group_settings plain (name_label ∷ [])) settings_file.bytes host
+    → PrintsItself (group_settings plain settings_file (name_label ∷ [])) settings_file.bytes host
     → encode_utf8_all (print (runs_of_row number.row) ++ line_feed) ≡ host_row
 unfolding ends_line digits lib.Utf8.encode
 host_bytes number itself =
@@ -111,7 +111,7 @@ host_stands is_blank h t old new p q none appended both stand numbers itself =
     let rows : List (List Fragment) = source_rows plain (Some settings_file) (name_label ∷ []) source_unlisted in
     subst (StandsIn host_row) (sym whole)
     (subst (λ bytes. StandsIn bytes appended.text)
-    (host_bytes number (itself (group_settings plain (name_label ∷ [])) settings_file.bytes host))
+    (host_bytes number (itself (group_settings plain settings_file (name_label ∷ [])) settings_file.bytes host))
     (own.rows_stand [] _ refl refl row
     (subst (λ a. Contains (source_rows plain (Some settings_file) (name_label ∷ []) a ++ []) row)
     (sym (nothing_answered own.answers own.are))

@@ -9,7 +9,7 @@ use Rattle.miette_protocol.specs.views.Meaning.{Label}
 use Rattle.miette_cells.specs.rules.Widths.{width_of}
 use Rattle.miette_snippet_rules.specs.rules.Defaults.{default_layout}
 use Rattle.miette_snippet_rules.specs.rules.Settings.{SnippetSettings}
-use Rattle.miette_snippet_rules.specs.rules.SnippetLayout.{snippet_rows}
+use Rattle.miette_snippet_rules.specs.rules.SnippetLayout.{rows_of_labels}
 use Rattle.miette_style.specs.declared.theme.GraphicalTheme.{GraphicalTheme}
 use Rattle.miette_style.specs.rules.Themes.{theme_of}
 use Rattle.miette_text.specs.declared.wrap.WordSeparator.TheVariants.{AsciiSpace}
@@ -36,5 +36,5 @@ pub record AreSnippets (theme : GraphicalTheme) (source : Source) (labels : List
   pub answers : Answers
   pub none_fails : AlwaysReads answers
   pub rows : List Row
-  pub are : snippet_rows (usual_layout theme) source labels answers ≡ Some rows
+  pub are : rows_of_labels (usual_layout theme) source labels answers ≡ Some rows
   pub printed : text ≡ ended_text (printout_of [] ⊕ rows_tokens rows)

@@ -63,7 +63,8 @@ pub fn draw_blank(alloc: Global, report: &Report) -> Result<String, RenderError>
     ensures asked { IfOk result (λ text. IsAskedPlainly (string_bytes text)) }
     // so that is the text: by `stateless`
     ensures text { IfOk result (λ text. string_bytes text ≡ encode_utf8_all
-        (report_text whole_drawing plain warning_tree (answers_by plain_pieces 1 warning_tree))) }
+        (report_text whole_drawing plain warning_tree
+        (answers_by plain_pieces plain.layout warning_tree))) }
 {
     let mut text = String::new(alloc);
     let theme = GraphicalTheme::unicode_nocolor(alloc)?;

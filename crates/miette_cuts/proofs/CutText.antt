@@ -17,7 +17,8 @@ use Rattle.miette_cells.specs.rules.Cells.{Cell}
 use Rattle.miette_basics.proofs.Cases.{by_cases}
 use Rattle.miette_snippet_rules.specs.rules.Highlighting.{highlight_of}
 use Rattle.miette_snippet_rules.specs.rules.PrintedCells.{cells_width, cells_within, cells_beyond, line_runs}
-use Rattle.miette_snippet_rules.specs.rules.CutLines.{Stretch, agree, bytes_in, cut_line, cut_runs, cut_to, has_room}
+use Rattle.miette_snippet_rules.specs.rules.CutLines.{Stretch, agree, bytes_in, cut_by, cut_line, cut_line_by}
+use Rattle.miette_snippet_rules.specs.rules.CutLines.{cut_runs, cut_to, has_room}
 use Rattle.miette_snippet_rules.specs.rules.CutLines.{is_kept, is_near, limit_of, onto_stretches, passes_after}
 use Rattle.miette_snippet_rules.specs.rules.CutLines.{pieces_within, reach_of, shown_runs, stretches, with_short}
 use Rattle.miette_snippet_rules.proofs.RowTokens.{then, told-append}
@@ -191,6 +192,13 @@ cells_kept limit many (e ∷ es) cells =
     let near : Cell → Bool = is_near (reach_of limit many (e ∷ es) cells) (e ∷ es) in
     cells_joined many (stretches near false cells) ∙ cells_swept near false cells
 
+cells_kept_by : (limit many reach : ℕ) (es : List ℕ) (cells : List Cell)
+    → all_cells (cut_by limit many reach es cells) ≡ cells
+cells_kept_by limit many reach [] cells = cells_kept limit many [] cells
+cells_kept_by limit many reach (e ∷ es) cells =
+    let near : Cell → Bool = is_near reach (e ∷ es) in
+    cells_joined many (stretches near false cells) ∙ cells_swept near false cells
+
 runs_measured : (run : Run) (pieces : List Highlight) (before : ℕ) (ss : List Stretch)
     → cut_cells run pieces before (map measure ss) (all_cells ss) ≡ cut_runs run pieces before ss
 runs_measured run pieces before [] = refl
@@ -217,4 +225,15 @@ shown_made run many (Some limit) es cells pieces =
     ≡ shown_runs run (cut_line many (Some limit) es cells) pieces cells} (ltb most (cells_width 0 cells))
     (λ y. rw y (ap (λ xs. cut_cells run pieces 0 (map measure (cut_to most many es cells)) xs)
     (sym (cells_kept most many es cells)) ∙ runs_measured run pieces 0 (cut_to most many es cells)))
+    (λ n. rw n refl)
+
+pub shown_made_by : (run : Run) (many limit reach : ℕ) (es : List ℕ) (cells : List Cell) (pieces : List Highlight) →
+    made_runs run (option_map (map measure) (cut_line_by many limit reach es cells)) pieces cells
+    ≡ shown_runs run (cut_line_by many limit reach es cells) pieces cells
+shown_made_by run many limit reach es cells pieces =
+    let cut : List Stretch = cut_by (limit_of limit) many reach es cells in
+    by_cases {C = made_runs run (option_map (map measure) (cut_line_by many limit reach es cells)) pieces cells
+    ≡ shown_runs run (cut_line_by many limit reach es cells) pieces cells} (ltb (limit_of limit) (cells_width 0 cells))
+    (λ y. rw y (ap (λ xs. cut_cells run pieces 0 (map measure cut) xs)
+    (sym (cells_kept_by (limit_of limit) many reach es cells)) ∙ runs_measured run pieces 0 cut))
     (λ n. rw n refl)

@@ -9,7 +9,8 @@ use Rattle.std.specs.List.Sorted.{IsPermutation}
 use Rattle.miette_basics.proofs.Cases.{by_cases}
 use Rattle.miette_cells.specs.rules.Cells.{Cell}
 use Rattle.miette_snippet_rules.specs.rules.PrintedCells.{cells_width}
-use Rattle.miette_snippet_rules.specs.rules.CutLines.{Stretch, cut_at, cut_line, cut_to, has_room}
+use Rattle.miette_snippet_rules.specs.rules.CutLines.{Stretch, cut_at, cut_by, cut_line, cut_line_by, cut_to}
+use Rattle.miette_snippet_rules.specs.rules.CutLines.{has_room, reach_at}
 use Rattle.miette_snippet_rules.specs.rules.CutLines.{is_kept, is_near, is_within, largest, limit_of, onto_stretches}
 use Rattle.miette_snippet_rules.specs.rules.CutLines.{passes_after}
 use Rattle.miette_snippet_rules.specs.rules.CutLines.{reach_of, stretches, text_columns, with_short}
@@ -165,6 +166,18 @@ cut_by_room room limit many (e ∷ es) cells l d r =
     ap (λ n. cut_at n room.reach (e ∷ es) cells) d
     ∙ ap (λ n. cut_at many n (e ∷ es) cells) (r (omega arith))
 
+-- the reach of a line that has ends
+pub reach_some : (limit many : ℕ) (es : List ℕ) (cells : List Cell) → 0 < length es
+    → reach_at limit many es cells ≡ reach_of limit many es cells
+reach_some limit many [] cells some = absurd (omega (arith, some))
+reach_some limit many (e ∷ es) cells some = refl
+
+-- what is near in a room is what is shown by its reach
+pub near_cut : (room : Room) (es : List ℕ) (cells : List Cell)
+    → with_short room.dots (stretches (near_by room es) false cells) ≡ cut_by room.limit room.dots room.reach es cells
+near_cut room [] cells = refl
+near_cut room (e ∷ es) cells = refl
+
 -- ---- ends in another order
 
 stretches_alike : (near other : Cell → Bool) → ((cell : Cell) → near cell ≡ other cell) → (before : Bool)
@@ -205,6 +218,22 @@ cut_to_moved limit many (e ∷ es) (x ∷ moved) cells h =
     ap (λ n. cut_at many n (x ∷ moved) cells) (reach_moved limit many (e ∷ es) (x ∷ moved) cells h)
     ∙ cut_moved many (reach_of limit many (e ∷ es) cells) (e ∷ es) (x ∷ moved) cells h
 
+pub reach_at_moved : (limit many : ℕ) (es moved : List ℕ) (cells : List Cell) → IsPermutation es moved
+    → reach_at limit many moved cells ≡ reach_at limit many es cells
+reach_at_moved limit many [] moved cells h =
+    let none : moved ≡ [] = nil_from_length moved (length_permutation [] moved h) in
+    ap (λ xs. reach_at limit many xs cells) none
+reach_at_moved limit many (e ∷ es) [] cells h = absurd (omega (arith, length_permutation (e ∷ es) [] h))
+reach_at_moved limit many (e ∷ es) (x ∷ moved) cells h = reach_moved limit many (e ∷ es) (x ∷ moved) cells h
+
+pub cut_by_moved : (limit many reach : ℕ) (es moved : List ℕ) (cells : List Cell) → IsPermutation es moved
+    → cut_by limit many reach moved cells ≡ cut_by limit many reach es cells
+cut_by_moved limit many reach [] moved cells h =
+    let none : moved ≡ [] = nil_from_length moved (length_permutation [] moved h) in
+    ap (λ xs. cut_by limit many reach xs cells) none
+cut_by_moved limit many reach (e ∷ es) [] cells h = absurd (omega (arith, length_permutation (e ∷ es) [] h))
+cut_by_moved limit many reach (e ∷ es) (x ∷ moved) cells h = cut_moved many reach (e ∷ es) (x ∷ moved) cells h
+
 -- ---- whether a line is cut
 
 pub cut_is : (limit many most width : ℕ) (es : List ℕ) (cells : List Cell) (made : List MadeStretch) → width
@@ -222,3 +251,20 @@ cut_none limit many most width es cells w m le =
     let fits : ltb (limit_of limit) (cells_width 0 cells) ≡ false =
     le-ltb (limit_of limit) (cells_width 0 cells) (omega (arith, w, m, le)) in
     ap (λ b. option_map (map measure) (cond b (Some (cut_to (limit_of limit) many es cells)) None)) (sym fits)
+
+-- the same, by a reach that is given
+pub cut_by_is : (limit many reach most width : ℕ) (es : List ℕ) (cells : List Cell) (made : List MadeStretch) → width
+    ≡ cells_width 0 cells → most ≡ max 8 limit → most < width → made ≡ map measure (cut_by most many reach es cells) →
+    Some made ≡ option_map (map measure) (cut_line_by many limit reach es cells)
+cut_by_is limit many reach most width es cells made w m lt h =
+    let wider : ltb (limit_of limit) (cells_width 0 cells) ≡ true =
+    lt-ltb (limit_of limit) (cells_width 0 cells) (omega (arith, w, m, lt)) in
+    ap Some (h ∙ ap (λ n. map measure (cut_by n many reach es cells)) m)
+    ∙ ap (λ b. option_map (map measure) (cond b (Some (cut_by (limit_of limit) many reach es cells)) None)) (sym wider)
+
+pub cut_by_none : (limit many reach most width : ℕ) (es : List ℕ) (cells : List Cell) → width ≡ cells_width 0 cells
+    → most ≡ max 8 limit → width ≤ most → None ≡ option_map (map measure) (cut_line_by many limit reach es cells)
+cut_by_none limit many reach most width es cells w m le =
+    let fits : ltb (limit_of limit) (cells_width 0 cells) ≡ false =
+    le-ltb (limit_of limit) (cells_width 0 cells) (omega (arith, w, m, le)) in
+    ap (λ b. option_map (map measure) (cond b (Some (cut_by (limit_of limit) many reach es cells)) None)) (sym fits)

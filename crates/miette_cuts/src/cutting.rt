@@ -1,10 +1,10 @@
 //! Lines that are wider than the layout lets them be: into which stretches they are cut, and where their marks are in
 //! the row.
 
-ghost use Rattle.std.specs.Prelude.{◌≡◌, ◌+◌, ◌^◌, ◌<◌, List, Option, Some, map, length, IfOk};
+ghost use Rattle.std.specs.Prelude.{◌≡◌, ◌+◌, ◌^◌, ◌<◌, List, Option, Some, map, length, nat_lt, IfOk};
 ghost use Rattle.std.specs.Option.{option_map};
 ghost use Rattle.miette_snippet_rules.specs.rules.PrintedCells.{cells_width};
-ghost use Rattle.miette_snippet_rules.specs.rules.CutLines.{cut_line, shown_marks};
+ghost use Rattle.miette_snippet_rules.specs.rules.CutLines.{cut_line, cut_line_by, limit_of, reach_at, shown_marks};
 ghost use Rattle.miette_snippet_rules.specs.rules.CutLines.{Stretch as RuledStretch};
 ghost use Rattle.miette_cuts.specs.views.Cuts.{measure};
 ghost use Rattle.miette_snippet_rules.specs.views.MadeMarks.{mark_of};
@@ -12,8 +12,9 @@ ghost use Rattle.miette_cuts.specs.views.LineTexts.{text_cells};
 
 use crate::line_text::LineText;
 use crate::moving::row_marks;
+pub use crate::nearness::Room;
 use crate::passing::{Passage, pass_cells, pass_plain};
-use crate::reach::cut_around;
+use crate::reach::{cut_around, cut_in, room_for};
 use crate::stretch::Cut;
 use miette_cells::cells::Walk;
 use miette_snippet_rules::marks::Mark;
@@ -80,6 +81,68 @@ pub fn cut_at_ends(
         return Ok(None);
     };
     cut_within(alloc, text, ends, limit, dots)
+}
+
+/// Whether a line's text has more columns than a row may have of at most so many; a limit below 8 counts as 8.
+/// `AllocError` where a column is past the largest `usize`.
+pub fn is_wide(text: &LineText, limit: usize) -> Result<bool, AllocError>
+    requires { text.now.start + length text.now.bytes.now < 2 ^ 64 }
+    ensures { IfOk result (λ wide. wide ≡ nat_lt (limit_of limit) (cells_width 0 (text_cells text.now))) }
+{
+    let walk = Walk::new(text.bytes, text.start, text.tab);
+    let width = columns_of_line(walk)?;
+    let most = FEWEST.max(limit);
+    Ok(most < width)
+}
+
+/// How far around its ends a line's text is shown in a row of at most so many columns, with dots of so many: by as many
+/// as have room. A limit below 8 counts as 8. `AllocError` where memory is refused, or a column or a count is past the
+/// largest `usize`.
+pub fn reach_of_ends(
+    alloc: Global,
+    text: &LineText,
+    ends: &[usize],
+    limit: usize,
+    dots: usize,
+) -> Result<usize, AllocError>
+    requires { text.now.start + length text.now.bytes.now < 2 ^ 64 }
+    ensures { IfOk result (λ reach. reach ≡ reach_at (limit_of limit) dots ends.now (text_cells text.now)) }
+{
+    let walk = Walk::new(text.bytes, text.start, text.tab);
+    let most = FEWEST.max(limit);
+    let mut ascending = Vec::from_slice(alloc, ends)?;
+    ascending.sort_unstable();
+    let room = room_for(&walk, most, dots, &ascending)?;
+    Ok(room.reach)
+}
+
+/// The stretches of a line's text around its ends in a room, where it has more columns than the limit. `AllocError`
+/// where memory is refused, or a column or a count is past the largest `usize`.
+pub fn cut_in_room(
+    alloc: Global,
+    text: &LineText,
+    ends: &[usize],
+    room: &Room,
+) -> Result<Cut, AllocError>
+    requires { text.now.start + length text.now.bytes.now < 2 ^ 64 }
+    ensures { IfOk result (λ cut. option_map (λ made. made.items) cut ≡ option_map (map measure)
+        (cut_line_by room.now.dots room.now.limit room.now.reach ends.now (text_cells text.now))) }
+{
+    let walk = Walk::new(text.bytes, text.start, text.tab);
+    let width = columns_of_line(walk.copy())?;
+    let most = FEWEST.max(room.limit);
+    if width <= most {
+        return Ok(None);
+    }
+    let mut ascending = Vec::from_slice(alloc, ends)?;
+    ascending.sort_unstable();
+    let own = Room {
+        limit: most,
+        dots: room.dots,
+        reach: room.reach,
+    };
+    let made = cut_in(alloc, walk, &own, &ascending)?;
+    Ok(Some(made))
 }
 
 /// The marks of a line, by the columns of its row, with dots of so many columns. `AllocError` where memory is refused,

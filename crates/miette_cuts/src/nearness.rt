@@ -12,13 +12,13 @@ use std::marker::Model;
 
 /// What a line's cells are shown by.
 #[derive(Clone, Copy, Drop)]
-pub(crate) struct Room {
+pub struct Room {
     /// How many columns its row's text may have.
-    pub(crate) limit: usize,
+    pub limit: usize,
     /// How many of them the dots have that stand for what is left out.
-    pub(crate) dots: usize,
+    pub dots: usize,
     /// How many columns from an end its cells are shown.
-    pub(crate) reach: usize,
+    pub reach: usize,
 }
 
 /// The room of a line and its ends, which ascend. As far as columns ascend that are asked for, each end is passed once:

@@ -2,7 +2,7 @@
 
 ghost use Rattle.std.specs.Prelude.{◌≡◌, ◌-◌, ◌<◌, map, length, true, false, IfOk};
 ghost use Rattle.std.specs.List.Sorted.{IsNonDecreasing};
-ghost use Rattle.miette_snippet_rules.specs.rules.CutLines.{cut_to, reach_of, stretches, with_short};
+ghost use Rattle.miette_snippet_rules.specs.rules.CutLines.{cut_to, reach_at, reach_of, stretches, with_short};
 ghost use Rattle.miette_cuts.specs.views.Cuts.{measure};
 ghost use Rattle.miette_cuts.specs.steps.Cut.{made_with_short};
 ghost use Rattle.miette_cuts.specs.steps.Nearness.{near_by};
@@ -34,8 +34,8 @@ fn join_short(alloc: Global, stretches: &[Stretch], dots: usize) -> Result<Vec<S
     Ok(made)
 }
 
-// What is shown of a line with these ends, which ascend, in this room.
-fn cut_in(
+/// What is shown of a line with these ends, which ascend, in this room.
+pub(crate) fn cut_in(
     alloc: Global,
     walk: Walk<'_>,
     room: &Room,
@@ -83,19 +83,24 @@ fn reach_in(walk: &Walk<'_>, limit: usize, dots: usize, ends: &[usize]) -> Resul
     Ok(low)
 }
 
-// The room of a line with these ends, which ascend, and this limit.
-fn room_for(walk: &Walk<'_>, limit: usize, dots: usize, ends: &[usize]) -> Result<Room, AllocError>
+/// The room of a line with these ends, which ascend, and this limit.
+pub(crate) fn room_for(
+    walk: &Walk<'_>,
+    limit: usize,
+    dots: usize,
+    ends: &[usize],
+) -> Result<Room, AllocError>
     requires stands { StandFrom 0 walk.now }
     requires ascending { IsNonDecreasing ends.now }
     ensures limit { IfOk result (λ room. room.limit ≡ limit) }
     ensures dots { IfOk result (λ room. room.dots ≡ dots) }
-    ensures reach { IfOk result (λ room. 0 < length ends.now → room.reach ≡ reach_of limit dots ends.now walk.now) }
+    ensures reach { IfOk result (λ room. room.reach ≡ reach_at limit dots ends.now walk.now) }
 {
     if ends.is_empty() {
         return Ok(Room {
             limit,
             dots,
-            reach: 0,
+            reach: limit,
         });
     }
     let reach = reach_in(walk, limit, dots, ends)?;

@@ -6,14 +6,15 @@ use Rattle.std.specs.List.{AllByRecursion}
 use Rattle.std.proofs.Math.Seq.{drop-cons}
 use Rattle.std.proofs.lemmas.Grind.{flat_map-append}
 use Rattle.std.proofs.lemmas.List.{drop-drop, length-drop, nil_from_length, take_rest}
-use Rattle.miette_fix_rows.proofs.Texts.{texts_drop, texts_take}
+use Rattle.miette_fix_rows.proofs.Texts.{bytes_of-append, bytes_of_texts, texts_drop, texts_take}
 use Rattle.miette_page.specs.rules.Rows.{Row}
 use Rattle.miette_page.specs.views.Printouts.{Printout, ◌⊕◌}
 use Rattle.miette_page.specs.views.Tokens.{rows_tokens}
 use Rattle.miette_frames.proofs.TextRows.{rows_then}
 use Rattle.miette_fix_rows.specs.rules.Blocks.{bytes_of, line_texts}
-use Rattle.miette_fix_rows.specs.rules.Hunks.{Hunk}
-use Rattle.miette_fix_rows.specs.rules.DiffFrames.{DiffFrame, DiffLine, Standing, behind_hunk, changed_lines}
+use Rattle.miette_fix_rows.specs.rules.Hunks.{Change, Hunk, removed_lines}
+use Rattle.miette_fix_rows.specs.rules.DiffFrames.{DiffFrame, DiffLine, Standing, added_from, added_with}
+use Rattle.miette_fix_rows.specs.rules.DiffFrames.{behind_hunk, changed_lines, removed_from, removed_with}
 use Rattle.miette_fix_rows.specs.rules.DiffFrames.{first_place, frame_at, frames_from, is_near, kept_lines}
 use Rattle.miette_fix_rows.specs.rules.DiffFrames.{left_before, past_hunk, past_kept}
 use Rattle.miette_fix_rows.specs.rules.DiffRows.{DiffContext, largest, number_of, past, rows_of_line, rows_of_lines}
@@ -145,6 +146,12 @@ near_standing context behind at hunk more made next e h =
 
 -- ---- the ends of loops
 
+pub item_first : {A : Type 0} (xs : List A) (i : ℕ) (x : A) → i < length xs → x ≡ get_or xs i x
+    → drop i xs ≡ x ∷ drop (i + 1) xs
+item_first xs i x lt e =
+    let next : suc i ≡ i + 1 = omega arith in
+    drop-cons xs i x lt ∙ ap (λ y. y ∷ drop (suc i) xs) (sym e) ∙ ap (λ k. x ∷ drop k xs) next
+
 drop_none : {A : Type 0} (xs : List A) (i : ℕ) → length xs ≤ i → drop i xs ≡ []
 drop_none xs i le = nil_from_length (drop i xs) (omega (arith, length-drop i xs, le))
 
@@ -168,6 +175,58 @@ segments_pushed : (ss : List Segment) (s : Segment)
     → lines_of_segments (ss ++ s ∷ []) ≡ lines_of_segments ss ++ lines_of_segment s
 segments_pushed ss s =
     flat_map-append lines_of_segment ss (s ∷ []) ∙ ap (λ x. lines_of_segments ss ++ x) (append-nil (lines_of_segment s))
+
+-- the lines of changes, behind a segment more
+lines_more : (ss next : List Segment) (own : Segment) (lines more all : List DiffLine) → next ≡ ss ++ own ∷ []
+    → lines_of_segment own ≡ lines → lines_of_segments ss ++ (lines ++ more) ≡ all
+    → lines_of_segments next ++ more ≡ all
+lines_more ss next own lines more all put is h =
+    ap (λ x. lines_of_segments x ++ more) put ∙ ap (λ x. x ++ more) (segments_pushed ss own)
+    ∙ append_assoc (lines_of_segments ss) (lines_of_segment own) more
+    ∙ ap (λ x. lines_of_segments ss ++ (x ++ more)) is ∙ h
+
+-- how many bytes the lines of bytes have
+pub texts_size : (bs : List ℕ) (lines : List (List ℕ)) → line_texts bs ≡ lines → length bs ≡ bytes_of lines
+texts_size bs lines e = sym (bytes_of_texts bs) ∙ ap bytes_of e
+
+pub removed_more : (ss next : List Segment) (own : Segment) (cs : List Change) (i : ℕ) (change : Change)
+    (away behind : ℕ) (all : List DiffLine) → i < length cs → change ≡ get_or cs i change → next ≡ ss ++ own ∷ []
+    → lines_of_segment own ≡ removed_with away change.removed change.added → behind ≡ away + bytes_of change.added
+    → lines_of_segments ss ++ removed_from away (drop i cs) ≡ all
+    → lines_of_segments next ++ removed_from behind (drop (i + 1) cs) ≡ all
+removed_more ss next own cs i change away behind all lt at put is past h =
+    let lines : List DiffLine = removed_with away change.removed change.added in
+    lines_more ss next own lines (removed_from behind (drop (i + 1) cs)) all put is
+    (ap (λ n. lines_of_segments ss ++ (lines ++ removed_from n (drop (i + 1) cs))) past
+    ∙ ap (λ xs. lines_of_segments ss ++ removed_from away xs) (sym (item_first cs i change lt at)) ∙ h)
+
+pub added_more : (ss next : List Segment) (own : Segment) (cs : List Change) (i : ℕ) (change : Change)
+    (away behind : ℕ) (all : List DiffLine) → i < length cs → change ≡ get_or cs i change → next ≡ ss ++ own ∷ []
+    → lines_of_segment own ≡ added_with away change.added change.removed → behind ≡ away - bytes_of change.removed
+    → lines_of_segments ss ++ added_from away (drop i cs) ≡ all
+    → lines_of_segments next ++ added_from behind (drop (i + 1) cs) ≡ all
+added_more ss next own cs i change away behind all lt at put is past h =
+    let lines : List DiffLine = added_with away change.added change.removed in
+    lines_more ss next own lines (added_from behind (drop (i + 1) cs)) all put is
+    (ap (λ n. lines_of_segments ss ++ (lines ++ added_from n (drop (i + 1) cs))) past
+    ∙ ap (λ xs. lines_of_segments ss ++ added_from away xs) (sym (item_first cs i change lt at)) ∙ h)
+
+-- the bytes of the removed lines of changes, counted one by one
+pub bytes_more : (cs : List Change) (i size next all : ℕ) (change : Change) → i < length cs
+    → change ≡ get_or cs i change → next ≡ size + bytes_of change.removed
+    → size + bytes_of (removed_lines (drop i cs)) ≡ all → next + bytes_of (removed_lines (drop (i + 1) cs)) ≡ all
+bytes_more cs i size next all change lt at past h =
+    let rest : List (List ℕ) = removed_lines (drop (i + 1) cs) in
+    let items : bytes_of (removed_lines (drop i cs)) ≡ bytes_of (change.removed ++ rest) =
+    ap (λ xs. bytes_of (removed_lines xs)) (item_first cs i change lt at) in
+    omega (arith, past, h, items, bytes_of-append change.removed rest)
+
+pub bytes_end : (cs : List Change) (i size all : ℕ) → length cs ≤ i
+    → size + bytes_of (removed_lines (drop i cs)) ≡ all → size ≡ all
+bytes_end cs i size all le h =
+    let none : bytes_of (removed_lines (drop i cs)) ≡ 0 =
+    ap (λ xs. bytes_of (removed_lines xs)) (drop_none cs i le) in
+    omega (arith, h, none)
 
 pub largest_pushed : (at next : Standing) (ss : List Segment) (s : Segment) (m n : ℕ)
     → m ≡ largest at (lines_of_segments ss) → next ≡ past_lines at (lines_of_segments ss)
@@ -204,12 +263,6 @@ frame_made context behind at from hunk rest more place first made all last begin
     ∙ ap (framed (past_kept at (take (left_before context hunk) hunk.kept)) (first_place hunk.changes)) lines
 
 -- ---- the items of a loop
-
-pub item_first : {A : Type 0} (xs : List A) (i : ℕ) (x : A) → i < length xs → x ≡ get_or xs i x
-    → drop i xs ≡ x ∷ drop (i + 1) xs
-item_first xs i x lt e =
-    let next : suc i ≡ i + 1 = omega arith in
-    drop-cons xs i x lt ∙ ap (λ y. y ∷ drop (suc i) xs) (sym e) ∙ ap (λ k. x ∷ drop k xs) next
 
 pub all_more : (P : Hunk → Type 0) (xs ys : List Hunk) (x : Hunk) → xs ≡ x ∷ ys → AllByRecursion P xs
     → AllByRecursion P ys

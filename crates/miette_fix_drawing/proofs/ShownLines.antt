@@ -1,32 +1,39 @@
 -- Lines that are shown, one after the other.
-use Rattle.std.proofs.Common.{ℕ, ◌≡◌, List, [], ◌∷◌, ◌++◌, Option, Some, None, refl, sym, ap, ◌∙◌}
+use Rattle.std.proofs.Common.{ℕ, ◌≡◌, List, [], ◌∷◌, ◌++◌, Option, Some, None, option_map, refl, sym, ap, ◌∙◌}
 use Rattle.miette_page.specs.views.Printouts.{Printout, ◌⊕◌}
 use Rattle.miette_page.specs.views.Tokens.{rows_tokens}
 use Rattle.miette_frames.proofs.TextRows.{rows_then}
-use Rattle.miette_fix_rows.specs.rules.DiffFrames.{DiffLine, Standing, added_with, removed_with, removed, added}
+use Rattle.miette_fix_rows.specs.rules.DiffFrames.{DiffLine, OtherLine, Standing, added_with, other_line}
+use Rattle.miette_fix_rows.specs.rules.DiffFrames.{removed_with, removed, added}
 use Rattle.miette_fix_rows.specs.rules.DiffRows.{DiffContext, past, rows_of_line, rows_of_lines}
 use Rattle.miette_fix_drawing.specs.declared.segments.Kind.{Kind}
 use Rattle.miette_fix_drawing.specs.declared.segments.Kind.TheVariants.{Kept, Removed, Added}
 use Rattle.miette_fix_rows.specs.laws.Frames.{past_lines}
-use Rattle.miette_fix_drawing.specs.views.ShownLines.{line_by, lines_by, text_before}
+use Rattle.miette_fix_drawing.specs.views.ShownLines.{away_past, line_by, lines_by, text_before}
 
 -- the first of lines, which goes with the first of others
-pub first_shown : (kind : Kind) (text : List ℕ) (ls os more : List (List ℕ)) (other : Option (List ℕ))
-    → os ≡ text_before other more → (other ≡ None → more ≡ [])
-    → lines_by kind (text ∷ ls) os ≡ line_by kind text other ∷ lines_by kind ls more
-first_shown Kept text ls os more other e h = refl
-first_shown Removed text ls os more None e h =
-    ap (removed_with (text ∷ ls)) e ∙ ap (λ ms. removed text None ∷ removed_with ls ms) (sym (h refl))
-first_shown Removed text ls os more (Some other) e h = ap (removed_with (text ∷ ls)) e
-first_shown Added text ls os more None e h =
-    ap (added_with (text ∷ ls)) e ∙ ap (λ ms. added text None ∷ added_with ls ms) (sym (h refl))
-first_shown Added text ls os more (Some other) e h = ap (added_with (text ∷ ls)) e
+abbrev beside : ℕ → Option (List ℕ) → Option OtherLine
+beside n other = option_map (λ text. other_line text n) other
 
-pub shown_first : (kind : Kind) (text : List ℕ) (all ls os more : List (List ℕ)) (other : Option (List ℕ))
-    → all ≡ text ∷ ls → os ≡ text_before other more → (other ≡ None → more ≡ [])
-    → lines_by kind all os ≡ line_by kind text other ∷ lines_by kind ls more
-shown_first kind text all ls os more other k e h =
-    ap (λ ts. lines_by kind ts os) k ∙ first_shown kind text ls os more other e h
+pub first_shown : (kind : Kind) (n : ℕ) (text : List ℕ) (ls os more : List (List ℕ)) (other : Option (List ℕ))
+    → os ≡ text_before other more → (other ≡ None → more ≡ []) → lines_by kind n (text ∷ ls) os
+    ≡ line_by kind text (beside n other) ∷ lines_by kind (away_past kind n other) ls more
+first_shown Kept n text ls os more other e h = refl
+first_shown Removed n text ls os more None e h =
+    ap (removed_with n (text ∷ ls)) e ∙ ap (λ ms. removed text None ∷ removed_with n ls ms) (sym (h refl))
+first_shown Removed n text ls os more (Some other) e h = ap (removed_with n (text ∷ ls)) e
+first_shown Added n text ls os more None e h =
+    ap (added_with n (text ∷ ls)) e ∙ ap (λ ms. added text None ∷ added_with n ls ms) (sym (h refl))
+first_shown Added n text ls os more (Some other) e h = ap (added_with n (text ∷ ls)) e
+
+pub shown_first : (kind : Kind) (n next : ℕ) (text : List ℕ) (all ls os more : List (List ℕ))
+    (other : Option (List ℕ)) (shown : Option OtherLine) → all ≡ text ∷ ls → os ≡ text_before other more
+    → (other ≡ None → more ≡ []) → shown ≡ beside n other → next ≡ away_past kind n other →
+    lines_by kind n all os ≡ line_by kind text shown ∷ lines_by kind next ls more
+shown_first kind n next text all ls os more other shown k e h is behind =
+    ap (λ ts. lines_by kind n ts os) k ∙ first_shown kind n text ls os more other e h
+    ∙ ap (λ o. line_by kind text o ∷ lines_by kind (away_past kind n other) ls more) (sym is)
+    ∙ ap (λ m. line_by kind text shown ∷ lines_by kind m ls more) (sym behind)
 
 -- rows of lines, once those of the first are put
 pub rows_go_on : (c : DiffContext) (at next : Standing) (line : DiffLine) (all lines : List DiffLine) (p q r : Printout)

@@ -1,14 +1,17 @@
 //! The rows of a removed or an added line.
 
-ghost use Rattle.std.specs.Prelude.{◌≡◌, ◌+◌, ◌∷◌, [], ◌<◌, ◌^◌, length, IfOk, OnOk, option_copied};
+ghost use Rattle.std.specs.Prelude.{◌≡◌, ◌+◌, ◌∷◌, [], ◌<◌, ◌≤◌, ◌^◌, length, IfOk, IfSome, OnOk, option_copied};
 ghost use Rattle.std.specs.Option.{option_map};
 ghost use Rattle.miette_page.specs.views.Printouts.{◌⊕◌};
 ghost use Rattle.miette_page.specs.views.Tokens.{row_tokens, rows_tokens};
 ghost use Rattle.miette_snippet_rules.specs.views.SettingsView.{settings_of};
-ghost use Rattle.miette_fix_rows.specs.rules.DiffRows.{changed_rows, marks_row, sign_start, text_row};
+ghost use Rattle.miette_cuts.specs.views.LineTexts.{text_cells};
+ghost use Rattle.miette_fix_rows.specs.rules.DiffRows.{changed_rows, line_reach, marks_row, pair_reach, sign_start};
+ghost use Rattle.miette_fix_rows.specs.rules.DiffRows.{text_row};
+ghost use Rattle.miette_fix_rows.specs.rules.DiffTexts.{line_cells};
 ghost use Rattle.miette_fix_drawing.specs.steps.Ends.{line_cut};
 ghost use Rattle.miette_fix_drawing.specs.steps.Spans.{AreApart};
-ghost use Rattle.miette_fix_drawing.specs.views.ChangedLines.{changed_line_of};
+ghost use Rattle.miette_fix_drawing.specs.views.ChangedLines.{AreBothNear, IsNear, IsReadable, changed_line_of};
 
 use crate::changed_line::ChangedLine;
 use crate::digits::{Outcome, push_digits};
@@ -18,7 +21,7 @@ use crate::marks_row::{edit_marks, push_marks_row};
 use crate::printable::{changed_pieces, push_changed_text};
 use crate::spans::spans_from;
 use crate::texts::text_of;
-use miette_cuts::cutting::{cut_at_ends, marks_shown};
+use miette_cuts::cutting::{Room, cut_in_room, is_wide, marks_shown, reach_of_ends};
 use miette_cuts::dots::dots_in;
 use miette_cuts::line_text::LineText;
 use miette_cuts::stretch::Cut;
@@ -28,25 +31,81 @@ use miette_page::page::Page;
 use miette_snippet_rules::options::SnippetSettings;
 use std::alloc::AllocError;
 
-// How a line is cut around what edits delete or insert there.
-fn cut_of(settings: &SnippetSettings<'_>, line: &ChangedLine) -> Result<Cut, AllocError>
-    requires within { line.now.start + length line.now.text.now < 2 ^ 64 }
-    requires apart { AreApart line.now.spans.now }
-    ensures { IfOk result (λ cut. option_map (λ made. made.items) cut
-        ≡ line_cut (settings_of settings.now) (changed_line_of line.now)) }
+// The text of a changed line.
+fn text_in<'a>(settings: &SnippetSettings<'_>, line: &ChangedLine<'a>) -> LineText<'a>
+    ensures text { text_cells result ≡ line_cells (settings_of settings.now) line.now.start line.now.text.now }
+    ensures within { result.start + length result.bytes.now ≤ line.now.start + length line.now.text.now }
 {
-    let most = settings.layout.line_columns;
-    let Some(_limit) = most else {
-        return Ok(None);
-    };
-    let text = LineText {
+    LineText {
         start: line.start,
         bytes: text_of(line.text),
         tab: settings.layout.tab_width,
-    };
+    }
+}
+
+// How far around what edits delete or insert in a line it is shown within a limit.
+fn reach_of(
+    settings: &SnippetSettings<'_>,
+    line: &ChangedLine,
+    limit: usize,
+) -> Result<usize, AllocError>
+    requires within { line.now.start + length line.now.text.now < 2 ^ 64 }
+    requires apart { AreApart line.now.spans.now }
+    ensures { IfOk result (λ reach. reach ≡ line_reach (settings_of settings.now) limit (changed_line_of line.now)) }
+{
+    let text = text_in(settings, line);
     let ends = line_ends(settings, line)?;
-    let dots = dots_in(settings.theme);
-    cut_at_ends(settings.alloc, &text, &ends, most, dots)
+    reach_of_ends(settings.alloc, &text, &ends, limit, dots_in(settings.theme))
+}
+
+// How far a line and the one that goes with it are shown so: by the smaller reach.
+fn reach_of_pair(
+    settings: &SnippetSettings<'_>,
+    line: &ChangedLine,
+    other: &Option<ChangedLine>,
+    limit: usize,
+) -> Result<usize, AllocError>
+    requires within { line.now.start + length line.now.text.now < 2 ^ 64 }
+    requires apart { AreApart line.now.spans.now }
+    requires other { IfSome other.now IsReadable }
+    ensures { IfOk result (λ reach. reach ≡ pair_reach (settings_of settings.now) limit (changed_line_of line.now)
+        (option_map changed_line_of other.now)) }
+{
+    let own = reach_of(settings, line, limit)?;
+    match other {
+        Some(other) => Ok(own.min(reach_of(settings, other, limit)?)),
+        None => Ok(own),
+    }
+}
+
+// How a line is cut around what edits delete or insert there, beside the one that goes with it.
+fn cut_of(
+    settings: &SnippetSettings<'_>,
+    line: &ChangedLine,
+    other: &Option<ChangedLine>,
+) -> Result<Cut, AllocError>
+    requires within { line.now.start + length line.now.text.now < 2 ^ 64 }
+    requires apart { AreApart line.now.spans.now }
+    requires other { IfSome other.now IsReadable }
+    ensures { IfOk result (λ cut. option_map (λ made. made.items) cut ≡ line_cut (settings_of settings.now)
+        (changed_line_of line.now) (option_map changed_line_of other.now)) }
+{
+    let Some(limit) = settings.layout.line_columns else {
+        return Ok(None);
+    };
+    let text = text_in(settings, line);
+    let wide = is_wide(&text, limit)?;
+    if !wide {
+        return Ok(None);
+    }
+    let reach = reach_of_pair(settings, line, other, limit)?;
+    let ends = line_ends(settings, line)?;
+    let room = Room {
+        limit,
+        dots: dots_in(settings.theme),
+        reach,
+    };
+    cut_in_room(settings.alloc, &text, &ends, &room)
 }
 
 // What stands before a changed line's text: ` 12 - `.
@@ -66,20 +125,17 @@ fn push_text_row<O: Canvas>(
     page: &mut Page<O>,
     frame: &Frame,
     line: &ChangedLine,
+    other: &Option<ChangedLine>,
     cut: &Cut,
 ) -> Outcome
     requires within { line.now.start + length line.now.text.now < 2 ^ 64 }
     requires apart { AreApart line.now.spans.now }
-    requires cut { option_map (λ made. made.items) cut.now
-        ≡ line_cut (settings_of frame.now.settings) (changed_line_of line.now) }
+    requires cut { option_map (λ made. made.items) cut.now ≡ line_cut (settings_of frame.now.settings)
+        (changed_line_of line.now) (option_map changed_line_of other.now) }
     ensures { OnOk result (page.new ≡ page.old ⊕ rows_tokens (text_row (settings_of frame.now.settings)
-        frame.now.number_width (changed_line_of line.now) ∷ [])) }
+        frame.now.number_width (changed_line_of line.now) (option_map changed_line_of other.now) ∷ [])) }
 {
-    let text = LineText {
-        start: line.start,
-        bytes: text_of(line.text),
-        tab: frame.settings.layout.tab_width,
-    };
+    let text = text_in(&frame.settings, line);
     let pieces = changed_pieces(frame.settings.alloc, line.style, line.spans, &text)?;
     push_sign_start(page, frame, line)?;
     push_changed_text(page, &text, &pieces, cut, frame.settings.theme)?;
@@ -91,14 +147,15 @@ fn push_line_marks<O: Canvas>(
     page: &mut Page<O>,
     frame: &Frame,
     line: &ChangedLine,
+    other: &Option<ChangedLine>,
     cut: &Cut,
 ) -> Outcome
     requires within { line.now.start + length line.now.text.now < 2 ^ 64 }
     requires apart { AreApart line.now.spans.now }
-    requires cut { option_map (λ made. made.items) cut.now
-        ≡ line_cut (settings_of frame.now.settings) (changed_line_of line.now) }
+    requires cut { option_map (λ made. made.items) cut.now ≡ line_cut (settings_of frame.now.settings)
+        (changed_line_of line.now) (option_map changed_line_of other.now) }
     ensures { OnOk result (page.new ≡ page.old ⊕ rows_tokens (marks_row (settings_of frame.now.settings)
-        frame.now.number_width (changed_line_of line.now))) }
+        frame.now.number_width (changed_line_of line.now) (option_map changed_line_of other.now))) }
 {
     let marks = edit_marks(&frame.settings, line)?;
     let dots = dots_in(frame.settings.theme);
@@ -106,25 +163,58 @@ fn push_line_marks<O: Canvas>(
     push_marks_row(page, frame, line.sign, &shown)
 }
 
-// The rows of a changed line whose spans are those that may touch it.
+// The bytes of a line that goes with another.
+fn bytes_beside<'a>(other: &Option<ChangedLine<'a>>) -> Option<&'a [u8]>
+    ensures { option_copied result ≡ option_map (λ it. it.text) (option_map changed_line_of other.now) }
+{
+    match other {
+        Some(other) => Some(other.text),
+        None => None,
+    }
+}
+
+// The rows of a changed line whose spans are those that may touch it, and so of the one that goes with it.
 fn push_near_rows<O: Canvas>(
     page: &mut Page<O>,
     frame: &Frame,
     line: &ChangedLine,
-    other: Option<&[u8]>,
+    other: &Option<ChangedLine>,
 ) -> Outcome
     requires within { line.now.start + length line.now.text.now < 2 ^ 64 }
     requires apart { AreApart line.now.spans.now }
+    requires other { IfSome other.now IsReadable }
     ensures { OnOk result (page.new ≡ page.old ⊕ rows_tokens (changed_rows (settings_of frame.now.settings)
-        frame.now.number_width (changed_line_of line.now) (option_copied other.entry))) }
+        frame.now.number_width (changed_line_of line.now) (option_map changed_line_of other.now))) }
 {
-    let cut = cut_of(&frame.settings, line)?;
-    push_text_row(page, frame, line, &cut)?;
-    let alike = look_alike(&frame.settings, line.text, other)?;
+    let cut = cut_of(&frame.settings, line, other)?;
+    push_text_row(page, frame, line, other, &cut)?;
+    let alike = look_alike(&frame.settings, line.text, bytes_beside(other))?;
     if alike {
-        return push_line_marks(page, frame, line, &cut);
+        return push_line_marks(page, frame, line, other, &cut);
     }
     Ok(())
+}
+
+// A line with the spans alone that may touch it.
+fn near_line<'a>(line: &ChangedLine<'a>) -> ChangedLine<'a>
+    requires { AreApart line.now.spans.now }
+    ensures { IsNear line.now result }
+{
+    ChangedLine {
+        spans: spans_from(line.spans, line.start),
+        ..*line
+    }
+}
+
+// The same, if there is one.
+fn near_other<'a>(other: &Option<ChangedLine<'a>>) -> Option<ChangedLine<'a>>
+    requires { IfSome other.now (λ it. AreApart it.spans.now) }
+    ensures { AreBothNear other.now result }
+{
+    match other {
+        Some(other) => Some(near_line(other)),
+        None => None,
+    }
 }
 
 /// The rows of a changed line, with the one that goes with it. `AllocError` where memory is refused, or a number or a
@@ -133,16 +223,15 @@ pub(crate) fn push_changed_rows<O: Canvas>(
     page: &mut Page<O>,
     frame: &Frame,
     line: &ChangedLine,
-    other: Option<&[u8]>,
+    other: Option<ChangedLine>,
 ) -> Outcome
     requires apart { AreApart line.now.spans.now }
     requires within { line.now.start + length line.now.text.now < 2 ^ 64 }
+    requires other { IfSome other IsReadable }
     ensures { OnOk result (page.new ≡ page.old ⊕ rows_tokens (changed_rows (settings_of frame.now.settings)
-        frame.now.number_width (changed_line_of line.now) (option_copied other.entry))) }
+        frame.now.number_width (changed_line_of line.now) (option_map changed_line_of other.entry))) }
 {
-    let near = ChangedLine {
-        spans: spans_from(line.spans, line.start),
-        ..*line
-    };
-    push_near_rows(page, frame, &near, other)
+    let near = near_line(line);
+    let beside = near_other(&other);
+    push_near_rows(page, frame, &near, &beside)
 }

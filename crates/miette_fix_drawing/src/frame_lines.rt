@@ -1,11 +1,11 @@
 //! The lines of a frame.
 
 ghost use Rattle.std.specs.Prelude.{◌≡◌, ◌≤◌, ◌++◌, ℕ, List, drop, length, take, true, false, IfOk, OnOk};
-ghost use Rattle.std.specs.List.{flat_map};
 ghost use Rattle.miette_fix_rows.specs.rules.Blocks.{bytes_of, line_texts};
 ghost use Rattle.miette_fix_rows.specs.rules.DiffFrames.{Standing as RuledStanding};
-ghost use Rattle.miette_fix_rows.specs.rules.DiffFrames.{added_with, behind_hunk, changed_lines, frames_from, is_near};
-ghost use Rattle.miette_fix_rows.specs.rules.DiffFrames.{kept_lines, past_kept, removed_with};
+ghost use Rattle.miette_fix_rows.specs.rules.DiffFrames.{added_from, behind_hunk, changed_lines, frames_from, is_near};
+ghost use Rattle.miette_fix_rows.specs.rules.DiffFrames.{kept_lines, past_kept, removed_from};
+ghost use Rattle.miette_fix_rows.specs.rules.Hunks.{removed_lines};
 ghost use Rattle.miette_fix_rows.specs.rules.DiffRows.{largest};
 ghost use Rattle.miette_fix_rows.specs.laws.Frames.{past_lines};
 ghost use Rattle.miette_fix_drawing.specs.steps.Framing.{IsFar};
@@ -30,35 +30,55 @@ fn kept<'a>(lines: &'a [u8]) -> Segment<'a>
         kind: Kind::Kept,
         lines,
         others: &[],
+        away: 0,
     }
 }
 
 // Puts the removed lines of changes behind others.
 fn push_removed<'a>(list: &mut Vec<Segment<'a>>, changes: &'a [Change<'a>]) -> Outcome
     ensures { OnOk result (lines_of_segments list.new.items ≡ lines_of_segments list.old.items
-        ++ flat_map (λ change. removed_with change.removed change.added) changes.now) }
+        ++ removed_from 0 changes.now) }
 {
+    let mut away = 0;
     for change in changes {
+        let others = change.added();
         list.push(Segment {
             kind: Kind::Removed,
             lines: change.removed(),
-            others: change.added(),
+            others,
+            away,
         })?;
+        away = sum(away, others.len())?;
     }
     Ok(())
+}
+
+// How many bytes the removed lines of changes have.
+fn removed_bytes(changes: &[Change<'_>]) -> Result<usize, AllocError>
+    ensures { IfOk result (λ size. size ≡ bytes_of (removed_lines changes.now)) }
+{
+    let mut size = 0;
+    for change in changes {
+        size = sum(size, change.removed().len())?;
+    }
+    Ok(size)
 }
 
 // Puts the added lines of changes behind others.
 fn push_added<'a>(list: &mut Vec<Segment<'a>>, changes: &'a [Change<'a>]) -> Outcome
     ensures { OnOk result (lines_of_segments list.new.items ≡ lines_of_segments list.old.items
-        ++ flat_map (λ change. added_with change.added change.removed) changes.now) }
+        ++ added_from (bytes_of (removed_lines changes.now)) changes.now) }
 {
+    let mut away = removed_bytes(changes)?;
     for change in changes {
+        let others = change.removed();
         list.push(Segment {
             kind: Kind::Added,
             lines: change.added(),
-            others: change.removed(),
+            others,
+            away,
         })?;
+        away = away.saturating_sub(others.len());
     }
     Ok(())
 }

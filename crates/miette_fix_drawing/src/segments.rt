@@ -1,15 +1,19 @@
 //! Lines that stand one behind the other in a frame.
 
 ghost use Rattle.std.specs.Prelude.{◌≡◌, ◌<◌, length, max, option_copied, [], None, IfOk, IfSome, OnOk};
+ghost use Rattle.std.specs.Option.{option_map};
 ghost use Rattle.miette_page.specs.views.Printouts.{◌⊕◌};
 ghost use Rattle.miette_page.specs.views.Tokens.{rows_tokens};
 ghost use Rattle.miette_fix_rows.specs.rules.Blocks.{line_texts};
-ghost use Rattle.miette_fix_rows.specs.rules.DiffRows.{largest, number_of, past, rows_of_line, rows_of_lines};
+ghost use Rattle.miette_fix_rows.specs.rules.DiffRows.{added_beside, added_line, largest, number_of, past};
+ghost use Rattle.miette_fix_rows.specs.rules.DiffRows.{removed_beside, removed_line, rows_of_line, rows_of_lines};
+ghost use Rattle.miette_fix_rows.specs.rules.DiffFrames.{other_line};
+ghost use Rattle.miette_fix_drawing.specs.views.ChangedLines.{IsReadable, changed_line_of};
 ghost use Rattle.miette_fix_rows.specs.laws.Frames.{past_lines};
 ghost use Rattle.miette_fix_drawing.specs.steps.Spans.{AreApart};
 ghost use Rattle.miette_fix_drawing.specs.views.Contexts.{context_with};
 ghost use Rattle.miette_fix_drawing.specs.views.ShownLines.{Fits, line_of_shown, lines_of_segment, shown_before};
-ghost use Rattle.miette_fix_drawing.specs.views.ShownLines.{text_before};
+ghost use Rattle.miette_fix_drawing.specs.views.ShownLines.{away_behind, away_past, other_of, text_before};
 ghost use Rattle.miette_fix_drawing.specs.views.Standings.{standing_of};
 
 use crate::changed_line::ChangedLine;
@@ -41,15 +45,25 @@ pub(crate) enum Kind {
 pub(crate) struct ShownLine<'a> {
     pub(crate) kind: Kind,
     pub(crate) text: &'a [u8],
-    pub(crate) other: Option<&'a [u8]>,
+    pub(crate) other: Option<OtherText<'a>>,
 }
 
-/// Lines one behind the other, and those of which the first goes with the first, and so on.
+/// The line that goes with a changed one, and where it stands among the changes: an added one behind so many bytes of
+/// added lines, a removed one so many bytes in front of the end of the removed ones.
+#[derive(Clone, Copy)]
+pub(crate) struct OtherText<'a> {
+    pub(crate) text: &'a [u8],
+    pub(crate) away: usize,
+}
+
+/// Lines one behind the other, and those of which the first goes with the first, and so on, with where the first of
+/// these stands among the changes.
 #[derive(Clone, Copy)]
 pub(crate) struct Segment<'a> {
     pub(crate) kind: Kind,
     pub(crate) lines: &'a [u8],
     pub(crate) others: &'a [u8],
+    pub(crate) away: usize,
 }
 
 /// What the rows of a fix are drawn with.
@@ -75,16 +89,57 @@ fn next_line<'a>(bytes: &mut &'a [u8]) -> Option<&'a [u8]>
     Some(&all[..end])
 }
 
+// Where the next of the others stands, behind one of so many bytes.
+fn away_behind(kind: Kind, away: usize, size: usize) -> Result<usize, AllocError>
+    ensures { IfOk result (λ next. next ≡ away_behind kind away size) }
+{
+    match kind {
+        Kind::Kept => Ok(away),
+        Kind::Removed => sum(away, size),
+        Kind::Added => Ok(away.saturating_sub(size)),
+    }
+}
+
+// Where they stand behind one of them, if there is one.
+fn away_past(kind: Kind, away: usize, other: Option<&[u8]>) -> Result<usize, AllocError>
+    ensures { IfOk result (λ next. next ≡ away_past kind away (option_copied other.entry)) }
+{
+    match other {
+        Some(text) => away_behind(kind, away, text.len()),
+        None => Ok(away),
+    }
+}
+
+// A line that goes with another, and where it stands.
+fn other_text(other: Option<&[u8]>, away: usize) -> Option<OtherText<'_>>
+    ensures { option_map other_of result ≡ option_map (λ text. other_line text away) (option_copied other.entry) }
+{
+    match other {
+        Some(text) => Some(OtherText { text, away }),
+        None => None,
+    }
+}
+
 impl<'a> Segment<'a> {
-    /// Takes the first line off, if there is one.
-    pub(crate) fn next(&mut self) -> Option<ShownLine<'a>>
-        ensures lines { lines_of_segment self.old ≡ shown_before result (lines_of_segment self.new) }
-        ensures fewer { IfSome result (λ line. length self.new.lines.now < length self.old.lines.now) }
+    /// Takes the first line off, if there is one. `AllocError` where a count of bytes is past the largest `usize`.
+    pub(crate) fn next(&mut self) -> Result<Option<ShownLine<'a>>, AllocError>
+        ensures lines { IfOk result (λ line.
+            lines_of_segment self.old ≡ shown_before line (lines_of_segment self.new)) }
+        ensures fewer { IfOk result (λ line.
+            IfSome line (λ it. length self.new.lines.now < length self.old.lines.now)) }
     {
         let kind = self.kind;
-        let text = next_line(&mut self.lines)?;
+        let away = self.away;
+        let Some(text) = next_line(&mut self.lines) else {
+            return Ok(None);
+        };
         let other = next_line(&mut self.others);
-        Some(ShownLine { kind, text, other })
+        self.away = away_past(kind, away, other)?;
+        Ok(Some(ShownLine {
+            kind,
+            text,
+            other: other_text(other, away),
+        }))
     }
 }
 
@@ -115,6 +170,84 @@ fn number_of(at: &Standing, line: &ShownLine) -> Result<usize, AllocError>
     }
 }
 
+// A removed line that stands there.
+fn removed_line<'a>(
+    drawing: &DiffDrawing<'a>,
+    at: &Standing,
+    text: &'a [u8],
+) -> Result<ChangedLine<'a>, AllocError>
+    ensures { IfOk result (λ line. changed_line_of line
+        ≡ removed_line (context_with drawing.now) (standing_of at.now) text.now) }
+{
+    Ok(ChangedLine {
+        sign: '-',
+        style: drawing.frame.settings.theme.styles.error,
+        number: sum(at.old_line, 1)?,
+        start: at.old_offset,
+        text,
+        spans: drawing.deleted,
+    })
+}
+
+// An added line that stands there.
+fn added_line<'a>(
+    drawing: &DiffDrawing<'a>,
+    at: &Standing,
+    text: &'a [u8],
+) -> Result<ChangedLine<'a>, AllocError>
+    ensures { IfOk result (λ line. changed_line_of line
+        ≡ added_line (context_with drawing.now) (standing_of at.now) text.now) }
+{
+    Ok(ChangedLine {
+        sign: '+',
+        style: drawing.frame.settings.theme.styles.advice,
+        number: sum(at.new_line, 1)?,
+        start: at.new_offset,
+        text,
+        spans: drawing.inserted,
+    })
+}
+
+// The added line that goes with a removed one that stands there, if there is one.
+fn added_beside<'a>(
+    drawing: &DiffDrawing<'a>,
+    at: &Standing,
+    other: Option<OtherText<'a>>,
+) -> Result<Option<ChangedLine<'a>>, AllocError>
+    requires { AreApart drawing.now.inserted.now }
+    ensures lines { IfOk result (λ line. option_map changed_line_of line ≡ option_map
+        (added_beside (context_with drawing.now) (standing_of at.now)) (option_map other_of other.entry)) }
+    ensures readable { IfOk result (λ line. IfSome line IsReadable) }
+{
+    let Some(other) = other else {
+        return Ok(None);
+    };
+    let start = sum(at.new_offset, other.away)?;
+    let _end = sum(start, other.text.len())?;
+    let line = added_line(drawing, at, other.text)?;
+    Ok(Some(ChangedLine { start, ..line }))
+}
+
+// The removed line that goes with an added one that stands there, if there is one.
+fn removed_beside<'a>(
+    drawing: &DiffDrawing<'a>,
+    at: &Standing,
+    other: Option<OtherText<'a>>,
+) -> Result<Option<ChangedLine<'a>>, AllocError>
+    requires { AreApart drawing.now.deleted.now }
+    ensures lines { IfOk result (λ line. option_map changed_line_of line ≡ option_map
+        (removed_beside (context_with drawing.now) (standing_of at.now)) (option_map other_of other.entry)) }
+    ensures readable { IfOk result (λ line. IfSome line IsReadable) }
+{
+    let Some(other) = other else {
+        return Ok(None);
+    };
+    let start = at.old_offset.saturating_sub(other.away);
+    let _end = sum(start, other.text.len())?;
+    let line = removed_line(drawing, at, other.text)?;
+    Ok(Some(ChangedLine { start, ..line }))
+}
+
 // The rows of a line that is removed or added, where what is behind it stands so.
 fn push_changed_line<O: Canvas>(
     page: &mut Page<O>,
@@ -128,34 +261,17 @@ fn push_changed_line<O: Canvas>(
     ensures { OnOk result (page.new ≡ page.old ⊕ rows_tokens (rows_of_line (context_with drawing.now)
         (standing_of at.now) (line_of_shown line.now))) }
 {
-    let styles = &drawing.frame.settings.theme.styles;
-    let removed = ChangedLine {
-        sign: '-',
-        style: styles.error,
-        number: 0,
-        start: at.old_offset,
-        text: line.text,
-        spans: drawing.deleted,
-    };
-    let added = ChangedLine {
-        sign: '+',
-        style: styles.advice,
-        number: 0,
-        start: at.new_offset,
-        text: line.text,
-        spans: drawing.inserted,
-    };
     match line.kind {
         Kind::Kept => push_kept_row(page, &drawing.frame, at, line.text),
         Kind::Removed => {
-            let number = sum(at.old_line, 1)?;
-            let changed = ChangedLine { number, ..removed };
-            push_changed_rows(page, &drawing.frame, &changed, line.other)
+            let changed = removed_line(drawing, at, line.text)?;
+            let other = added_beside(drawing, at, line.other)?;
+            push_changed_rows(page, &drawing.frame, &changed, other)
         }
         Kind::Added => {
-            let number = sum(at.new_line, 1)?;
-            let changed = ChangedLine { number, ..added };
-            push_changed_rows(page, &drawing.frame, &changed, line.other)
+            let changed = added_line(drawing, at, line.text)?;
+            let other = removed_beside(drawing, at, line.other)?;
+            push_changed_rows(page, &drawing.frame, &changed, other)
         }
     }
 }
@@ -194,7 +310,7 @@ pub(crate) fn push_segment<O: Canvas>(
 {
     let mut at = *at;
     let mut left = *segment;
-    while let Some(line) = left.next() {
+    while let Some(line) = left.next()? {
         at = push_line(page, drawing, &at, &line)?;
     }
     Ok(at)
@@ -214,7 +330,7 @@ pub(crate) fn measured(
     let mut at = *at;
     let mut left = *segment;
     let mut most = least;
-    while let Some(line) = left.next() {
+    while let Some(line) = left.next()? {
         most = most.max(number_of(&at, &line)?);
         at = past(&at, &line)?;
     }

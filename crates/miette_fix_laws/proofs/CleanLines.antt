@@ -1,22 +1,23 @@
 -- Lines that hold no escape: those of clean bytes, what edits with clean texts make of them, and so all lines that are
 -- shown of a fix.
-use Rattle.std.proofs.Common.{ℕ, zero, suc, ◌-◌, Bool, true, false, ◌&&◌, List, [], ◌∷◌}
+use Rattle.std.proofs.Common.{ℕ, zero, suc, ◌+◌, ◌-◌, Bool, true, false, ◌&&◌, List, [], ◌∷◌}
 use Rattle.std.proofs.Common.{◌++◌, take, drop, length, refl}
 use Rattle.std.specs.Prelude.{nat_le, slice_index, slice_range}
-use Rattle.std.specs.List.{AllByRecursion, flat_map}
+use Rattle.std.specs.List.{AllByRecursion}
 use Rattle.miette_basics.proofs.Cases.{by_cases}
 use Rattle.miette_source_lines.specs.rules.Lines.{ends_line}
 use Rattle.miette_fixes.specs.rules.Applying.{by_offset, put_edit, text_from}
 use Rattle.miette_fixes.specs.rules.Edits.{Replacement, end_of, is_behind}
 use Rattle.miette_fix_rows.specs.rules.Blocks.{block_from, block_to, blocks, line_texts, new_lines, old_lines}
-use Rattle.miette_fix_rows.specs.rules.Blocks.{onto_blocks}
+use Rattle.miette_fix_rows.specs.rules.Blocks.{bytes_of, onto_blocks}
 use Rattle.miette_fix_rows.specs.rules.Blocks.{onto_line, text_between}
-use Rattle.miette_fix_rows.specs.rules.DiffFrames.{DiffFrame, DiffLine, Standing, added, added_with, behind_hunk}
+use Rattle.miette_fix_rows.specs.rules.DiffFrames.{DiffFrame, DiffLine, Standing, added, added_from, added_with}
+use Rattle.miette_fix_rows.specs.rules.DiffFrames.{behind_hunk, removed_from}
 use Rattle.miette_fix_rows.specs.rules.DiffFrames.{changed_lines, frame_at, frames_from, frames_of, is_near, kept}
 use Rattle.miette_fix_rows.specs.rules.DiffFrames.{kept_lines, left_before, past_hunk, removed, removed_with}
 use Rattle.miette_fix_rows.specs.rules.Hunks.{Change, Diff, Hunk, change_of, changes, changes_of, common_before}
 use Rattle.miette_fix_rows.specs.rules.Hunks.{common_behind, diff, diff_from, is_nil, onto_changes, onto_hunks}
-use Rattle.miette_fix_rows.specs.rules.Hunks.{onto_kept}
+use Rattle.miette_fix_rows.specs.rules.Hunks.{onto_kept, removed_lines}
 use Rattle.miette_row_laws.specs.laws.Clean.{IsClean, IsCleanCode}
 use Rattle.miette_row_laws.proofs.CleanTexts.{clean_append, clean_cons, clean_drop, clean_first, clean_range}
 use Rattle.miette_row_laws.proofs.CleanTexts.{clean_rest}
@@ -180,37 +181,33 @@ kept_clean : (lines : List (List ℕ)) → AreClean lines → AreCleanShown (kep
 kept_clean [] h = tt
 kept_clean (line ∷ lines) h = (h.0, kept_clean lines h.1)
 
-removed_clean : (lines others : List (List ℕ)) → AreClean lines → AreCleanShown (removed_with lines others)
-removed_clean [] others h = tt
-removed_clean (line ∷ lines) [] h = (h.0, removed_clean lines [] h.1)
-removed_clean (line ∷ lines) (other ∷ others) h = (h.0, removed_clean lines others h.1)
+removed_clean : (n : ℕ) (lines others : List (List ℕ)) → AreClean lines → AreCleanShown (removed_with n lines others)
+removed_clean n [] others h = tt
+removed_clean n (line ∷ lines) [] h = (h.0, removed_clean n lines [] h.1)
+removed_clean n (line ∷ lines) (other ∷ others) h = (h.0, removed_clean (n + length other) lines others h.1)
 
-added_clean : (lines others : List (List ℕ)) → AreClean lines → AreCleanShown (added_with lines others)
-added_clean [] others h = tt
-added_clean (line ∷ lines) [] h = (h.0, added_clean lines [] h.1)
-added_clean (line ∷ lines) (other ∷ others) h = (h.0, added_clean lines others h.1)
+added_clean : (n : ℕ) (lines others : List (List ℕ)) → AreClean lines → AreCleanShown (added_with n lines others)
+added_clean n [] others h = tt
+added_clean n (line ∷ lines) [] h = (h.0, added_clean n lines [] h.1)
+added_clean n (line ∷ lines) (other ∷ others) h = (h.0, added_clean (n - length other) lines others h.1)
 
-all_removed_clean : (cs : List Change) → AllByRecursion IsCleanChange cs
-    → AreCleanShown (flat_map (λ (change : Change). removed_with change.removed change.added) cs)
-all_removed_clean [] h = tt
-all_removed_clean (change ∷ cs) h =
-    all_append IsCleanShown (removed_with change.removed change.added)
-    (flat_map (λ (change : Change). removed_with change.removed change.added) cs)
-    (removed_clean change.removed change.added h.0.0) (all_removed_clean cs h.1)
+all_removed_clean : (n : ℕ) (cs : List Change) → AllByRecursion IsCleanChange cs → AreCleanShown (removed_from n cs)
+all_removed_clean n [] h = tt
+all_removed_clean n (c ∷ cs) h =
+    all_append IsCleanShown (removed_with n c.removed c.added) (removed_from (n + bytes_of c.added) cs)
+    (removed_clean n c.removed c.added h.0.0) (all_removed_clean (n + bytes_of c.added) cs h.1)
 
-all_added_clean : (cs : List Change) → AllByRecursion IsCleanChange cs
-    → AreCleanShown (flat_map (λ (change : Change). added_with change.added change.removed) cs)
-all_added_clean [] h = tt
-all_added_clean (change ∷ cs) h =
-    all_append IsCleanShown (added_with change.added change.removed)
-    (flat_map (λ (change : Change). added_with change.added change.removed) cs)
-    (added_clean change.added change.removed h.0.1) (all_added_clean cs h.1)
+all_added_clean : (n : ℕ) (cs : List Change) → AllByRecursion IsCleanChange cs → AreCleanShown (added_from n cs)
+all_added_clean n [] h = tt
+all_added_clean n (c ∷ cs) h =
+    all_append IsCleanShown (added_with n c.added c.removed) (added_from (n - bytes_of c.removed) cs)
+    (added_clean n c.added c.removed h.0.1) (all_added_clean (n - bytes_of c.removed) cs h.1)
 
 changed_clean : (cs : List Change) → AllByRecursion IsCleanChange cs → AreCleanShown (changed_lines cs)
 changed_clean cs h =
-    all_append IsCleanShown (flat_map (λ (change : Change). removed_with change.removed change.added) cs)
-    (flat_map (λ (change : Change). added_with change.added change.removed) cs) (all_removed_clean cs h)
-    (all_added_clean cs h)
+    let all : ℕ = bytes_of (removed_lines cs) in
+    all_append IsCleanShown (removed_from 0 cs) (added_from all cs) (all_removed_clean 0 cs h)
+    (all_added_clean all cs h)
 
 behind_clean : (context : ℕ) (behind : List (List ℕ)) (hunks : List Hunk) → AreClean behind
     → AllByRecursion IsCleanHunk hunks → AreCleanShown (behind_hunk context behind hunks)

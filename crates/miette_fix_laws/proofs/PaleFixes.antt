@@ -2,13 +2,15 @@
 use Rattle.std.proofs.Common.{◌≡◌, ℕ, ◌+◌, ◌-◌, Bool, true, false, if◌then◌else◌, List, [], ◌∷◌, ◌++◌, map, length}
 use Rattle.std.proofs.Common.{replicate, decimal, codes, Option, Some, None, IfSome, refl, sym, ap, ◌∙◌, subst}
 use Rattle.std.specs.List.{AllByRecursion, filter, prefix_len}
+use Rattle.std.specs.Option.{option_map}
 use Rattle.miette_cells.specs.rules.Cells.{Cell, characters}
 use Rattle.miette_fixes.specs.declared.error.FixError.{FixError}
 use Rattle.miette_fixes.specs.declared.error.FixError.TheVariants.{OutOfBounds, Overlap, Memory}
 use Rattle.miette_fixes.specs.rules.Applying.{by_offset, refusal}
 use Rattle.miette_fixes.specs.rules.Edits.{Replacement}
 use Rattle.miette_fix_rows.specs.rules.DiffFrames.{DiffFrame, DiffLine, Standing, added, frames_of, kept, removed}
-use Rattle.miette_fix_rows.specs.rules.DiffRows.{ChangedLine, added_line, before_some, changed_cut, changed_rows}
+use Rattle.miette_fix_rows.specs.rules.DiffRows.{ChangedLine, added_beside, added_line, before_some}
+use Rattle.miette_fix_rows.specs.rules.DiffRows.{changed_cut, changed_rows, cut_beside, pair_reach, removed_beside}
 use Rattle.miette_fix_rows.specs.rules.DiffRows.{context_of, error_name, fix_rows, frame_rows, frame_width, kept_row}
 use Rattle.miette_fix_rows.specs.rules.DiffRows.{marks_row, past, place_at, refused_row, removed_line, row_if_some}
 use Rattle.miette_fix_rows.specs.rules.DiffRows.{rows_of_frames, rows_of_line, rows_of_lines, rows_unless, sign_start}
@@ -36,7 +38,8 @@ use Rattle.miette_row_laws.specs.laws.Fading.{AreAllPlain, ArePlain, IsPlainRow,
 use Rattle.miette_row_laws.proofs.Bleaching.{filter_bleached, marks_bleached}
 use Rattle.miette_row_laws.proofs.CleanTexts.{AreCleanCells, clean_append, clean_cells, clean_characters, clean_cons}
 use Rattle.miette_row_laws.proofs.CleanTexts.{clean_copies, clean_decimal, clean_replicate, clean_take}
-use Rattle.miette_row_laws.proofs.CutFading.{IsCleanStretch, cut_clean, pale_dots, pale_shown, shown_bleached}
+use Rattle.miette_row_laws.proofs.CutFading.{IsCleanStretch, cut_clean, cut_line_by_clean, pale_dots}
+use Rattle.miette_row_laws.proofs.CutFading.{pale_shown, shown_bleached}
 use Rattle.miette_row_laws.proofs.PaleSnippets.{faded, pale_bottom, pale_number_start, pale_other_start, pale_top}
 use Rattle.miette_row_laws.proofs.PaleSnippets.{pale_unstyled}
 use Rattle.miette_row_laws.proofs.Paling.{PaleRow, PaleRows, all_append, bleached, bleached_mark, pale_append}
@@ -174,40 +177,63 @@ module _ (P : Type 0) where
         (pale_cons P (pale_styled P s.width line.style (line.sign ∷ []) (λ p. clean_cons line.sign [] h refl))
         (pale_cons P (pale_blank P s 1) (pale_nil P)))))
 
-    pale_text : (w : ℕ) (line : ChangedLine) → IsCleanCode line.sign → (P → IsClean line.text)
-        → PaleRow P (text_row (faded hs s) w (in_plain line)) (text_row s w line)
-    pale_text w line h k =
-        let cells = line_cells s line.start line.text in
-        pale_append P (sign_start (faded hs s) w (in_plain line)) (sign_start s w line)
-        (shown_runs (dots (faded hs s).theme) (changed_cut s line) (pieces plain line.spans cells) cells)
-        (shown_runs (dots s.theme) (changed_cut s line) (pieces line.style line.spans cells) cells)
-        (pale_start w line h)
-        (pale_pieces s.theme hs (changed_cut s line) (pieces plain line.spans cells)
-        (pieces line.style line.spans cells) cells
-        (painted_plain (painted line.spans cells)) (λ p. cells_clean s line.start line.text (k p))
-        (λ p. cut_clean (dots_in s.theme.characters) s.layout.line_columns
-        (line_ends s line.start line.text line.spans) cells (cells_clean s line.start line.text (k p))))
+    -- a line is cut the same, whatever its style and that of the one that goes with it
+    same_cut : (limit : Option ℕ) (line : ChangedLine) (other : Option ChangedLine)
+        → cut_beside (faded hs s) limit (in_plain line) (option_map in_plain other) ≡ cut_beside s limit line other
+    same_cut None line other = refl
+    same_cut (Some limit) line None = refl
+    same_cut (Some limit) line (Some other) = refl
 
-    pale_marks : (w : ℕ) (line : ChangedLine) → IsCleanCode line.sign
-        → PaleRows P (marks_row (faded hs s) w (in_plain line)) (marks_row s w line)
-    pale_marks w line h =
+    beside_clean : (limit : Option ℕ) (line : ChangedLine) (other : Option ChangedLine)
+        → AreCleanCells (line_cells s line.start line.text)
+        → IfSome (cut_beside s limit line other) (AllByRecursion IsCleanStretch)
+    beside_clean None line other h = tt
+    beside_clean (Some limit) line other h =
+        cut_line_by_clean (dots_in s.theme.characters) limit (pair_reach s limit line other)
+        (line_ends s line.start line.text line.spans) (line_cells s line.start line.text) h
+
+    pale_text : (w : ℕ) (line : ChangedLine) (other : Option ChangedLine) → IsCleanCode line.sign
+        → (P → IsClean line.text)
+        → PaleRow P (text_row (faded hs s) w (in_plain line) (option_map in_plain other)) (text_row s w line other)
+    pale_text w line other h k =
+        let cells = line_cells s line.start line.text in
+        let cut = changed_cut s line other in
+        let front = sign_start (faded hs s) w (in_plain line) in
+        subst (λ c. PaleRow P (front ++ shown_runs (dots (faded hs s).theme) c (pieces plain line.spans cells) cells)
+        (text_row s w line other)) (sym (same_cut s.layout.line_columns line other))
+        (pale_append P front (sign_start s w line)
+        (shown_runs (dots (faded hs s).theme) cut (pieces plain line.spans cells) cells)
+        (shown_runs (dots s.theme) cut (pieces line.style line.spans cells) cells)
+        (pale_start w line h)
+        (pale_pieces s.theme hs cut (pieces plain line.spans cells) (pieces line.style line.spans cells) cells
+        (painted_plain (painted line.spans cells)) (λ p. cells_clean s line.start line.text (k p))
+        (λ p. beside_clean s.layout.line_columns line other (cells_clean s line.start line.text (k p)))))
+
+    pale_marks : (w : ℕ) (line : ChangedLine) (other : Option ChangedLine) → IsCleanCode line.sign
+        → PaleRows P (marks_row (faded hs s) w (in_plain line) (option_map in_plain other)) (marks_row s w line other)
+    pale_marks w line other h =
         let many = dots_in s.theme.characters in
-        let cut = changed_cut s line in
+        let cut = changed_cut s line other in
         let own = edit_marks s line.start line.text line.style line.spans in
-        let same : shown_marks many cut (edit_marks s line.start line.text plain line.spans)
+        let bare_marks = edit_marks s line.start line.text plain line.spans in
+        let same : shown_marks many (changed_cut (faded hs s) (in_plain line) (option_map in_plain other)) bare_marks
         ≡ map bleached_mark (shown_marks many cut own) =
-        ap (shown_marks many cut) (edits_bleached s line.start line.text line.style line.spans)
+        ap (λ c. shown_marks many c bare_marks) (same_cut s.layout.line_columns line other)
+        ∙ ap (shown_marks many cut) (edits_bleached s line.start line.text line.style line.spans)
         ∙ shown_bleached many cut own in
         subst (λ ms. PaleRows P (before_some (other_start (faded hs s) w) (row_if_some (sign_runs s line.sign 0 ms)))
-        (marks_row s w line)) (sym same)
+        (marks_row s w line other)) (sym same)
         (pale_before s line.sign (other_start (faded hs s) w) (other_start s w) (shown_marks many cut own) h
         (pale_other_start P s hs bare clean w))
 
-    pale_changed : (w : ℕ) (line : ChangedLine) (other : Option (List ℕ)) → IsCleanCode line.sign
-        → (P → IsClean line.text)
-        → PaleRows P (changed_rows (faded hs s) w (in_plain line) other) (changed_rows s w line other)
-    pale_changed w line other h k =
-        rows_cons P (pale_text w line h k) (rows_if (look_alike s line.text other) (pale_marks w line h))
+    pale_changed : (w : ℕ) (line : ChangedLine) (other : Option ChangedLine) → IsCleanCode line.sign
+        → (P → IsClean line.text) →
+        PaleRows P (changed_rows (faded hs s) w (in_plain line) (option_map in_plain other))
+        (changed_rows s w line other)
+    pale_changed w line None h k = rows_cons P (pale_text w line None h k)
+        (rows_if (look_alike s line.text None) (pale_marks w line None h))
+    pale_changed w line (Some other) h k = rows_cons P (pale_text w line (Some other) h k)
+        (rows_if (look_alike s line.text (Some other.text)) (pale_marks w line (Some other) h))
 
     pale_kept : (w : ℕ) (at : Standing) (text : List ℕ) → (P → IsClean text)
         → PaleRow P (kept_row (faded hs s) w at text) (kept_row s w at text)
@@ -230,10 +256,16 @@ module _ (P : Type 0) where
           → PaleRows P (rows_of_line (context_of (faded hs s) edits frame) at line)
           (rows_of_line (context_of s edits frame) at line)
       pale_line at (kept text) h = rows_cons P (pale_kept (frame_width frame) at text (λ p. (h p).0)) (rows_nil P)
-      pale_line at (removed text other) h =
-          pale_changed (frame_width frame) (removed_line (context_of s edits frame) at text) other refl (λ p. (h p).0)
-      pale_line at (added text other) h =
-          pale_changed (frame_width frame) (added_line (context_of s edits frame) at text) other refl (λ p. (h p).0)
+      pale_line at (removed text None) h =
+          pale_changed (frame_width frame) (removed_line (context_of s edits frame) at text) None refl (λ p. (h p).0)
+      pale_line at (removed text (Some other)) h =
+          pale_changed (frame_width frame) (removed_line (context_of s edits frame) at text)
+          (Some (added_beside (context_of s edits frame) at other)) refl (λ p. (h p).0)
+      pale_line at (added text None) h =
+          pale_changed (frame_width frame) (added_line (context_of s edits frame) at text) None refl (λ p. (h p).0)
+      pale_line at (added text (Some other)) h =
+          pale_changed (frame_width frame) (added_line (context_of s edits frame) at text)
+          (Some (removed_beside (context_of s edits frame) at other)) refl (λ p. (h p).0)
 
       pale_lines : (at : Standing) (lines : List DiffLine) → (P → AreCleanShown lines)
           → PaleRows P (rows_of_lines (context_of (faded hs s) edits frame) at lines)

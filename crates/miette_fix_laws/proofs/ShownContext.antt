@@ -3,20 +3,21 @@ use Rattle.std.proofs.Common.{ℕ, zero, suc, ◌+◌, ◌-◌, ◌<◌, ◌≤�
 use Rattle.std.proofs.Common.{length, take, drop, max, inl, inr, ◌⊎◌, refl, sym, ap, ap₂, ◌∙◌, arith, append_assoc}
 use Rattle.std.proofs.Common.{append-nil}
 use Rattle.std.specs.Prelude.{◌||◌, nat_lt, slice_range}
-use Rattle.std.specs.List.{AllByRecursion, flat_map, list_any}
+use Rattle.std.specs.List.{AllByRecursion, list_any}
 use Rattle.std.proofs.lemmas.Bool.{cases_lt, le-ltb, leb-false, leb-true, lt-ltb}
 use Rattle.std.proofs.lemmas.List.{length-append, map-append, take-append-drop}
 use Rattle.miette_basics.proofs.Cases.{by_cases}
 use Rattle.miette_fixes.specs.rules.Edits.{Replacement}
 use Rattle.miette_fixes.specs.rules.Applying.{by_offset}
 use Rattle.miette_fix_rows.specs.laws.Frames.{all_lines, at_start, lines_with}
-use Rattle.miette_fix_rows.specs.rules.Blocks.{blocks, line_texts}
-use Rattle.miette_fix_rows.specs.rules.DiffFrames.{DiffFrame, DiffLine, Standing, added_with, behind_hunk}
+use Rattle.miette_fix_rows.specs.rules.Blocks.{blocks, bytes_of, line_texts}
+use Rattle.miette_fix_rows.specs.rules.DiffFrames.{DiffFrame, DiffLine, Standing, added_from, added_with}
+use Rattle.miette_fix_rows.specs.rules.DiffFrames.{behind_hunk, removed_from}
 use Rattle.miette_fix_rows.specs.rules.DiffFrames.{changed_lines, frame_at, frames_from, frames_of, is_near}
 use Rattle.miette_fix_rows.specs.rules.DiffFrames.{kept_lines, left_before}
 use Rattle.miette_fix_rows.specs.rules.DiffFrames.{past_hunk, removed_with, kept, removed, added}
 use Rattle.miette_fix_rows.specs.rules.Hunks.{Change, Diff, Hunk, change_of, changes, changes_of, diff, diff_from}
-use Rattle.miette_fix_rows.specs.rules.Hunks.{is_nil, onto_hunks, onto_kept}
+use Rattle.miette_fix_rows.specs.rules.Hunks.{is_nil, onto_hunks, onto_kept, removed_lines}
 use Rattle.miette_fix_laws.specs.laws.Context.{is_changed, lines_in, shown_behind, shown_lines}
 
 -- ---- how many lines are still shown behind a change
@@ -239,34 +240,32 @@ both_changed : (a b : List DiffLine) → AreChanged a → AreChanged b → AreCh
 both_changed [] b h k = k
 both_changed (c ∷ a) b h k = (h.0, both_changed a b h.1 k)
 
-removed_changed : (ls os : List (List ℕ)) → AreChanged (removed_with ls os)
-removed_changed [] os = tt
-removed_changed (l ∷ ls) [] = (refl, removed_changed ls [])
-removed_changed (l ∷ ls) (o ∷ os) = (refl, removed_changed ls os)
+removed_changed : (n : ℕ) (ls os : List (List ℕ)) → AreChanged (removed_with n ls os)
+removed_changed n [] os = tt
+removed_changed n (l ∷ ls) [] = (refl, removed_changed n ls [])
+removed_changed n (l ∷ ls) (o ∷ os) = (refl, removed_changed (n + length o) ls os)
 
-added_changed : (ls os : List (List ℕ)) → AreChanged (added_with ls os)
-added_changed [] os = tt
-added_changed (l ∷ ls) [] = (refl, added_changed ls [])
-added_changed (l ∷ ls) (o ∷ os) = (refl, added_changed ls os)
+added_changed : (n : ℕ) (ls os : List (List ℕ)) → AreChanged (added_with n ls os)
+added_changed n [] os = tt
+added_changed n (l ∷ ls) [] = (refl, added_changed n ls [])
+added_changed n (l ∷ ls) (o ∷ os) = (refl, added_changed (n - length o) ls os)
 
-abbrev gone : List Change → List DiffLine
-gone cs = flat_map (λ change. removed_with change.removed change.added) cs
+gone_changed : (n : ℕ) (cs : List Change) → AreChanged (removed_from n cs)
+gone_changed n [] = tt
+gone_changed n (c ∷ cs) =
+    both_changed (removed_with n c.removed c.added) (removed_from (n + bytes_of c.added) cs)
+    (removed_changed n c.removed c.added) (gone_changed (n + bytes_of c.added) cs)
 
-abbrev come : List Change → List DiffLine
-come cs = flat_map (λ change. added_with change.added change.removed) cs
-
-gone_changed : (cs : List Change) → AreChanged (gone cs)
-gone_changed [] = tt
-gone_changed (c ∷ cs) =
-    both_changed (removed_with c.removed c.added) (gone cs) (removed_changed c.removed c.added) (gone_changed cs)
-
-come_changed : (cs : List Change) → AreChanged (come cs)
-come_changed [] = tt
-come_changed (c ∷ cs) =
-    both_changed (added_with c.added c.removed) (come cs) (added_changed c.added c.removed) (come_changed cs)
+come_changed : (n : ℕ) (cs : List Change) → AreChanged (added_from n cs)
+come_changed n [] = tt
+come_changed n (c ∷ cs) =
+    both_changed (added_with n c.added c.removed) (added_from (n - bytes_of c.removed) cs)
+    (added_changed n c.added c.removed) (come_changed (n - bytes_of c.removed) cs)
 
 all_changed : (cs : List Change) → AreChanged (changed_lines cs)
-all_changed cs = both_changed (gone cs) (come cs) (gone_changed cs) (come_changed cs)
+all_changed cs =
+    let all : ℕ = bytes_of (removed_lines cs) in
+    both_changed (removed_from 0 cs) (added_from all cs) (gone_changed 0 cs) (come_changed all cs)
 
 -- ---- frames
 
@@ -362,15 +361,15 @@ all_shown context behind at (hunk ∷ hunks) h =
 abbrev HasLines : Change → Type 0
 HasLines change = (is_nil change.removed && is_nil change.added) ≡ false
 
-removed_many : (ls os : List (List ℕ)) → length (removed_with ls os) ≡ length ls
-removed_many [] os = refl
-removed_many (l ∷ ls) [] = ap suc (removed_many ls [])
-removed_many (l ∷ ls) (o ∷ os) = ap suc (removed_many ls os)
+removed_many : (n : ℕ) (ls os : List (List ℕ)) → length (removed_with n ls os) ≡ length ls
+removed_many n [] os = refl
+removed_many n (l ∷ ls) [] = ap suc (removed_many n ls [])
+removed_many n (l ∷ ls) (o ∷ os) = ap suc (removed_many (n + length o) ls os)
 
-added_many : (ls os : List (List ℕ)) → length (added_with ls os) ≡ length ls
-added_many [] os = refl
-added_many (l ∷ ls) [] = ap suc (added_many ls [])
-added_many (l ∷ ls) (o ∷ os) = ap suc (added_many ls os)
+added_many : (n : ℕ) (ls os : List (List ℕ)) → length (added_with n ls os) ≡ length ls
+added_many n [] os = refl
+added_many n (l ∷ ls) [] = ap suc (added_many n ls [])
+added_many n (l ∷ ls) (o ∷ os) = ap suc (added_many (n - length o) ls os)
 
 either_some : (ls ms : List (List ℕ)) → (is_nil ls && is_nil ms) ≡ false → 0 < length ls + length ms
 either_some [] [] h = absurd (cc)
@@ -380,19 +379,20 @@ either_some (l ∷ ls) ms h = omega arith
 one_changing : (change : Change) (more : List Change) (front : List (List ℕ)) → HasLines change
     → IsChanging (record { kept = front; changes = change ∷ more })
 one_changing change more front h =
-    let r : List DiffLine = removed_with change.removed change.added in
-    let a : List DiffLine = added_with change.added change.removed in
-    let all : length (changed_lines (change ∷ more))
-    ≡ length r + length (gone more) + (length a + length (come more)) =
-    length-append (r ++ gone more) (a ++ come more)
-    ∙ ap₂ (λ m n. m + n) (length-append r (gone more)) (length-append a (come more)) in
+    let whole : ℕ = bytes_of (removed_lines (change ∷ more)) in
+    let r : List DiffLine = removed_with 0 change.removed change.added in
+    let a : List DiffLine = added_with whole change.added change.removed in
+    let gone : List DiffLine = removed_from (0 + bytes_of change.added) more in
+    let come : List DiffLine = added_from (whole - bytes_of change.removed) more in
+    let all : length (changed_lines (change ∷ more)) ≡ length r + length gone + (length a + length come) =
+    length-append (r ++ gone) (a ++ come) ∙ ap₂ (λ m n. m + n) (length-append r gone) (length-append a come) in
     let some : 0 < length change.removed + length change.added = either_some change.removed change.added h in
     omega (
       arith,
       all,
       some,
-      removed_many change.removed change.added,
-      added_many change.added change.removed,
+      removed_many 0 change.removed change.added,
+      added_many whole change.added change.removed,
     )
 
 kept_changing : (lines : List (List ℕ)) (hunks : List Hunk) (behind : List (List ℕ)) → AllByRecursion IsChanging hunks

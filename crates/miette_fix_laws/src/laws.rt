@@ -1,11 +1,11 @@
 //! What holds of the rows of a fix, as laws of their definitions: of their colours, and of the lines that are shown.
 
-ghost use Rattle.std.specs.Prelude.{◌≡◌, ℕ, Bool, List, map};
+ghost use Rattle.std.specs.Prelude.{◌≡◌, ◌≤◌, ℕ, Bool, List, Some, map};
 ghost use Rattle.std.specs.List.{AllByRecursion};
 ghost use Rattle.miette_fix_laws.specs.laws.Context.{lines_in, shown_lines};
 ghost use Rattle.miette_fix_rows.specs.laws.Frames.{all_lines};
 ghost use Rattle.miette_fix_rows.specs.rules.DiffFrames.{frames_of};
-ghost use Rattle.miette_fix_rows.specs.rules.DiffRows.{fix_rows};
+ghost use Rattle.miette_fix_rows.specs.rules.DiffRows.{ChangedLine, fix_rows, line_reach, pair_reach};
 ghost use Rattle.miette_fix_rows.specs.rules.Hunks.{diff};
 ghost use Rattle.miette_fixes.specs.rules.Edits.{Replacement};
 ghost use Rattle.miette_page.specs.rules.Rows.{glyphs_of};
@@ -42,4 +42,12 @@ pub fn frames_show_the_context()
     ensures { (context : ℕ) (source : List ℕ) (edits : List Replacement) →
         lines_in (frames_of context (diff source edits))
         ≡ shown_lines context (all_lines (diff source edits)) }
+{}
+
+/// A changed line and the one that goes with it are cut by one reach, by which each of them has room.
+pub fn pairs_have_one_reach()
+    ensures same { (s : SnippetSettings) (limit : ℕ) (line other : ChangedLine) →
+        pair_reach s limit line (Some other) ≡ pair_reach s limit other (Some line) }
+    ensures room { (s : SnippetSettings) (limit : ℕ) (line other : ChangedLine) →
+        pair_reach s limit line (Some other) ≤ line_reach s limit line }
 {}

@@ -1,14 +1,15 @@
 -- The frames of a diff stand among its lines.
-use Rattle.std.proofs.Common.{ℕ, ◌+◌, ◌<◌, ◌≡◌, Bool, true, false, cond, List, [], ◌∷◌, ◌++◌, length, take, drop}
+use Rattle.std.proofs.Common.{ℕ, ◌+◌, ◌-◌, ◌<◌, ◌≡◌, Bool, true, false, cond, List, [], ◌∷◌, ◌++◌, length, take, drop}
 use Rattle.std.proofs.Common.{arith, refl, sym, ap, ◌∙◌, append_assoc, subst}
 use Rattle.std.specs.List.{flat_map}
 use Rattle.std.proofs.lemmas.Bool.{leb-false}
 use Rattle.std.proofs.lemmas.List.{length-drop, length-take-le, map-append, take-append-drop, take-take}
 use Rattle.miette_fix_rows.specs.laws.Frames.{StandAmong, all_lines, at_start, lines_with, new_texts, old_texts}
 use Rattle.miette_fix_rows.specs.laws.Frames.{past_lines}
-use Rattle.miette_fix_rows.specs.rules.DiffFrames.{DiffFrame, DiffLine, Standing, added_with, behind_hunk}
+use Rattle.miette_fix_rows.specs.rules.Blocks.{bytes_of}
+use Rattle.miette_fix_rows.specs.rules.DiffFrames.{DiffFrame, DiffLine, Standing, added_from, added_with, behind_hunk}
 use Rattle.miette_fix_rows.specs.rules.DiffFrames.{changed_lines, frame_at, frames_from, frames_of, is_near, kept_lines}
-use Rattle.miette_fix_rows.specs.rules.DiffFrames.{left_before, past_hunk, past_kept, removed_with}
+use Rattle.miette_fix_rows.specs.rules.DiffFrames.{left_before, past_hunk, past_kept, removed_from, removed_with}
 use Rattle.miette_fix_rows.specs.rules.Hunks.{Change, Diff, Hunk, added_lines, lines_after, lines_before, removed_lines}
 use Rattle.miette_fix_rows.proofs.Passing.{past_all_kept, past_append, past_first, past_whole_hunk}
 
@@ -18,41 +19,40 @@ old_kept : (ls : List (List ℕ)) (x : List DiffLine) → old_texts (kept_lines 
 old_kept [] x = refl
 old_kept (l ∷ ls) x = ap (λ t. l ∷ t) (old_kept ls x)
 
-old_removed : (ls os : List (List ℕ)) (x : List DiffLine) → old_texts (removed_with ls os ++ x) ≡ ls ++ old_texts x
-old_removed [] os x = refl
-old_removed (l ∷ ls) [] x = ap (λ t. l ∷ t) (old_removed ls [] x)
-old_removed (l ∷ ls) (o ∷ os) x = ap (λ t. l ∷ t) (old_removed ls os x)
+old_removed : (n : ℕ) (ls os : List (List ℕ)) (x : List DiffLine)
+    → old_texts (removed_with n ls os ++ x) ≡ ls ++ old_texts x
+old_removed n [] os x = refl
+old_removed n (l ∷ ls) [] x = ap (λ t. l ∷ t) (old_removed n ls [] x)
+old_removed n (l ∷ ls) (o ∷ os) x = ap (λ t. l ∷ t) (old_removed (n + length o) ls os x)
 
-old_added : (ls os : List (List ℕ)) (x : List DiffLine) → old_texts (added_with ls os ++ x) ≡ old_texts x
-old_added [] os x = refl
-old_added (l ∷ ls) [] x = old_added ls [] x
-old_added (l ∷ ls) (o ∷ os) x = old_added ls os x
+old_added : (n : ℕ) (ls os : List (List ℕ)) (x : List DiffLine)
+    → old_texts (added_with n ls os ++ x) ≡ old_texts x
+old_added n [] os x = refl
+old_added n (l ∷ ls) [] x = old_added n ls [] x
+old_added n (l ∷ ls) (o ∷ os) x = old_added (n - length o) ls os x
 
--- the lines that changes remove, and those that they add
-abbrev gone : List Change → List DiffLine
-gone cs = flat_map (λ change. removed_with change.removed change.added) cs
-
-abbrev come : List Change → List DiffLine
-come cs = flat_map (λ change. added_with change.added change.removed) cs
-
-old_gone : (cs : List Change) (x : List DiffLine) → old_texts (gone cs ++ x) ≡ removed_lines cs ++ old_texts x
-old_gone [] x = refl
-old_gone (c ∷ cs) x =
-    ap old_texts (append_assoc (removed_with c.removed c.added) (gone cs) x)
-    ∙ old_removed c.removed c.added (gone cs ++ x) ∙ ap (λ t. c.removed ++ t) (old_gone cs x)
+old_gone : (n : ℕ) (cs : List Change) (x : List DiffLine)
+    → old_texts (removed_from n cs ++ x) ≡ removed_lines cs ++ old_texts x
+old_gone n [] x = refl
+old_gone n (c ∷ cs) x =
+    let more : List DiffLine = removed_from (n + bytes_of c.added) cs in
+    ap old_texts (append_assoc (removed_with n c.removed c.added) more x)
+    ∙ old_removed n c.removed c.added (more ++ x) ∙ ap (λ t. c.removed ++ t) (old_gone (n + bytes_of c.added) cs x)
     ∙ sym (append_assoc c.removed (removed_lines cs) (old_texts x))
 
-old_come : (cs : List Change) (x : List DiffLine) → old_texts (come cs ++ x) ≡ old_texts x
-old_come [] x = refl
-old_come (c ∷ cs) x =
-    ap old_texts (append_assoc (added_with c.added c.removed) (come cs) x)
-    ∙ old_added c.added c.removed (come cs ++ x) ∙ old_come cs x
+old_come : (n : ℕ) (cs : List Change) (x : List DiffLine) → old_texts (added_from n cs ++ x) ≡ old_texts x
+old_come n [] x = refl
+old_come n (c ∷ cs) x =
+    let more : List DiffLine = added_from (n - bytes_of c.removed) cs in
+    ap old_texts (append_assoc (added_with n c.added c.removed) more x)
+    ∙ old_added n c.added c.removed (more ++ x) ∙ old_come (n - bytes_of c.removed) cs x
 
 old_changed : (cs : List Change) (x : List DiffLine)
     → old_texts (changed_lines cs ++ x) ≡ removed_lines cs ++ old_texts x
 old_changed cs x =
-    ap old_texts (append_assoc (gone cs) (come cs) x) ∙ old_gone cs (come cs ++ x)
-    ∙ ap (λ t. removed_lines cs ++ t) (old_come cs x)
+    let all : ℕ = bytes_of (removed_lines cs) in
+    ap old_texts (append_assoc (removed_from 0 cs) (added_from all cs) x) ∙ old_gone 0 cs (added_from all cs ++ x)
+    ∙ ap (λ t. removed_lines cs ++ t) (old_come all cs x)
 
 old_only_kept : (ls : List (List ℕ)) → old_texts (kept_lines ls) ≡ ls
 old_only_kept [] = refl
@@ -80,33 +80,40 @@ new_kept : (ls : List (List ℕ)) (x : List DiffLine) → new_texts (kept_lines 
 new_kept [] x = refl
 new_kept (l ∷ ls) x = ap (λ t. l ∷ t) (new_kept ls x)
 
-new_removed : (ls os : List (List ℕ)) (x : List DiffLine) → new_texts (removed_with ls os ++ x) ≡ new_texts x
-new_removed [] os x = refl
-new_removed (l ∷ ls) [] x = new_removed ls [] x
-new_removed (l ∷ ls) (o ∷ os) x = new_removed ls os x
+new_removed : (n : ℕ) (ls os : List (List ℕ)) (x : List DiffLine)
+    → new_texts (removed_with n ls os ++ x) ≡ new_texts x
+new_removed n [] os x = refl
+new_removed n (l ∷ ls) [] x = new_removed n ls [] x
+new_removed n (l ∷ ls) (o ∷ os) x = new_removed (n + length o) ls os x
 
-new_added : (ls os : List (List ℕ)) (x : List DiffLine) → new_texts (added_with ls os ++ x) ≡ ls ++ new_texts x
-new_added [] os x = refl
-new_added (l ∷ ls) [] x = ap (λ t. l ∷ t) (new_added ls [] x)
-new_added (l ∷ ls) (o ∷ os) x = ap (λ t. l ∷ t) (new_added ls os x)
+new_added : (n : ℕ) (ls os : List (List ℕ)) (x : List DiffLine)
+    → new_texts (added_with n ls os ++ x) ≡ ls ++ new_texts x
+new_added n [] os x = refl
+new_added n (l ∷ ls) [] x = ap (λ t. l ∷ t) (new_added n ls [] x)
+new_added n (l ∷ ls) (o ∷ os) x = ap (λ t. l ∷ t) (new_added (n - length o) ls os x)
 
-new_gone : (cs : List Change) (x : List DiffLine) → new_texts (gone cs ++ x) ≡ new_texts x
-new_gone [] x = refl
-new_gone (c ∷ cs) x =
-    ap new_texts (append_assoc (removed_with c.removed c.added) (gone cs) x)
-    ∙ new_removed c.removed c.added (gone cs ++ x) ∙ new_gone cs x
+new_gone : (n : ℕ) (cs : List Change) (x : List DiffLine) → new_texts (removed_from n cs ++ x) ≡ new_texts x
+new_gone n [] x = refl
+new_gone n (c ∷ cs) x =
+    let more : List DiffLine = removed_from (n + bytes_of c.added) cs in
+    ap new_texts (append_assoc (removed_with n c.removed c.added) more x)
+    ∙ new_removed n c.removed c.added (more ++ x) ∙ new_gone (n + bytes_of c.added) cs x
 
-new_come : (cs : List Change) (x : List DiffLine) → new_texts (come cs ++ x) ≡ added_lines cs ++ new_texts x
-new_come [] x = refl
-new_come (c ∷ cs) x =
-    ap new_texts (append_assoc (added_with c.added c.removed) (come cs) x)
-    ∙ new_added c.added c.removed (come cs ++ x) ∙ ap (λ t. c.added ++ t) (new_come cs x)
+new_come : (n : ℕ) (cs : List Change) (x : List DiffLine)
+    → new_texts (added_from n cs ++ x) ≡ added_lines cs ++ new_texts x
+new_come n [] x = refl
+new_come n (c ∷ cs) x =
+    let more : List DiffLine = added_from (n - bytes_of c.removed) cs in
+    ap new_texts (append_assoc (added_with n c.added c.removed) more x)
+    ∙ new_added n c.added c.removed (more ++ x) ∙ ap (λ t. c.added ++ t) (new_come (n - bytes_of c.removed) cs x)
     ∙ sym (append_assoc c.added (added_lines cs) (new_texts x))
 
 new_changed : (cs : List Change) (x : List DiffLine)
     → new_texts (changed_lines cs ++ x) ≡ added_lines cs ++ new_texts x
 new_changed cs x =
-    ap new_texts (append_assoc (gone cs) (come cs) x) ∙ new_gone cs (come cs ++ x) ∙ new_come cs x
+    let all : ℕ = bytes_of (removed_lines cs) in
+    ap new_texts (append_assoc (removed_from 0 cs) (added_from all cs) x) ∙ new_gone 0 cs (added_from all cs ++ x)
+    ∙ new_come all cs x
 
 new_only_kept : (ls : List (List ℕ)) → new_texts (kept_lines ls) ≡ ls
 new_only_kept [] = refl

@@ -1,13 +1,13 @@
 -- Past lines, one after the other.
-use Rattle.std.proofs.Common.{ℕ, ◌+◌, ◌≡◌, List, [], ◌∷◌, ◌++◌, length, take, drop, arith, length-append, Option}
+use Rattle.std.proofs.Common.{ℕ, ◌+◌, ◌-◌, ◌≡◌, List, [], ◌∷◌, ◌++◌, length, take, drop, arith, length-append, Option}
 use Rattle.std.proofs.Common.{refl, sym, ap, ◌∙◌, append_assoc}
-use Rattle.std.specs.List.{flat_map}
 use Rattle.std.proofs.lemmas.List.{map-append, take-append-drop}
 use Rattle.miette_fix_rows.specs.laws.Frames.{past_lines}
 use Rattle.miette_fix_rows.specs.rules.Blocks.{bytes_of}
 use Rattle.miette_fix_rows.specs.rules.Hunks.{Change, Hunk, added_lines, removed_lines}
-use Rattle.miette_fix_rows.specs.rules.DiffFrames.{DiffLine, Standing, added_with, changed_lines, kept_lines}
-use Rattle.miette_fix_rows.specs.rules.DiffFrames.{past_changes, past_hunk, past_kept, removed_with}
+use Rattle.miette_fix_rows.specs.rules.DiffFrames.{DiffLine, Standing, added_from, added_with, changed_lines}
+use Rattle.miette_fix_rows.specs.rules.DiffFrames.{kept_lines, other_line, past_changes, past_hunk, past_kept}
+use Rattle.miette_fix_rows.specs.rules.DiffFrames.{removed_from, removed_with}
 use Rattle.miette_fix_rows.specs.rules.DiffRows.{past}
 use Rattle.miette_fix_rows.proofs.Texts.{bytes_of-append}
 
@@ -40,54 +40,55 @@ past_removed at ls = record at { old_line = at.old_line + length ls; old_offset 
 abbrev past_added : Standing → List (List ℕ) → Standing
 past_added at ls = record at { new_line = at.new_line + length ls; new_offset = at.new_offset + bytes_of ls }
 
-removed_with_past : (at : Standing) (ls os : List (List ℕ)) → past_lines at (removed_with ls os) ≡ past_removed at ls
-removed_with_past at [] os = same_stand _ _ (omega arith) refl (omega arith) refl
-removed_with_past at (l ∷ ls) [] =
-    removed_with_past (past at (DiffLine.removed l Option.None)) ls []
+removed_with_past : (n : ℕ) (at : Standing) (ls os : List (List ℕ))
+    → past_lines at (removed_with n ls os) ≡ past_removed at ls
+removed_with_past n at [] os = same_stand _ _ (omega arith) refl (omega arith) refl
+removed_with_past n at (l ∷ ls) [] =
+    removed_with_past n (past at (DiffLine.removed l Option.None)) ls []
     ∙ same_stand _ _ (omega arith) refl (omega arith) refl
-removed_with_past at (l ∷ ls) (o ∷ os) =
-    removed_with_past (past at (DiffLine.removed l (Option.Some o))) ls os
+removed_with_past n at (l ∷ ls) (o ∷ os) =
+    removed_with_past (n + length o) (past at (DiffLine.removed l (Option.Some (other_line o n)))) ls os
     ∙ same_stand _ _ (omega arith) refl (omega arith) refl
 
-added_with_past : (at : Standing) (ls os : List (List ℕ)) → past_lines at (added_with ls os) ≡ past_added at ls
-added_with_past at [] os = same_stand _ _ refl (omega arith) refl (omega arith)
-added_with_past at (l ∷ ls) [] =
-    added_with_past (past at (DiffLine.added l Option.None)) ls []
+added_with_past : (n : ℕ) (at : Standing) (ls os : List (List ℕ))
+    → past_lines at (added_with n ls os) ≡ past_added at ls
+added_with_past n at [] os = same_stand _ _ refl (omega arith) refl (omega arith)
+added_with_past n at (l ∷ ls) [] =
+    added_with_past n (past at (DiffLine.added l Option.None)) ls []
     ∙ same_stand _ _ refl (omega arith) refl (omega arith)
-added_with_past at (l ∷ ls) (o ∷ os) =
-    added_with_past (past at (DiffLine.added l (Option.Some o))) ls os
+added_with_past n at (l ∷ ls) (o ∷ os) =
+    added_with_past (n - length o) (past at (DiffLine.added l (Option.Some (other_line o n)))) ls os
     ∙ same_stand _ _ refl (omega arith) refl (omega arith)
 
-all_removed : (at : Standing) (cs : List Change)
-    → past_lines at (flat_map (λ change. removed_with change.removed change.added) cs) ≡ past_removed at
-    (removed_lines cs)
-all_removed at [] = same_stand _ _ (omega arith) refl (omega arith) refl
-all_removed at (c ∷ cs) =
-    let more : List DiffLine = flat_map (λ change. removed_with change.removed change.added) cs in
-    past_append at (removed_with c.removed c.added) more
-    ∙ ap (λ s. past_lines s more) (removed_with_past at c.removed c.added)
-    ∙ all_removed (past_removed at c.removed) cs
+all_removed : (n : ℕ) (at : Standing) (cs : List Change)
+    → past_lines at (removed_from n cs) ≡ past_removed at (removed_lines cs)
+all_removed n at [] = same_stand _ _ (omega arith) refl (omega arith) refl
+all_removed n at (c ∷ cs) =
+    let more : List DiffLine = removed_from (n + bytes_of c.added) cs in
+    past_append at (removed_with n c.removed c.added) more
+    ∙ ap (λ s. past_lines s more) (removed_with_past n at c.removed c.added)
+    ∙ all_removed (n + bytes_of c.added) (past_removed at c.removed) cs
     ∙ same_stand _ _ (omega (arith, length-append c.removed (removed_lines cs))) refl
     (omega (arith, bytes_of-append c.removed (removed_lines cs))) refl
 
-all_added : (at : Standing) (cs : List Change)
-    → past_lines at (flat_map (λ change. added_with change.added change.removed) cs) ≡ past_added at (added_lines cs)
-all_added at [] = same_stand _ _ refl (omega arith) refl (omega arith)
-all_added at (c ∷ cs) =
-    let more : List DiffLine = flat_map (λ change. added_with change.added change.removed) cs in
-    past_append at (added_with c.added c.removed) more
-    ∙ ap (λ s. past_lines s more) (added_with_past at c.added c.removed)
-    ∙ all_added (past_added at c.added) cs
+all_added : (n : ℕ) (at : Standing) (cs : List Change)
+    → past_lines at (added_from n cs) ≡ past_added at (added_lines cs)
+all_added n at [] = same_stand _ _ refl (omega arith) refl (omega arith)
+all_added n at (c ∷ cs) =
+    let more : List DiffLine = added_from (n - bytes_of c.removed) cs in
+    past_append at (added_with n c.added c.removed) more
+    ∙ ap (λ s. past_lines s more) (added_with_past n at c.added c.removed)
+    ∙ all_added (n - bytes_of c.removed) (past_added at c.added) cs
     ∙ same_stand _ _ refl (omega (arith, length-append c.added (added_lines cs))) refl
     (omega (arith, bytes_of-append c.added (added_lines cs)))
 
 pub past_all_changed : (at : Standing) (cs : List Change) → past_lines at (changed_lines cs) ≡ past_changes at cs
 past_all_changed at cs =
-    let gone : List DiffLine = flat_map (λ change. removed_with change.removed change.added) cs in
-    let come : List DiffLine = flat_map (λ change. added_with change.added change.removed) cs in
+    let gone : List DiffLine = removed_from 0 cs in
+    let come : List DiffLine = added_from (bytes_of (removed_lines cs)) cs in
     let parts : changed_lines cs ≡ gone ++ come = refl in
-    ap (past_lines at) parts ∙ past_append at gone come ∙ ap (λ s. past_lines s come) (all_removed at cs)
-    ∙ all_added (past_removed at (removed_lines cs)) cs
+    ap (past_lines at) parts ∙ past_append at gone come ∙ ap (λ s. past_lines s come) (all_removed 0 at cs)
+    ∙ all_added (bytes_of (removed_lines cs)) (past_removed at (removed_lines cs)) cs
 
 pub past_whole_hunk : (at : Standing) (hunk : Hunk)
     → past_lines at (kept_lines hunk.kept ++ changed_lines hunk.changes) ≡ past_hunk at hunk

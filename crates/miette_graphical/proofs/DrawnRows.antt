@@ -14,9 +14,11 @@ use Rattle.miette_snippet_rules.specs.rules.Settings as snippets
 use Rattle.miette_snippet_rules.specs.rules.Frames.{refused_row}
 use Rattle.miette_labels.specs.rules.Around.{group_context}
 use Rattle.miette_labels.specs.rules.Groups.{refusal, groups_of, in_order}
-use Rattle.miette_snippet_rules.specs.rules.Highlighting.{SnippetsHavePieces, group_calls, snippet_calls}
+use Rattle.miette_snippet_rules.specs.rules.Highlighting.{SnippetsHavePieces, calls_of_labels, group_calls}
+use Rattle.miette_snippet_rules.specs.rules.Highlighting.{snippet_calls}
 use Rattle.miette_snippet_rules.specs.rules.SnippetLayout.{snippet_rows, rows_unless, rows_of_groups, settings_around}
-use Rattle.miette_snippet_rules.specs.rules.SnippetLayout.{all_snippets}
+use Rattle.miette_snippet_rules.specs.rules.SnippetLayout.{all_snippets, end_lines, end_settings, rows_of_labels}
+use Rattle.miette_snippet_rules.specs.declared.options.LayoutOptions.{LayoutOptions}
 use Rattle.miette_snippet_rules.proofs.NoPieces.{none_have}
 use Rattle.miette_page.specs.rules.Rows.{Row}
 use Rattle.miette_page.specs.views.Tokens.{rows_tokens}
@@ -63,7 +65,7 @@ groups_given s source labels a h =
     (some_none a.place_fails (groups_of s.layout.context_lines source [] labels) h.places)
 
 pub none_listed : (pieces : List (List (List Highlight))) → AlwaysReads (pieces_listed pieces)
-none_listed pieces = record { labels = tt; joins = tt; places = tt }
+none_listed pieces = record { end = refl; labels = tt; joins = tt; places = tt }
 
 unless_same : (s : snippets.SnippetSettings) (source : Source) (labels : List Label) (a : SourceAnswer)
     (refused : Option Row)
@@ -73,14 +75,22 @@ unless_same s source labels a (Some row) h = refl
 unless_same s source labels a None h = groups_given s source labels a h
     ∙ sym (groups_given s source labels (pieces_listed a.pieces) (none_listed a.pieces))
 
-pub rows_same : (s : snippets.SnippetSettings) (source : Source) (labels : List Label) (a : SourceAnswer) → AlwaysReads
+around_same : (s : snippets.SnippetSettings) (source : Source) (labels : List Label) (a : SourceAnswer) → AlwaysReads
     a →
     snippet_rows s source labels a ≡ snippet_rows s source labels (pieces_listed a.pieces)
-rows_same s source labels a h =
+around_same s source labels a h =
     ap (λ r. rows_unless s source (in_order labels) a (option_map (refused_row s) r))
     (refusal_none source.bytes a.label_fails (in_order labels) h.labels)
     ∙ unless_same s source (in_order labels) a (option_map (refused_row s) (refusal source.bytes [] (in_order labels)))
     h
+
+-- with the lines of context that labels at the source's end ask for
+pub rows_same : (s : snippets.SnippetSettings) (source : Source) (labels : List Label) (a : SourceAnswer) → AlwaysReads
+    a →
+    rows_of_labels s source labels a ≡ rows_of_labels s source labels (pieces_listed a.pieces)
+rows_same s source labels a h =
+    ap (λ fails. snippet_rows (end_settings s fails source labels) source labels a) h.end
+    ∙ around_same (end_settings s false source labels) source labels a h
 
 some_unless : (s : snippets.SnippetSettings) (source : Source) (labels : List Label)
     (pieces : List (List (List Highlight))) (refused : Option Row)
@@ -93,8 +103,9 @@ some_unless s source labels pieces None = ap is_some (groups_given s source labe
 pub always_rows : (s : snippets.SnippetSettings) (source : Option Source) (labels : List Label)
     (pieces : List (List (List Highlight))) → HasRows s source labels (pieces_listed pieces)
 always_rows s None labels pieces = tt
-always_rows s (Some source) labels pieces = some_unless s source (in_order labels) pieces
-    (option_map (refused_row s) (refusal source.bytes [] (in_order labels)))
+always_rows s (Some source) labels pieces =
+    some_unless (end_settings s false source labels) source (in_order labels) pieces
+    (option_map (refused_row (end_settings s false source labels)) (refusal source.bytes [] (in_order labels)))
 
 never_none : (s : snippets.SnippetSettings) (source : Source) (labels : List Label)
     (pieces : List (List (List Highlight))) (refused : Option Row)
@@ -104,18 +115,20 @@ never_none s source labels pieces None e = let k = sym
     (groups_given s source labels (pieces_listed pieces) (none_listed pieces)) ∙ e in absurd (cc)
 
 no_rows_fail : (s : snippets.SnippetSettings) (source : Source) (labels : List Label) (a : SourceAnswer) → AlwaysReads a
-    → snippet_rows s source labels a ≡ None → ⊥
+    → rows_of_labels s source labels a ≡ None → ⊥
 no_rows_fail s source labels a h n =
-    never_none s source (in_order labels) a.pieces (option_map (refused_row s)
-    (refusal source.bytes [] (in_order labels))) (sym (rows_same s source labels a h) ∙ n)
+    never_none (end_settings s false source labels) source (in_order labels) a.pieces
+    (option_map (refused_row (end_settings s false source labels)) (refusal source.bytes [] (in_order labels)))
+    (sym (rows_same s source labels a h) ∙ n)
 
 -- ---- no pieces
 
 no_pieces : (s : snippets.SnippetSettings) (blank : Bool) (source : Option Source) (labels : List Label)
     → HasPieces s blank source labels source_unlisted
 no_pieces s blank None labels = tt
-no_pieces s blank (Some source) labels = none_have (group_context s.layout.context_lines (in_order labels)) blank source
-    (groups_of s.layout.context_lines source [] (in_order labels))
+no_pieces s blank (Some source) labels =
+    none_have (group_context (end_lines s.layout false source labels) (in_order labels)) blank source
+    (groups_of (end_lines s.layout false source labels) source [] (in_order labels))
 
 -- where nothing is listed, nothing failed
 pub unlisted_is : (s : snippets.SnippetSettings) (blank : Bool) (source : Option Source) (labels : List Label)
@@ -171,6 +184,26 @@ calls_same context source labels a h =
     (refusal_none source.bytes a.label_fails (in_order labels) h.labels)
     (grouped_none context source a.join_fails (in_order labels) h.joins)
 
+asked_same : (layout : LayoutOptions) (source : Source) (labels : List Label) (a : SourceAnswer) → AlwaysReads a
+    → calls_of_labels layout source labels a ≡ calls_of_labels layout source labels (pieces_listed a.pieces)
+asked_same layout source labels a h =
+    ap (λ fails. snippet_calls (end_lines layout fails source labels) source labels a) h.end
+    ∙ calls_same (end_lines layout false source labels) source labels a h
+
+-- the pieces, where the read for the source's end didn't fail
+pieces_same : (layout : LayoutOptions) (blank : Bool) (source : Source) (labels : List Label) (a : SourceAnswer)
+    → AlwaysReads a
+    → SnippetsHavePieces (group_context (end_lines layout a.end_fails source labels) (in_order labels)) blank source
+    (groups_of (end_lines layout a.end_fails source labels) source a.join_fails (in_order labels)) a.pieces
+    → SnippetsHavePieces (group_context (end_lines layout false source labels) (in_order labels)) blank source
+    (groups_of (end_lines layout false source labels) source [] (in_order labels)) a.pieces
+pieces_same layout blank source labels a h k =
+    let lines : Bool → ℕ = λ fails. end_lines layout fails source labels in
+    subst (λ groups. SnippetsHavePieces (group_context (lines false) (in_order labels)) blank source groups a.pieces)
+    (grouped_none (lines false) source a.join_fails (in_order labels) h.joins)
+    (subst (λ fails. SnippetsHavePieces (group_context (lines fails) (in_order labels)) blank source
+    (groups_of (lines fails) source a.join_fails (in_order labels)) a.pieces) h.end k)
+
 drawn_text : {happen : List Call → Type 0} (u s : Settings) (source : Source) (labels : List Label) (blank : Bool)
     (before : List ℕ) (page : Printout) →
     (g : MayGive (record { settings = snippet_settings s; blank = blank; happen = happen }) source labels
@@ -186,13 +219,10 @@ drawn_text {happen} u s source labels blank before page g =
         record {
           read = λ h. refl;
           plain = g.plain;
-          pieces = subst (λ groups. SnippetsHavePieces (group_context l.layout.context_lines (in_order labels)) blank
-              source groups
-              a.pieces) (grouped_none l.layout.context_lines source a.join_fails (in_order labels)
-              (g.always reads).joins) g.pieces;
+          pieces = pieces_same l.layout blank source labels a (g.always reads) g.pieces;
           rows = always_rows l (Some source) labels a.pieces;
         },
-        subst happen (calls_same s.layout.context_lines source labels a (g.always reads)) g.calls,
+        subst happen (asked_same s.layout source labels a (g.always reads)) g.calls,
         ap (λ r. rows_text (shown_rows r)) (rows_same l source labels a (g.always reads)),
       )
       | inr fails ↦ (
@@ -202,7 +232,7 @@ drawn_text {happen} u s source labels blank before page g =
           plain = g.plain;
           pieces = g.pieces;
           rows =
-              rows_some (printout_of before) (snippet_rows l source labels a) page g.is;
+              rows_some (printout_of before) (rows_of_labels l source labels a) page g.is;
         },
         g.calls,
         refl,
@@ -223,7 +253,7 @@ drawn_page {happen} u s source labels blank before page g =
       text = text;
       is_given = drawn_text u s source labels blank before page g;
       appended =
-          page_given before (snippet_rows l source labels a) page g.is;
+          page_given before (rows_of_labels l source labels a) page g.is;
     }
 
 pub refused_page : {happen : List Call → Type 0} (s : Settings) (source : Source) (labels : List Label) (blank : Bool)
@@ -233,7 +263,7 @@ pub refused_page : {happen : List Call → Type 0} (s : Settings) (source : Sour
 refused_page s source labels blank before g =
     elim (cases_Bool source.always_reads) [
       | inl reads ↦ absurd (no_rows_fail (snippet_settings s) source labels g.answers (g.always reads)
-          (rows_none before (snippet_rows (snippet_settings s) source labels g.answers) g.is))
+          (rows_none before (rows_of_labels (snippet_settings s) source labels g.answers) g.is))
       | inr fails ↦ fails
     ]
 

@@ -19,6 +19,7 @@ pub mod Paths
 pub mod Alike
 pub mod PrintedAnswers
 pub mod DrawnRows
+pub mod EndShown
 pub mod SnippetsFading
 pub mod FixesFading
 pub mod Styling

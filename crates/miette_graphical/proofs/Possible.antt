@@ -16,7 +16,7 @@ use Rattle.miette_row_laws.specs.laws.Fading.{unhighlighted_answer}
 use Rattle.miette_row_laws.proofs.PlainStyles.{none_are_plain}
 use Rattle.miette_style.specs.rules.Themes.{Styles, no_styles}
 use Rattle.miette_snippet_rules.specs.rules.Settings as snippets
-use Rattle.miette_snippet_rules.specs.rules.SnippetLayout.{snippet_rows}
+use Rattle.miette_snippet_rules.specs.rules.SnippetLayout.{end_lines, end_settings, snippet_rows}
 use Rattle.miette_snippet_rules.proofs.NoPieces.{none_have}
 use Rattle.miette_page.specs.rules.Rows.{Row, glyphs_of}
 use Rattle.miette_graphical.specs.rules.Settings.{Settings}
@@ -53,13 +53,15 @@ module _ (kept : AreRowsKept) where
   rows_kept : (l : snippets.SnippetSettings) (source : Option Source) (labels : List Label) (a : SourceAnswer)
       → HasRows l source labels a → HasRows (fading.colourless l) source labels (unhighlighted_answer a)
   rows_kept l None labels a h = tt
-  rows_kept l (Some source) labels a h = some_kept _ _ (kept l no_styles source labels a none_are_plain) h
+  rows_kept l (Some source) labels a h =
+      some_kept _ _ (kept (end_settings l a.end_fails source labels) no_styles source labels a none_are_plain) h
 
   no_pieces : (l : snippets.SnippetSettings) (source : Option Source) (labels : List Label) (a : SourceAnswer)
       → HasPieces (fading.colourless l) true source labels (unhighlighted_answer a)
   no_pieces l None labels a = tt
-  no_pieces l (Some source) labels a = none_have (group_context l.layout.context_lines (in_order labels)) true source
-      (groups_of l.layout.context_lines source a.join_fails (in_order labels))
+  no_pieces l (Some source) labels a =
+      none_have (group_context (end_lines l.layout a.end_fails source labels) (in_order labels)) true source
+      (groups_of (end_lines l.layout a.end_fails source labels) source a.join_fails (in_order labels))
 
   answer_possible : (l : snippets.SnippetSettings) (blank : Bool) (source : Option Source) (labels : List Label)
       (reads : Bool) (a : SourceAnswer) → IsAnswerOf l blank source labels reads a →

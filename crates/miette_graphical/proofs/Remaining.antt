@@ -35,7 +35,7 @@ pub record Chain (X A : Type 0) : Type 1 where
 abbrev pub causes_under : Option Severity → Option Source → Settings → Bool → Chain Cause Answers
 causes_under outer inherited s blank = record {
   are = AreCauseAnswers (snippet_settings s) blank inherited;
-  calls = cause_calls s.layout.context_lines s.related_as_nested inherited;
+  calls = cause_calls s.layout s.related_as_nested inherited;
   shows = causes_text whole_drawing s outer inherited;
   reads = λ c. labels_read (printed_causes s.related_as_nested inherited c);
   size = cause_size;
@@ -44,7 +44,7 @@ causes_under outer inherited s blank = record {
 abbrev pub related_under : Option Severity → Option Source → Settings → Bool → Chain Trees RelatedAnswers
 related_under outer inherited s blank = record {
   are = AreRelatedAnswers (snippet_settings s) blank inherited;
-  calls = related_calls s.layout.context_lines s.related_as_nested inherited;
+  calls = related_calls s.layout s.related_as_nested inherited;
   shows = related_text whole_drawing s outer inherited;
   reads = λ ts. labels_read (printed_related s.related_as_nested inherited ts);
   size = trees_size;

@@ -23,7 +23,7 @@ use Rattle.miette_tree.specs.rules.Diagnosis.{Diagnosis, Section}
 use Rattle.miette_tree.specs.rules.DiagnosticParts.{given_labels}
 use Rattle.miette_style.specs.rules.Themes.{Styles}
 use Rattle.miette_snippet_rules.specs.rules.Settings as snippets
-use Rattle.miette_snippet_rules.specs.rules.SnippetLayout.{snippet_rows}
+use Rattle.miette_snippet_rules.specs.rules.SnippetLayout.{end_settings, snippet_rows}
 use Rattle.miette_page.specs.rules.Rows.{Glyph, Row, Run, glyphs_of}
 use Rattle.miette_graphical.specs.rules.Answers.{Answer, SourceAnswer, SourceAnswers, first_source}
 use Rattle.miette_graphical.specs.laws.Clean.{AreCleanLabels, AreCleanSettings, HaveNoEscapes, IsCleanMeaning}
@@ -225,8 +225,9 @@ clean_over : LayoutLaws → (s : Settings) (source : Option Source) (labels : Li
     AreCleanSettings s → IfSome source IsCleanSource → AllByRecursion IsCleanLabel labels
     → HaveNoEscapes (source_rows s source labels a)
 clean_over laws s None labels a h k j = tt
-clean_over laws s (Some source) labels a h k j = clean_shown (snippet_rows (snippet_settings s) source labels a)
-    (laws.clean (snippet_settings s) source labels a h.0.drawings k j)
+clean_over laws s (Some source) labels a h k j =
+    let l = end_settings (snippet_settings s) a.end_fails source labels in
+    clean_shown (snippet_rows l source labels a) (laws.clean l source labels a h.0.drawings k j)
 
 -- ---- rows one after the other
 
@@ -248,7 +249,7 @@ source_fade : LayoutLaws → (s : Settings) (styles : Styles) (source : Option S
     ≡ rows_text (map (map plain_run) (source_rows s source labels a))
 source_fade laws s styles None labels a bare = refl
 source_fade laws s styles (Some source) labels a bare =
-    let l = snippet_settings s in
+    let l = end_settings (snippet_settings s) a.end_fails source labels in
     plain_shown (snippet_rows (fading.restyled l styles) source labels (fading.unhighlighted_answer a))
     (laws.plain l styles source labels a bare)
     ∙ ap shown_text (laws.same l styles source labels a bare) ∙ sym (bare_shown (snippet_rows l source labels a))

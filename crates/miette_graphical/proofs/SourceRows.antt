@@ -35,7 +35,7 @@ left_in s sources = record { settings = s; sources = sources }
 abbrev pub sources_left : Settings → Bool → Chain SourcesLeft SourceAnswers
 sources_left s blank = record {
   are = λ left. AreAnswersOver (snippet_settings left.settings) blank left.sources;
-  calls = λ left. calls_over left.settings.layout.context_lines left.sources;
+  calls = λ left. calls_over left.settings.layout left.sources;
   shows = λ left a. rows_text (rows_over left.settings left.sources a);
   reads = λ left. sources_read left.sources;
   size = λ left. length left.sources;
@@ -89,7 +89,7 @@ source_printed is_blank may_follow old now new all s it more r p keeps =
       given.0 ∷ a,
       (given.1, h),
       leads_on begun next (λ later. next (k.calls rest a ++ later))
-          (source_calls s.layout.context_lines it.source it.labels given.0) (k.calls rest a) given.2 (λ later n. n),
+          (source_calls s.layout it.source it.labels given.0) (k.calls rest a) given.2 (λ later n. n),
       ap (λ x. x ++ k.shows rest a) given.3
           ∙ sym (rows-appended (source_rows s it.source it.labels given.0)
           (rows_over (after_labels (length it.labels) s) more a)),
@@ -122,8 +122,8 @@ own_and_further is_blank may_follow old mid new s it more p keeps q =
         own.0 ∷ further.0,
         (own.1, further.1),
         leads_on (follows may_follow old.highlighter) (follows may_follow mid.highlighter)
-            (follows may_follow new.highlighter) (source_calls s.layout.context_lines it.source it.labels own.0)
-            (calls_over s.layout.context_lines more further.0) own.2 further.2,
+            (follows may_follow new.highlighter) (source_calls s.layout it.source it.labels own.0)
+            (calls_over s.layout more further.0) own.2 further.2,
         ap₂ (λ x y. x ++ y) own.3 further.3
             ∙ sym (rows-appended (source_rows s it.source it.labels own.0)
             (rows_over (after_labels (length it.labels) s) more further.0)),

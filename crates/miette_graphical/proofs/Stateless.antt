@@ -26,7 +26,7 @@ use Rattle.miette_snippet_rules.specs.rules.Highlighting.{group_calls, highlight
 use Rattle.miette_snippet_rules.specs.rules.Highlighting.{texts_of}
 use Rattle.miette_snippet_rules.specs.rules.SnippetLayout.{all_snippets, cells_of, drawn_labels, left_out}
 use Rattle.miette_snippet_rules.specs.rules.SnippetLayout.{line_or_break, place_of, rows_of_lines, rows_unless}
-use Rattle.miette_snippet_rules.specs.rules.SnippetLayout.{settings_around}
+use Rattle.miette_snippet_rules.specs.rules.SnippetLayout.{end_settings, settings_around}
 use Rattle.miette_tree.specs.rules.Tree.{Tree, tree, Cause, diagnostic, texts, Trees, no_trees, more_trees, effective}
 use Rattle.miette_tree.specs.rules.Reads.{always_reads}
 use Rattle.miette_tree.specs.views.Handler.{AppendsOne}
@@ -121,25 +121,25 @@ unless_by f l source labels pieces None h =
 -- the rows over one source, where no read of it failed
 source_rows_by : (f : List ℕ → List Piece) (s : Settings) (source : Option Source) (labels : List Label)
     (a : SourceAnswer) → a ≡ pieces_listed a.pieces
-    → AnsweredBy f (source_calls s.layout.context_lines source labels a)
-    → source_rows s source labels a ≡ source_rows s source labels (source_by f s.layout.context_lines source labels)
+    → AnsweredBy f (source_calls s.layout source labels a)
+    → source_rows s source labels a ≡ source_rows s source labels (source_by f s.layout source labels)
 source_rows_by f s None labels a e h = refl
 source_rows_by f s (Some source) labels a e h =
-    let l = snippet_settings s in
+    let l = end_settings (snippet_settings s) false source labels in
     ap (λ x. source_rows s (Some source) labels x) e
     ∙ ap shown_rows (unless_by f l source (in_order labels) a.pieces (refusal source.bytes [] (in_order labels))
-    (subst (λ x. AnsweredBy f (source_calls s.layout.context_lines (Some source) labels x)) e h))
+    (subst (λ x. AnsweredBy f (source_calls s.layout (Some source) labels x)) e h))
 
 -- over several, in whatever settings answers are possible for them
 over_by : (f : List ℕ → List Piece) (l : snippets.SnippetSettings) (blank : Bool) (s : Settings)
     (sources : List LabelledSource) (a : SourceAnswers) → AreAnswersOver l blank sources a → sources_read sources ≡ true
-    → AnsweredBy f (calls_over s.layout.context_lines sources a)
-    → rows_over s sources a ≡ rows_over s sources (sources_by f s.layout.context_lines sources)
+    → AnsweredBy f (calls_over s.layout sources a)
+    → rows_over s sources a ≡ rows_over s sources (sources_by f s.layout sources)
 over_by f l blank s [] a h e b = refl
 over_by f l blank s (it ∷ more) a h e b =
     let p = and_parts (always_reads it.source it.labels) (sources_read more) e in
-    let k = parts_by f (source_calls s.layout.context_lines it.source it.labels (first_source a))
-    (calls_over s.layout.context_lines more (drop 1 a)) b in
+    let k = parts_by f (source_calls s.layout it.source it.labels (first_source a))
+    (calls_over s.layout more (drop 1 a)) b in
     ap₂ (λ x y. x ++ y)
     (source_rows_by f s it.source it.labels (first_source a) (h.0.read p.0) k.0)
     (over_by f (snippets_after (length it.labels) l) blank (after_labels (length it.labels) s) more (drop 1 a) h.1 p.1
@@ -148,9 +148,9 @@ over_by f l blank s (it ∷ more) a h e b =
 -- what is drawn of a diagnostic
 rows_by : (f : List ℕ → List Piece) (l : snippets.SnippetSettings) (blank : Bool) (s : Settings)
     (source : Option Source) (m : Diagnosis) (a : Answer) → IsAnswer l blank source m a
-    → reads_all (over source m) ≡ true → AnsweredBy f (own_calls s.layout.context_lines source m a) →
+    → reads_all (over source m) ≡ true → AnsweredBy f (own_calls s.layout source m a) →
     drawn_text whole_drawing s m source a
-    ≡ drawn_text whole_drawing s m source (own_by f s.layout.context_lines source m)
+    ≡ drawn_text whole_drawing s m source (own_by f s.layout source m)
 rows_by f l blank s source m a h e b =
     let p = and_parts (sources_read (sources_of source m)) (reads_for source m.fixes) e in
     ap₂ (λ rows fails. rows_text rows ++ help_text s m.help ++ fixes_text s (map (drawn_fix s source fails) m.fixes))
@@ -167,9 +167,9 @@ mutual
       ≡ nested
       →
       AreCauseAnswers l blank inherited c a → all_read (printed_causes nested inherited c) ≡ true
-      → AnsweredBy f (cause_calls s.layout.context_lines nested inherited c a) →
+      → AnsweredBy f (cause_calls s.layout nested inherited c a) →
       causes_text whole_drawing s outer inherited c a ≡ causes_text whole_drawing s outer inherited c
-      (causes_by f s.layout.context_lines inherited c)
+      (causes_by f s.layout inherited c)
   cause_text_by f l blank s outer inherited (texts ts) a nested w h e b = refl
   cause_text_by f l blank s outer inherited (diagnostic (tree m own c r)) a nested w h e b =
       let source = effective own inherited in
@@ -177,10 +177,10 @@ mutual
       let p = both_read (printed_inner nested source (tree m own c r)) (printed_causes nested inherited c) e in
       let q = and_parts (reads_all (over source m)) (all_read (printed_related nested source r)) p.0
       in
-      let more = related_calls s.layout.context_lines nested source r (related_answers a) in
-      let k = parts_by f (own_calls s.layout.context_lines source m (own_answer a) ++ more)
-      (cause_calls s.layout.context_lines nested inherited c (cause_answers a)) b in
-      let j = parts_by f (own_calls s.layout.context_lines source m (own_answer a)) more k.0 in
+      let more = related_calls s.layout nested source r (related_answers a) in
+      let k = parts_by f (own_calls s.layout source m (own_answer a) ++ more)
+      (cause_calls s.layout nested inherited c (cause_answers a)) b in
+      let j = parts_by f (own_calls s.layout source m (own_answer a)) more k.0 in
       ap₂ (λ x y. x ++ y)
       (ap (under_arrow s outer (ends_there c))
       (ap₂ (inner_over n m) (rows_by f l blank n source m (own_answer a) h.0 q.0 j.0)
@@ -191,9 +191,9 @@ mutual
       (outer : Option Severity) (inherited : Option Source) (ts : Trees) (more : RelatedAnswers) (nested : Bool)
       → s.related_as_nested ≡ nested →
       AreRelatedAnswers l blank inherited ts more → all_read (printed_related nested inherited ts) ≡ true
-      → AnsweredBy f (related_calls s.layout.context_lines nested inherited ts more) →
+      → AnsweredBy f (related_calls s.layout nested inherited ts more) →
       related_text whole_drawing s outer inherited ts more ≡ related_text whole_drawing s outer inherited ts
-      (related_by f s.layout.context_lines inherited ts)
+      (related_by f s.layout inherited ts)
   related_text_by f l blank s outer inherited no_trees more nested w h e b = refl
   related_text_by f l blank s outer inherited (more_trees (tree m own c r) ts) more true w h e b =
       let source = effective own inherited in
@@ -201,9 +201,9 @@ mutual
       let a = first_answers more in
       let p = both_read (printed_inner true source (tree m own c r)) (printed_related true inherited ts) e in
       let q = and_parts (reads_all (over source m)) (all_read (printed_related true source r)) p.0 in
-      let own_ones = own_calls s.layout.context_lines source m (own_answer a) in
-      let below = related_calls s.layout.context_lines true source r (related_answers a) in
-      let k = parts_by f (own_ones ++ below) (related_calls s.layout.context_lines true inherited ts
+      let own_ones = own_calls s.layout source m (own_answer a) in
+      let below = related_calls s.layout true source r (related_answers a) in
+      let k = parts_by f (own_ones ++ below) (related_calls s.layout true inherited ts
       (later_answers more)) b in
       let j = parts_by f own_ones below k.0 in
       ap₂ (λ x y. x ++ y)
@@ -220,10 +220,10 @@ mutual
       let q = and_parts (reads_all (over source m))
       (all_read (printed_causes false source c ++ printed_related false source r)) p.0 in
       let o = both_read (printed_causes false source c) (printed_related false source r) q.1 in
-      let caused = cause_calls s.layout.context_lines false source c (cause_answers a) in
-      let own_ones = own_calls s.layout.context_lines source m (own_answer a) in
-      let below = related_calls s.layout.context_lines false source r (related_answers a) in
-      let k = parts_by f (caused ++ (own_ones ++ below)) (related_calls s.layout.context_lines false inherited ts
+      let caused = cause_calls s.layout false source c (cause_answers a) in
+      let own_ones = own_calls s.layout source m (own_answer a) in
+      let below = related_calls s.layout false source r (related_answers a) in
+      let k = parts_by f (caused ++ (own_ones ++ below)) (related_calls s.layout false inherited ts
       (later_answers more)) b in
       let i = parts_by f caused (own_ones ++ below) k.0 in
       let j = parts_by f own_ones below i.1 in
@@ -235,7 +235,7 @@ mutual
       (related_text whole_drawing s m.severity source r (related_answers a)))
       (rows_by f l blank s source m (own_answer a) h.0 q.0 j.0)
       ∙ ap₂ (λ x y. title_text s m ++ body_over s m (drawn_text whole_drawing s m source
-      (own_by f s.layout.context_lines source m)) x y)
+      (own_by f s.layout source m)) x y)
       (cause_text_by f l blank s m.severity source c (cause_answers a) false w h.1 o.0 i.0)
       (related_text_by f l blank s m.severity source r (related_answers a) false w h.2 o.1 j.1)))
       (related_text_by f l blank s outer inherited ts (later_answers more) false w h.3 p.1 k.1)
@@ -244,16 +244,16 @@ root_text_by : (f : List ℕ → List Piece) (l : snippets.SnippetSettings) (bla
     (own : Option Source) (c : Cause) (a : Answers) (chain : Bool) →
     (chain ≡ true → AreCauseAnswers l blank own c a) → all_read
     (if chain then printed_causes s.related_as_nested own c else [])
-    ≡ true → AnsweredBy f (if chain then cause_calls s.layout.context_lines s.related_as_nested own c a else []) →
+    ≡ true → AnsweredBy f (if chain then cause_calls s.layout s.related_as_nested own c a else []) →
     only_if chain (causes_text whole_drawing s m.severity own c a)
-    ≡ only_if chain (causes_text whole_drawing s m.severity own c (causes_by f s.layout.context_lines own c))
+    ≡ only_if chain (causes_text whole_drawing s m.severity own c (causes_by f s.layout own c))
 root_text_by f l blank s m own c a true h e b = cause_text_by f l blank s m.severity own c a s.related_as_nested refl
     (h refl) e b
 root_text_by f l blank s m own c a false h e b = refl
 
 report_text_by : (f : List ℕ → List Piece) (s : Settings) (blank : Bool) (t : Tree) (a : Answers)
     → AreAnswers s blank t a → all_read (diagnostics_of s t) ≡ true → AnsweredBy f (report_calls s t a) →
-    report_text whole_drawing s t a ≡ report_text whole_drawing s t (answers_by f s.layout.context_lines t)
+    report_text whole_drawing s t a ≡ report_text whole_drawing s t (answers_by f s.layout t)
 report_text_by f s blank (tree m own c r) a h e b =
     let l = snippet_settings s in
     let causes = if s.cause_chain then printed_causes s.related_as_nested own c else [] in
@@ -261,17 +261,17 @@ report_text_by f s blank (tree m own c r) a h e b =
     (all_read (causes ++ printed_related s.related_as_nested own r)) e
     in
     let q = both_read causes (printed_related s.related_as_nested own r) p.1 in
-    let caused = if s.cause_chain then cause_calls s.layout.context_lines s.related_as_nested own c (cause_answers a)
+    let caused = if s.cause_chain then cause_calls s.layout s.related_as_nested own c (cause_answers a)
     else [] in
-    let own_ones = own_calls s.layout.context_lines own m (own_answer a) in
-    let below = related_calls s.layout.context_lines s.related_as_nested own r (related_answers a) in
+    let own_ones = own_calls s.layout own m (own_answer a) in
+    let below = related_calls s.layout s.related_as_nested own r (related_answers a) in
     let k = parts_by f caused (own_ones ++ below) b in
     let j = parts_by f own_ones below k.1 in
     ap (λ x. report_over s m x (only_if s.cause_chain (causes_text whole_drawing s m.severity own c (cause_answers a)))
     (related_text whole_drawing s m.severity own r (related_answers a)))
     (rows_by f l blank s own m (own_answer a) h.0 p.0 j.0)
     ∙ ap₂ (report_over s m (drawn_text whole_drawing s m own
-    (own_by f s.layout.context_lines own m)))
+    (own_by f s.layout own m)))
     (root_text_by f l blank s m own c (cause_answers a) s.cause_chain h.1 q.0 k.0)
     (related_text_by f l blank s m.severity own r (related_answers a) s.related_as_nested refl h.2 q.1 j.1)
 
@@ -281,7 +281,7 @@ stateless-text : (s : Settings) (blank : Bool) (before after : List Call → Typ
     → AppendsOne (IsAskedText whole_drawing s blank (λ calls. Leads before calls after) t) old new
     → (f : List ℕ → List Piece) → ((calls : List Call) → before calls → AnsweredBy f calls) → after []
     → all_read (diagnostics_of s t) ≡ true
-    → new ≡ old ++ encode_utf8_all (report_text whole_drawing s t (answers_by f s.layout.context_lines t))
+    → new ≡ old ++ encode_utf8_all (report_text whole_drawing s t (answers_by f s.layout t))
 stateless-text s blank before after t old new ok f by over reads =
     let given = ok.is_given.1 in
     let calls = report_calls s t given.0 in
@@ -294,6 +294,6 @@ pub rendered-stateless : {A E : Type 0} (r : Result A E) (s : Settings) (blank :
     → OnOk r (AppendsOne (IsAskedText whole_drawing s blank (λ calls. Leads before calls after) t) old new)
     → OnOk r ((f : List ℕ → List Piece) → ((calls : List Call) → before calls → AnsweredBy f calls) → after []
     → all_read (diagnostics_of s t) ≡ true
-    → new ≡ old ++ encode_utf8_all (report_text whole_drawing s t (answers_by f s.layout.context_lines t)))
+    → new ≡ old ++ encode_utf8_all (report_text whole_drawing s t (answers_by f s.layout t)))
 rendered-stateless (Err e) s blank before after t old new ok = tt
 rendered-stateless (Ok x) s blank before after t old new ok = stateless-text s blank before after t old new ok

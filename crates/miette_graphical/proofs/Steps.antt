@@ -95,9 +95,9 @@ pub cause_step : (s : Settings) (blank : Bool) (begun mid now : List Call → Ty
 cause_step s blank begun mid now outer inherited (tree m own c r) one more p q = (
   listed p.1.0 q.0 p.1.1,
   (p.1.2, p.1.3, q.1),
-  leads_on begun mid now (own_calls s.layout.context_lines (effective own inherited) m p.1.0
-      ++ related_calls s.layout.context_lines s.related_as_nested (effective own inherited) r p.1.1)
-      (cause_calls s.layout.context_lines s.related_as_nested inherited c q.0) p.1.4 q.2,
+  leads_on begun mid now (own_calls s.layout (effective own inherited) m p.1.0
+      ++ related_calls s.layout s.related_as_nested (effective own inherited) r p.1.1)
+      (cause_calls s.layout s.related_as_nested inherited c q.0) p.1.4 q.2,
   ap₂ (λ x y. x ++ y) (p.2 ∙ ap (under_arrow s outer (ends_there c)) p.1.5) q.3,
 )
 
@@ -136,8 +136,8 @@ sibling_step s blank begun mid now source (tree m own c r) causes text q p = (
   p.2,
   q.1,
   p.3,
-  leads_on begun mid now (cause_calls s.layout.context_lines s.related_as_nested source c q.0)
-      (own_calls s.layout.context_lines source m p.0 ++ related_calls s.layout.context_lines s.related_as_nested source
+  leads_on begun mid now (cause_calls s.layout s.related_as_nested source c q.0)
+      (own_calls s.layout source m p.0 ++ related_calls s.layout s.related_as_nested source
       r p.1) q.2 p.4,
   ap (λ x. title_text s m ++ body_over s m (drawn_text whole_drawing s m source p.0) x
       (related_text whole_drawing s m.severity source r p.1)) q.3,
@@ -152,10 +152,10 @@ one_by : (by : Printing) (outer : Option Severity)
     (a : Answers) × IsAnswer (snippet_settings by.settings) by.blank source m (own_answer a)
     × AreCauseAnswers (snippet_settings by.settings) by.blank source c (cause_answers a)
     × AreRelatedAnswers (snippet_settings by.settings) by.blank source r (related_answers a)
-    × by.happen ((if nested then [] else cause_calls by.settings.layout.context_lines by.settings.related_as_nested
+    × by.happen ((if nested then [] else cause_calls by.settings.layout by.settings.related_as_nested
     source c (cause_answers a))
-    ++ (own_calls by.settings.layout.context_lines source m (own_answer a)
-    ++ related_calls by.settings.layout.context_lines by.settings.related_as_nested source r
+    ++ (own_calls by.settings.layout source m (own_answer a)
+    ++ related_calls by.settings.layout by.settings.related_as_nested source r
     (related_answers a)))
     × (text ≡ (if nested then
     under_arrow by.settings outer last (without_trailing
@@ -187,14 +187,14 @@ related_step s blank begun mid now outer inherited (tree m own c r) ts one more 
     let k = one_by (printing s blank begun mid) outer source (are_last ts) m own c r one
     s.related_as_nested p in
     let calls : List Call = (if s.related_as_nested then []
-    else cause_calls s.layout.context_lines s.related_as_nested source c (cause_answers k.0))
-    ++ (own_calls s.layout.context_lines source m (own_answer k.0)
-    ++ related_calls s.layout.context_lines s.related_as_nested source r
+    else cause_calls s.layout s.related_as_nested source c (cause_answers k.0))
+    ++ (own_calls s.layout source m (own_answer k.0)
+    ++ related_calls s.layout s.related_as_nested source r
     (related_answers k.0)) in (
       and_more k.0 q.0,
       (k.1, k.2, k.3, q.1),
       leads_on begun mid now calls
-          (related_calls s.layout.context_lines s.related_as_nested inherited ts q.0) k.4 q.2,
+          (related_calls s.layout s.related_as_nested inherited ts q.0) k.4 q.2,
       ap₂ (λ x y. x ++ y) k.5 q.3,
     )
 
@@ -202,7 +202,7 @@ root_by : (by : Printing) (m : Diagnosis)
     (own : Option Source) (c : Cause) (causes : List ℕ) (chain : Bool) →
     MatchBool chain (AreCauses m.severity own c by causes) (by.happen [] × (causes ≡ [])) →
     (a : Answers) × (chain ≡ true → AreCauseAnswers (snippet_settings by.settings) by.blank own c a)
-    × by.happen (if chain then cause_calls by.settings.layout.context_lines by.settings.related_as_nested own c a
+    × by.happen (if chain then cause_calls by.settings.layout by.settings.related_as_nested own c a
     else [])
     × (causes ≡ only_if chain (causes_text whole_drawing by.settings m.severity own c a))
 root_by by m own c causes true p = (p.0, λ h. p.1, p.2, p.3)
@@ -224,9 +224,9 @@ root_step s blank begun mid now (tree m own c r) causes text q p =
     let b = root_by (printing s blank begun mid) m own c causes s.cause_chain q in (
       listed p.0 b.0 p.1,
       (p.2, b.1, p.3),
-      leads_on begun mid now (if s.cause_chain then cause_calls s.layout.context_lines s.related_as_nested own c b.0
+      leads_on begun mid now (if s.cause_chain then cause_calls s.layout s.related_as_nested own c b.0
           else [])
-          (own_calls s.layout.context_lines own m p.0 ++ related_calls s.layout.context_lines s.related_as_nested own r
+          (own_calls s.layout own m p.0 ++ related_calls s.layout s.related_as_nested own r
           p.1) b.2 p.4,
       ap (λ x. report_over s m (drawn_text whole_drawing s m own p.0) x
           (related_text whole_drawing s m.severity own r p.1)) b.3,
@@ -278,7 +278,7 @@ own_behind is_blank may_follow source m old drawn helped new p kept e only fixes
         record { sources = own.0; fixes_fail = fixes.fails },
         record { sources = own.1; fixes = fixes.possible },
         subst (λ h. Leads (follows may_follow old.highlighter)
-            (own_calls s.layout.context_lines source m (record { sources = own.0; fixes_fail = fixes.fails }))
+            (own_calls s.layout source m (record { sources = own.0; fixes_fail = fixes.fails }))
             (follows may_follow h)) after own.2,
         ap (λ x. x ++ help ++ shown) own.3,
       );
@@ -308,8 +308,8 @@ below_behind is_blank may_follow source t old drawn new p kept r =
         own.1,
         more.1,
         leads_on (follows may_follow old.highlighter) (follows may_follow drawn.highlighter)
-            (follows may_follow new.highlighter) (own_calls s.layout.context_lines source (head t) own.0)
-            (related_calls s.layout.context_lines s.related_as_nested source (related_of t) more.0) own.2 more.2,
+            (follows may_follow new.highlighter) (own_calls s.layout source (head t) own.0)
+            (related_calls s.layout s.related_as_nested source (related_of t) more.0) own.2 more.2,
         ap₂ (λ x y. x ++ y) own.3 more.3,
       );
       appended = behind old.out drawn.out new.out p.text q.text p.appended q.appended;

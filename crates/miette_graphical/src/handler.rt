@@ -148,8 +148,8 @@ impl<H: Highlighter> GraphicalReportHandler<H> {
         self
     }
 
-    /// A label at the end of a source that isn't empty is drawn, behind the text of the last line, where it or another
-    /// label there has at least one line of context.
+    /// A label at the end of a source that isn't empty is drawn, behind the text of the last line: where there are no
+    /// lines of context, that source's labels have one then.
     pub fn with_end_labels(mut self) -> Self
         ensures { result ≡ laid_out self (record self.settings.layout { end_labels = true }) }
     {

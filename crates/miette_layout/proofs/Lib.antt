@@ -1,2 +1,3 @@
+pub mod AskedEnds
 pub mod PrimaryOfReads
 pub mod SnippetSequence

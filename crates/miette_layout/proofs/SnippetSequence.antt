@@ -24,7 +24,7 @@ use Rattle.miette_page.specs.rules.Rows.{Row}
 use Rattle.miette_labels.specs.rules.Answers.{Answers, Highlight, first_of}
 use Rattle.miette_labels.specs.rules.Around.{has_own, group_context}
 use Rattle.miette_labels.specs.rules.Contexts.{contents, lines_of_contents}
-use Rattle.miette_layout.specs.views.Outcomes.{MayGive}
+use Rattle.miette_layout.specs.views.Outcomes.{GivesAround}
 use Rattle.miette_snippet_rules.specs.rules.Folds.{Spread, spreads_of}
 use Rattle.miette_snippet_rules.specs.rules.Frames.{Place, refused_row, top_row, bottom_row}
 use Rattle.miette_snippet_rules.specs.rules.Frames.{number_width}
@@ -251,15 +251,21 @@ pub gives_rows : (s : SnippetSettings) (source : Source) (labels : List Label) (
     → IsWhole (settings_around s (in_order labels)) (spreads_of s.layout.label_lines s.layout.context_lines source
     (in_order labels))
     source labels blank happen groups before page →
-    MayGive (record { settings = s; blank = blank; happen = happen }) source labels before (Some page)
+    GivesAround (record { settings = s; blank = blank; happen = happen }) source labels before (Some page)
 gives_rows s source labels blank happen reads groups before page order h g e =
     let ls : List Label = in_order labels in
     let s' : SnippetSettings = settings_around s ls in
-    let answers : Answers = record { label_fails = []; join_fails = g.fails; place_fails = []; pieces = e.pieces } in
+    let answers : Answers = record {
+      end_fails = false;
+      label_fails = [];
+      join_fails = g.fails;
+      place_fails = [];
+      pieces = e.pieces;
+    } in
     let spans : List Span = groups_of s.layout.context_lines source g.fails ls in
     record {
       answers = answers;
-      always = λ a. record { labels = tt; joins = g.always a; places = tt };
+      always = λ a. record { end = refl; labels = tt; joins = g.always a; places = tt };
       pieces = subst (λ (gs : List Span). SnippetsHavePieces s'.layout.context_lines blank source gs e.pieces) g.are
           e.have;
       plain = e.plain;
@@ -295,11 +301,17 @@ pub gives_none : (s : SnippetSettings) (source : Source) (labels : List Label) (
     → AreGroups s.layout.context_lines source (in_order labels) groups → i < length groups
     →
     PointsTo source (chosen_label own span None reads) found → is_unread found ≡ true
-    → MayGive (record { settings = s; blank = blank; happen = happen }) source labels before None
+    → GivesAround (record { settings = s; blank = blank; happen = happen }) source labels before None
 gives_none s source labels blank happen own reads groups i span found before order h g lt p u =
     let ls : List Label = in_order labels in
     let s' : SnippetSettings = settings_around s ls in
-    let answers : Answers = record { label_fails = []; join_fails = g.fails; place_fails = fails_at i; pieces = [] } in
+    let answers : Answers = record {
+      end_fails = false;
+      label_fails = [];
+      join_fails = g.fails;
+      place_fails = fails_at i;
+      pieces = [];
+    } in
     let spans : List Span = groups_of s.layout.context_lines source g.fails ls in
     let failed : source.always_reads ≡ false = unread_fails s.layout.context_lines source labels own span reads found h
     p u in
@@ -325,11 +337,17 @@ pub gives_unread : (s : SnippetSettings) (source : Source) (labels : List Label)
     (happen : List Call → Type 0) (reads : List ReadLabel) (before : Printout) → map (read_of labels) reads
     ≡ in_order labels → All (IsRead s.layout.context_lines source labels) reads →
     IsUnread s.layout.context_lines source (in_order labels) →
-    MayGive (record { settings = s; blank = blank; happen = happen }) source labels before None
+    GivesAround (record { settings = s; blank = blank; happen = happen }) source labels before None
 gives_unread s source labels blank happen reads before order h g =
     let ls : List Label = in_order labels in
     let s' : SnippetSettings = settings_around s ls in
-    let answers : Answers = record { label_fails = []; join_fails = g.fails; place_fails = []; pieces = [] } in
+    let answers : Answers = record {
+      end_fails = false;
+      label_fails = [];
+      join_fails = g.fails;
+      place_fails = [];
+      pieces = [];
+    } in
     let spans : List Span = groups_of s.layout.context_lines source g.fails ls in
     record {
       answers = answers;
@@ -394,7 +412,7 @@ pub gives_refused : (s : SnippetSettings) (source : Source) (labels order : List
     ≡ in_order labels → label
     ≡ get_or labels index label → text ≡ name_of reason →
     page ≡ before ⊕ rows_tokens (refused_row s (record { label = label; name = chars text }) ∷ []) → happen []
-    → MayGive (record { settings = s; blank = blank; happen = happen }) source labels before (Some page)
+    → GivesAround (record { settings = s; blank = blank; happen = happen }) source labels before (Some page)
 gives_refused s source labels order blank happen read index reason label text before page h is same at called e nothing
     =
     let name : List ℕ = chars text in
@@ -407,10 +425,16 @@ gives_refused s source labels order blank happen read index reason label text be
     let refused : refusal source.bytes fails ls ≡ Some (record { label = label; name = name }) =
     ap (refusal source.bytes fails) (sym same) ∙ k.2 ∙ ap (λ l. Some (record { label = l; name = name_of reason })) own
     ∙ ap (λ n. Some (record { label = label; name = n })) (sym names) in
-    let answers : Answers = record { label_fails = fails; join_fails = []; place_fails = []; pieces = [] } in
+    let answers : Answers = record {
+      end_fails = false;
+      label_fails = fails;
+      join_fails = [];
+      place_fails = [];
+      pieces = [];
+    } in
     record {
       answers = answers;
-      always = λ a. record { labels = k.1 a; joins = tt; places = tt };
+      always = λ a. record { end = refl; labels = k.1 a; joins = tt; places = tt };
       pieces = none_have (group_context s.layout.context_lines ls) blank source
           (groups_of s.layout.context_lines source [] ls);
       plain = λ b. refl;

@@ -1,2 +1,3 @@
 -- What the code's values stand for.
 pub mod Outcomes
+pub mod SourceEnds

@@ -1,6 +1,7 @@
 //! The rows of a diagnostic's snippets: which labels are shown together, and what a refused one shows.
 #![tactic(auto)]
 
+mod ends;
 pub mod laws;
 pub mod snippets;
 

@@ -4,12 +4,14 @@ ghost use Rattle.std.specs.Prelude.{◌≡◌, Some, None, map, IfOk, MatchResul
 ghost use Rattle.std.specs.List.{All};
 ghost use Rattle.miette_labels.specs.views.Placing.{told_end};
 ghost use Rattle.miette_labels.specs.views.Reads.{IsRead, name_of as name_of_reason};
-ghost use Rattle.miette_layout.specs.views.Outcomes.{MayGive, RefusesWith, printing_of};
+ghost use Rattle.miette_layout.specs.views.Outcomes.{GivesAround, MayGive, RefusesWith, printing_of};
+ghost use Rattle.miette_layout.specs.views.SourceEnds.{AreEndLines};
 ghost use Rattle.miette_snippet_rules.specs.views.SettingsView.{settings_of};
 ghost use Rattle.miette_labels.specs.views.GivenLabels.{label_at};
 ghost use Rattle.miette_labels.specs.rules.Groups.{in_order};
 ghost use Rattle.miette_snippet_rules.specs.rules.Highlighting.{leaves_plain};
 
+use crate::ends::asks_for_end;
 use miette_drawing::snippet::{Drawing, Passage, Snippet, push_snippet};
 use miette_folds::spreads::spreads;
 use miette_frames::frame::{Frame, push_refused_row};
@@ -25,7 +27,7 @@ use miette_page::page::Page;
 use miette_protocol::error::RenderError;
 use miette_protocol::protocol::LabeledSpan;
 use miette_protocol::source::SourceCode;
-use miette_snippet_rules::options::SnippetSettings;
+use miette_snippet_rules::options::{LayoutOptions, SnippetSettings};
 use std::alloc::AllocError;
 
 // The bare name of a reason.
@@ -67,7 +69,7 @@ fn read_snippets<'a, 'b, S: SourceCode, H: Highlighter, O: Canvas + Drop>(
         ≡ in_order given.now.labels.now }
     requires each { All (IsRead settings.now.layout.now.context_lines (S.source source.now) given.now.labels.now)
         given.now.reads.now }
-    ensures gives { IfOk result (λ made. MayGive
+    ensures gives { IfOk result (λ made. GivesAround
         (printing_of H.is_blank H.may_follow (settings_of settings.now) highlighter.old highlighter.new)
         (S.source source.now) given.now.labels.now page made) }
     ensures stays { leaves_plain H.is_blank highlighter.new ≡ leaves_plain H.is_blank highlighter.old }
@@ -107,15 +109,16 @@ fn read_snippets<'a, 'b, S: SourceCode, H: Highlighter, O: Canvas + Drop>(
     Ok(Some(page))
 }
 
-// All snippets, or the one row of a label that is refused; none where the read of a group or of some place failed.
-fn all_snippets<'b, S: SourceCode, H: Highlighter, O: Canvas + Drop>(
+// All snippets with the lines of context of these settings, or the one row of a label that is refused; none where the
+// read of a group or of some place failed.
+fn snippets_around<'b, S: SourceCode, H: Highlighter, O: Canvas + Drop>(
     highlighter: &mut Option<H>,
     settings: &SnippetSettings<'b>,
     source: &S,
     labels: &'b [LabeledSpan],
     page: Page<O>,
 ) -> Result<Option<Page<O>>, AllocError>
-    ensures gives { IfOk result (λ made. MayGive
+    ensures gives { IfOk result (λ made. GivesAround
         (printing_of H.is_blank H.may_follow (settings_of settings.now) highlighter.old highlighter.new)
         (S.source source.now) labels.now page made) }
     ensures stays { leaves_plain H.is_blank highlighter.new ≡ leaves_plain H.is_blank highlighter.old }
@@ -147,12 +150,56 @@ fn all_snippets<'b, S: SourceCode, H: Highlighter, O: Canvas + Drop>(
     }
 }
 
+// With how many lines of context labels over a source are drawn: where labels at its end are drawn, and there would be
+// no line, it is read to know whether one of these lies there.
+fn end_lines<S: SourceCode>(layout: &LayoutOptions, source: &S, labels: &[LabeledSpan]) -> usize
+    ensures { AreEndLines layout.now (S.source source.now) labels.now result }
+{
+    let lines = layout.context_lines;
+    if !layout.end_labels {
+        return lines;
+    }
+    if lines > 0 {
+        return lines;
+    }
+    if asks_for_end(source, labels) {
+        return 1;
+    }
+    0
+}
+
+// All snippets with the lines of context that labels at the source's end ask for.
+fn all_snippets<'b, S: SourceCode, H: Highlighter, O: Canvas + Drop>(
+    highlighter: &mut Option<H>,
+    settings: &SnippetSettings<'b>,
+    source: &S,
+    labels: &'b [LabeledSpan],
+    page: Page<O>,
+) -> Result<Option<Page<O>>, AllocError>
+    ensures gives { IfOk result (λ made. MayGive
+        (printing_of H.is_blank H.may_follow (settings_of settings.now) highlighter.old highlighter.new)
+        (S.source source.now) labels.now page made) }
+    ensures stays { leaves_plain H.is_blank highlighter.new ≡ leaves_plain H.is_blank highlighter.old }
+{
+    let context_lines = end_lines(settings.layout, source, labels);
+    let layout = LayoutOptions {
+        context_lines,
+        ..*settings.layout
+    };
+    let settings = SnippetSettings {
+        layout: &layout,
+        ..*settings
+    };
+    snippets_around(highlighter, &settings, source, labels, page)
+}
+
 /// Prints the rows of a diagnostic's snippets, whose labels are given over its source, behind what the page holds:
 /// frames, numbered lines, marks and the labels' texts; or the one row of the first label that is refused. A
 /// highlighter styles the lines: it is restarted for each snippet with the contents of the snippet's read, and is then
-/// given the text of each line in order, decoded. Fails with `Refused` where a group of labels with their own numbers
-/// of context lines or a label's place can't be read, which a source that always reads never does, and with `Memory`
-/// where memory is refused, to the highlighter too.
+/// given the text of each line in order, decoded. Where labels at the source's end are drawn, and one of them asks for
+/// the last line, all that have no number of their own have at least one line of context. Fails with `Refused` where a
+/// group of labels with their own numbers of context lines or a label's place can't be read, which a source that always
+/// reads never does, and with `Memory` where memory is refused, to the highlighter too.
 pub fn snippets<'b, S: SourceCode, H: Highlighter, O: Canvas + Drop>(
     highlighter: &mut Option<H>,
     settings: &SnippetSettings<'b>,

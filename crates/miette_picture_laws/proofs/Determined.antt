@@ -24,9 +24,9 @@ use Rattle.miette_snippet_rules.specs.rules.Frames.{refused_row, top_row, bottom
 use Rattle.miette_snippet_rules.specs.rules.Gutters.{gutter_columns}
 use Rattle.miette_snippet_rules.specs.rules.Highlighting.{decoded_text, group_calls, highlight_of, line_calls}
 use Rattle.miette_snippet_rules.specs.rules.Highlighting.{piece_of, texts_of}
-use Rattle.miette_snippet_rules.specs.rules.SnippetLayout.{all_snippets, cells_of, drawn_labels, left_out}
+use Rattle.miette_snippet_rules.specs.rules.SnippetLayout.{all_snippets, cells_of, drawn_labels, end_settings}
 use Rattle.miette_snippet_rules.specs.rules.SnippetLayout.{SnippetContext, snippet_context, line_or_break, place_of}
-use Rattle.miette_snippet_rules.specs.rules.SnippetLayout.{rows_of_lines, rows_unless, settings_around}
+use Rattle.miette_snippet_rules.specs.rules.SnippetLayout.{left_out, rows_of_lines, rows_unless, settings_around}
 use Rattle.miette_tree.specs.rules.Tree.{Tree, tree, Cause, diagnostic, texts, Trees, no_trees, more_trees, effective}
 use Rattle.miette_tree.specs.rules.Reads.{always_reads}
 use Rattle.miette_graphical.specs.rules.PossibleAnswers.{IsAskedText, AreAnswers, AreCauseAnswers, AreRelatedAnswers}
@@ -155,16 +155,17 @@ unless follow same l source labels some others None =
 -- over one source, where no read of it failed
 over_one : (follow : List Call → Type 0) → IsDetermined follow → (s : Settings) (source : Option Source)
     (labels : List Label) (a b : SourceAnswer) → a ≡ pieces_listed a.pieces → b ≡ pieces_listed b.pieces
-    → Determine follow (source_calls s.layout.context_lines source labels a)
-    (source_calls s.layout.context_lines source labels b)
+    → Determine follow (source_calls s.layout source labels a)
+    (source_calls s.layout source labels b)
     (source_rows s source labels a ≡ source_rows s source labels b)
 over_one follow same s None labels a b p q = no_calls refl
 over_one follow same s (Some source) labels a b p q =
-    let context = s.layout.context_lines in
+    let layout = s.layout in
     let D : SourceAnswer → SourceAnswer → Type 0 = λ x y. Determine follow
-    (source_calls context (Some source) labels x) (source_calls context (Some source) labels y)
+    (source_calls layout (Some source) labels x) (source_calls layout (Some source) labels y)
     (source_rows s (Some source) labels x ≡ source_rows s (Some source) labels y) in
-    let d = unless follow same (snippet_settings s) source (in_order labels) a.pieces b.pieces
+    let d = unless follow same (end_settings (snippet_settings s) false source labels) source (in_order labels) a.pieces
+    b.pieces
     (refusal source.bytes [] (in_order labels)) in
     let listed : D (pieces_listed a.pieces) (pieces_listed b.pieces) = so_that d (λ e. ap shown_rows e) in
     subst (λ x. D x b) (sym p) (subst (λ y. D (pieces_listed a.pieces) y) (sym q) listed)
@@ -172,7 +173,7 @@ over_one follow same s (Some source) labels a b p q =
 over_each : (follow : List Call → Type 0) → IsDetermined follow → (l : snippets.SnippetSettings) (blank : Bool)
     (s : Settings) (sources : List LabelledSource) (a b : SourceAnswers) → AreAnswersOver l blank sources a
     → AreAnswersOver l blank sources b → sources_read sources ≡ true
-    → Determine follow (calls_over s.layout.context_lines sources a) (calls_over s.layout.context_lines sources b)
+    → Determine follow (calls_over s.layout sources a) (calls_over s.layout sources b)
     (rows_over s sources a ≡ rows_over s sources b)
 over_each follow same l blank s [] a b h k e = no_calls refl
 over_each follow same l blank s (it ∷ more) a b h k e =
@@ -187,7 +188,7 @@ over_each follow same l blank s (it ∷ more) a b h k e =
 own : (follow : List Call → Type 0) → IsDetermined follow → (l : snippets.SnippetSettings) (blank : Bool)
     (s : Settings) (source : Option Source) (m : Diagnosis) (a b : Answer) → IsAnswer l blank source m a
     → IsAnswer l blank source m b → reads_all (over source m) ≡ true
-    → Determine follow (own_calls s.layout.context_lines source m a) (own_calls s.layout.context_lines source m b)
+    → Determine follow (own_calls s.layout source m a) (own_calls s.layout source m b)
     (drawn_text whole_drawing s m source a ≡ drawn_text whole_drawing s m source b)
 own follow same l blank s source m a b h k e =
     let p = and_parts (sources_read (sources_of source m)) (reads_for source m.fixes) e in
@@ -276,8 +277,8 @@ mutual
       (s : Settings) (outer : Option Severity) (inherited : Option Source) (c : Cause) (a b : Answers) (nested : Bool)
       → s.related_as_nested ≡ nested → AreCauseAnswers l blank inherited c a → AreCauseAnswers l blank inherited c b
       → all_read (printed_causes nested inherited c) ≡ true
-      → Determine follow (cause_calls s.layout.context_lines nested inherited c a)
-      (cause_calls s.layout.context_lines nested inherited c b)
+      → Determine follow (cause_calls s.layout nested inherited c a)
+      (cause_calls s.layout nested inherited c b)
       (causes_text whole_drawing s outer inherited c a ≡ causes_text whole_drawing s outer inherited c b)
   causes follow same l blank s outer inherited (texts ts) a b nested w h k e = no_calls refl
   causes follow same l blank s outer inherited (diagnostic (tree m its c r)) a b nested w h k e =
@@ -297,8 +298,8 @@ mutual
       (s : Settings) (outer : Option Severity) (inherited : Option Source) (ts : Trees) (a b : RelatedAnswers)
       (nested : Bool) → s.related_as_nested ≡ nested → AreRelatedAnswers l blank inherited ts a
       → AreRelatedAnswers l blank inherited ts b → all_read (printed_related nested inherited ts) ≡ true
-      → Determine follow (related_calls s.layout.context_lines nested inherited ts a)
-      (related_calls s.layout.context_lines nested inherited ts b)
+      → Determine follow (related_calls s.layout nested inherited ts a)
+      (related_calls s.layout nested inherited ts b)
       (related_text whole_drawing s outer inherited ts a ≡ related_text whole_drawing s outer inherited ts b)
   related follow same l blank s outer inherited no_trees a b nested w h k e = no_calls refl
   related follow same l blank s outer inherited (more_trees (tree m its c r) ts) a b true w h k e =
@@ -337,8 +338,8 @@ root : (follow : List Call → Type 0) → IsDetermined follow → (l : snippets
     (s : Settings) (m : Diagnosis) (its : Option Source) (c : Cause) (a b : Answers) (chain : Bool)
     → (chain ≡ true → AreCauseAnswers l blank its c a) → (chain ≡ true → AreCauseAnswers l blank its c b)
     → all_read (if chain then printed_causes s.related_as_nested its c else []) ≡ true
-    → Determine follow (if chain then cause_calls s.layout.context_lines s.related_as_nested its c a else [])
-    (if chain then cause_calls s.layout.context_lines s.related_as_nested its c b else [])
+    → Determine follow (if chain then cause_calls s.layout s.related_as_nested its c a else [])
+    (if chain then cause_calls s.layout s.related_as_nested its c b else [])
     (only_if chain (causes_text whole_drawing s m.severity its c a)
     ≡ only_if chain (causes_text whole_drawing s m.severity its c b))
 root follow same l blank s m its c a b true h k e =

@@ -31,7 +31,8 @@ use Rattle.miette_graphical.specs.rules.Settings.{Settings}
 use Rattle.miette_graphical.specs.rules.Snippets.{rows_over, runs_of_row, source_rows}
 use Rattle.miette_graphical.specs.rules.Sources.{LabelledSource, after_labels}
 use Rattle.miette_graphical.specs.laws.CharacterSets.{AreNarrow}
-use Rattle.miette_graphical.specs.laws.Headline.{ShowsRanges, drawn_labels, group_settings, groups_of, line_of}
+use Rattle.miette_graphical.specs.laws.Headline.{ShowsRanges, context_of, drawn_labels, group_settings, groups_of}
+use Rattle.miette_graphical.specs.laws.Headline.{line_of}
 use Rattle.miette_graphical.proofs.NarrowCharacters.{is_narrow}
 use Rattle.miette_picture_laws.specs.laws.ShownLines.{ShownLinesShow, ShownLinesStand, SourcesStand}
 use Rattle.miette_picture_laws.specs.laws.ShownLines.{StandAmong, pieces_at, range_at, range_context, rows_at}
@@ -155,16 +156,17 @@ snippets_are context (byte ∷ bytes) labels before range behind there = refl
 pub lines_stand : (s : Settings) (source : Source) (labels : List Label) → ShowsRanges s source labels
     → ShownLinesStand s source labels
 lines_stand s source labels shows place pieces h =
-    let kept : ℕ → Bool = is_kept s.layout.label_lines s.layout.context_lines source.bytes labels in
-    let own : SnippetSettings = group_settings s labels in
+    let kept : ℕ → Bool = is_kept s.layout.label_lines (context_of s source labels) source.bytes labels in
+    let own : SnippetSettings = group_settings s source labels in
     let drawn : List DrawnLabel = drawn_labels s source labels in
     let groups : List Span = groups_of s source labels in
-    let shown : List (List ℕ) = snippets s.layout.context_lines source.bytes labels in
+    let shown : List (List ℕ) = snippets (context_of s source labels) source.bytes labels in
     let range : List ℕ = range_at place in
     let rows : List (List ℕ) → List (List Row) = rows_of_ranges kept own drawn source.bytes pieces in
     let body : List Row = range_rows kept own drawn source.bytes (first_of (drop (length place.before) pieces)) range in
     let is : shown ≡ place.before ++ range ∷ place.behind =
-    snippets_are s.layout.context_lines source.bytes labels place.before range place.behind place.there ∙ place.there in
+    snippets_are (context_of s source labels) source.bytes labels place.before range place.behind place.there
+    ∙ place.there in
     let parts = parted_at kept own drawn source.bytes pieces place.before range place.behind in
     let bodies : rows shown ≡ rows place.before ++ body ∷ parts.0 = ap rows is ∙ parts.1 in
     let many : length groups ≡ length (rows place.before ++ body ∷ parts.0) =
@@ -218,8 +220,8 @@ lines_show s source labels narrow shows place pieces =
     let drawn : List DrawnLabel = drawn_labels s source labels in
     let range : List ℕ = range_at place in
     let columns : ℕ = gutter_columns drawn (map (line_of source) range) in
-    line_shown (group_settings s labels) (range_width range) columns drawn source.bytes (line_of source place.line)
-    (place.line + 1) (pieces_at place pieces) (is_narrow s.theme.characters narrow)
+    line_shown (group_settings s source labels) (range_width range) columns drawn source.bytes
+    (line_of source place.line) (place.line + 1) (pieces_at place pieces) (is_narrow s.theme.characters narrow)
     (at_mapped (λ line. HasRoom drawn line columns) (line_of source) place.front place.line place.back
     (all_room drawn (map (line_of source) range)))
     (wide_enough place.front place.line place.back

@@ -16,7 +16,9 @@ use Rattle.miette_highlight.specs.declared.tokens.OpenPart.{OpenPart}
 use Rattle.miette_labels.specs.rules.Answers.{Highlight}
 use Rattle.miette_labels.specs.rules.Around.{group_context}
 use Rattle.miette_labels.specs.rules.Groups.{groups_of, in_order, refusal}
+use Rattle.miette_snippet_rules.specs.declared.options.LayoutOptions.{LayoutOptions}
 use Rattle.miette_snippet_rules.specs.rules.Highlighting.{follows, group_calls}
+use Rattle.miette_snippet_rules.specs.rules.SnippetLayout.{end_lines}
 use Rattle.miette_tree.specs.rules.Diagnosis.{Diagnosis}
 use Rattle.miette_tree.specs.rules.Tree.{Tree, tree, Cause, diagnostic, texts, Trees, no_trees, more_trees, effective}
 use Rattle.miette_graphical.specs.rules.Answers.{Answer, Answers, RelatedAnswers, SourceAnswer, SourceAnswers}
@@ -25,7 +27,7 @@ use Rattle.miette_graphical.specs.rules.Answers.{related_answers}
 use Rattle.miette_graphical.specs.rules.Calls.{calls_over, cause_calls, own_calls, related_calls, report_calls}
 use Rattle.miette_graphical.specs.rules.Calls.{source_calls}
 use Rattle.miette_graphical.specs.rules.Settings.{Settings}
-use Rattle.miette_graphical.specs.rules.Sources.{LabelledSource, sources_of}
+use Rattle.miette_graphical.specs.rules.Sources.{LabelledSource, layout_with, sources_of}
 use Rattle.miette_program.specs.declared.language.LanguageHighlighter.{LanguageHighlighter}
 use Rattle.miette_program.specs.rules.LanguageRules.{TokensFollow}
 use Rattle.miette_program.specs.steps.JobHandler.{HappenLater, IsLed, highlighter_of}
@@ -57,65 +59,67 @@ of_groups : (context : ℕ) (source : Source) (groups : List Span) (pieces : Lis
 of_groups context source [] pieces = tt
 of_groups context source (group ∷ groups) pieces = tt
 
-of_source : (context : ℕ) (source : Option Source) (labels : List Label) (a : SourceAnswer)
-    → Restarts (source_calls context source labels a)
-of_source context None labels a = tt
-of_source context (Some source) labels a =
+of_source : (layout : LayoutOptions) (source : Option Source) (labels : List Label) (a : SourceAnswer)
+    → Restarts (source_calls layout source labels a)
+of_source layout None labels a = tt
+of_source layout (Some source) labels a =
+    let context = end_lines layout a.end_fails source labels in
     let groups = groups_of context source a.join_fails (in_order labels) in
     where_not (is_some (refusal source.bytes a.label_fails (in_order labels)))
     (group_calls (group_context context (in_order labels)) source groups a.pieces)
     (of_groups (group_context context (in_order labels)) source groups a.pieces)
 
-over : (context : ℕ) (sources : List LabelledSource) (a : SourceAnswers) → Restarts (calls_over context sources a)
-over context [] a = tt
-over context (it ∷ more) a =
-    both (source_calls context it.source it.labels (first_source a)) (calls_over context more (drop 1 a))
-    (of_source context it.source it.labels (first_source a)) (over context more (drop 1 a))
+over : (layout : LayoutOptions) (sources : List LabelledSource) (a : SourceAnswers)
+    → Restarts (calls_over layout sources a)
+over layout [] a = tt
+over layout (it ∷ more) a =
+    both (source_calls layout it.source it.labels (first_source a)) (calls_over layout more (drop 1 a))
+    (of_source layout it.source it.labels (first_source a)) (over layout more (drop 1 a))
 
-of_own : (context : ℕ) (source : Option Source) (m : Diagnosis) (a : Answer)
-    → Restarts (own_calls context source m a)
-of_own context source m a = over context (sources_of source m) a.sources
+of_own : (layout : LayoutOptions) (source : Option Source) (m : Diagnosis) (a : Answer)
+    → Restarts (own_calls layout source m a)
+of_own layout source m a = over (layout_with m.snippets layout) (sources_of source m) a.sources
 
 mutual
-  of_cause : (context : ℕ) (nested : Bool) (inherited : Option Source) (c : Cause) (a : Answers)
-      → Restarts (cause_calls context nested inherited c a)
-  of_cause context nested inherited (texts ts) a = tt
-  of_cause context nested inherited (diagnostic (tree m own c r)) a =
+  of_cause : (layout : LayoutOptions) (nested : Bool) (inherited : Option Source) (c : Cause) (a : Answers)
+      → Restarts (cause_calls layout nested inherited c a)
+  of_cause layout nested inherited (texts ts) a = tt
+  of_cause layout nested inherited (diagnostic (tree m own c r)) a =
       let source = effective own inherited in
-      let own_ones = own_calls context source m (own_answer a) in
-      let below = related_calls context nested source r (related_answers a) in
-      both (own_ones ++ below) (cause_calls context nested inherited c (cause_answers a))
-      (both own_ones below (of_own context source m (own_answer a))
-      (of_related context nested source r (related_answers a)))
-      (of_cause context nested inherited c (cause_answers a))
+      let own_ones = own_calls layout source m (own_answer a) in
+      let below = related_calls layout nested source r (related_answers a) in
+      both (own_ones ++ below) (cause_calls layout nested inherited c (cause_answers a))
+      (both own_ones below (of_own layout source m (own_answer a))
+      (of_related layout nested source r (related_answers a)))
+      (of_cause layout nested inherited c (cause_answers a))
 
-  of_related : (context : ℕ) (nested : Bool) (inherited : Option Source) (ts : Trees) (more : RelatedAnswers)
-      → Restarts (related_calls context nested inherited ts more)
-  of_related context nested inherited no_trees more = tt
-  of_related context nested inherited (more_trees (tree m own c r) ts) more =
+  of_related : (layout : LayoutOptions) (nested : Bool) (inherited : Option Source) (ts : Trees) (more : RelatedAnswers)
+      → Restarts (related_calls layout nested inherited ts more)
+  of_related layout nested inherited no_trees more = tt
+  of_related layout nested inherited (more_trees (tree m own c r) ts) more =
       let source = effective own inherited in
       let a = first_answers more in
-      let caused = cause_calls context nested source c (cause_answers a) in
-      let own_ones = own_calls context source m (own_answer a) in
-      let below = related_calls context nested source r (related_answers a) in
+      let caused = cause_calls layout nested source c (cause_answers a) in
+      let own_ones = own_calls layout source m (own_answer a) in
+      let below = related_calls layout nested source r (related_answers a) in
       both ((if nested then [] else caused) ++ (own_ones ++ below))
-      (related_calls context nested inherited ts (later_answers more))
+      (related_calls layout nested inherited ts (later_answers more))
       (both (if nested then [] else caused) (own_ones ++ below)
-      (where_not nested caused (of_cause context nested source c (cause_answers a)))
-      (both own_ones below (of_own context source m (own_answer a))
-      (of_related context nested source r (related_answers a))))
-      (of_related context nested inherited ts (later_answers more))
+      (where_not nested caused (of_cause layout nested source c (cause_answers a)))
+      (both own_ones below (of_own layout source m (own_answer a))
+      (of_related layout nested source r (related_answers a))))
+      (of_related layout nested inherited ts (later_answers more))
 
 of_report : (s : Settings) (t : Tree) (a : Answers) → Restarts (report_calls s t a)
 of_report s (tree m own c r) a =
-    let context = s.layout.context_lines in
+    let layout = s.layout in
     let nested = s.related_as_nested in
-    let caused = cause_calls context nested own c (cause_answers a) in
-    let own_ones = own_calls context own m (own_answer a) in
-    let below = related_calls context nested own r (related_answers a) in
+    let caused = cause_calls layout nested own c (cause_answers a) in
+    let own_ones = own_calls layout own m (own_answer a) in
+    let below = related_calls layout nested own r (related_answers a) in
     both (if s.cause_chain then caused else []) (own_ones ++ below)
-    (where_so s.cause_chain caused (of_cause context nested own c (cause_answers a)))
-    (both own_ones below (of_own context own m (own_answer a)) (of_related context nested own r (related_answers a)))
+    (where_so s.cause_chain caused (of_cause layout nested own c (cause_answers a)))
+    (both own_ones below (of_own layout own m (own_answer a)) (of_related layout nested own r (related_answers a)))
 
 -- ---- what is open
 

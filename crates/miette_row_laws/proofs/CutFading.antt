@@ -12,7 +12,8 @@ use Rattle.miette_page.specs.rules.Rows.{Run}
 use Rattle.miette_style.specs.rules.Styles.{plain}
 use Rattle.miette_style.specs.rules.Themes.{Styles, Theme}
 use Rattle.miette_snippet_rules.specs.rules.CutEnds.{hung_at, mark_ends, spread_ends}
-use Rattle.miette_snippet_rules.specs.rules.CutLines.{Stretch, agree, bytes_in, cut_line, cut_runs, cut_to, dots}
+use Rattle.miette_snippet_rules.specs.rules.CutLines.{Stretch, agree, bytes_in, cut_by, cut_line, cut_line_by}
+use Rattle.miette_snippet_rules.specs.rules.CutLines.{cut_runs, cut_to, dots}
 use Rattle.miette_snippet_rules.specs.rules.CutLines.{has_room, is_kept, is_near, limit_of, onto_stretches}
 use Rattle.miette_snippet_rules.specs.rules.CutLines.{passes_after, pieces_within, reach_of, row_mark, shown_marks}
 use Rattle.miette_snippet_rules.specs.rules.CutLines.{shown_runs, stretches, with_short}
@@ -110,6 +111,21 @@ cut_clean many (Some limit) all cells h =
     by_cases {C = IfSome (cut_line many (Some limit) all cells) (AllByRecursion IsCleanStretch)}
     (ltb (limit_of limit) (cells_width 0 cells))
     (λ y. rw y (cut_to_clean (limit_of limit) many all cells h))
+    (λ n. rw n tt)
+
+cut_by_clean : (limit many reach : ℕ) (all : List ℕ) (cells : List Cell) → AreCleanCells cells
+    → AllByRecursion IsCleanStretch (cut_by limit many reach all cells)
+cut_by_clean limit many reach [] cells h = cut_to_clean limit many [] cells h
+cut_by_clean limit many reach (e ∷ es) cells h =
+    let near : Cell → Bool = is_near reach (e ∷ es) in
+    short_clean many (stretches near false cells) (stretches_clean near false cells h)
+
+pub cut_line_by_clean : (many limit reach : ℕ) (all : List ℕ) (cells : List Cell) → AreCleanCells cells
+    → IfSome (cut_line_by many limit reach all cells) (AllByRecursion IsCleanStretch)
+cut_line_by_clean many limit reach all cells h =
+    by_cases {C = IfSome (cut_line_by many limit reach all cells) (AllByRecursion IsCleanStretch)}
+    (ltb (limit_of limit) (cells_width 0 cells))
+    (λ y. rw y (cut_by_clean (limit_of limit) many reach all cells h))
     (λ n. rw n tt)
 
 -- ---- the text of a line in plain

@@ -154,7 +154,7 @@ unless_alike a s source labels answers None none =
     source labels
     answers.pieces groups (shows_around s.layout.context_lines (length source.bytes) labels ∙ none))
 
-shows_ordered : (context n : ℕ) (labels : List Label) → some_shows_end context n (in_order labels)
+pub shows_ordered : (context n : ℕ) (labels : List Label) → some_shows_end context n (in_order labels)
     ≡ some_shows_end context n labels
 shows_ordered context n labels =
     ap (λ own. list_any (λ l. shows_end n (unwrap_or l.context (cond own (max 1 context) context)) l) (in_order labels))

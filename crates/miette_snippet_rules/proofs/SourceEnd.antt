@@ -33,11 +33,11 @@ use Rattle.miette_snippet_rules.specs.rules.Settings.{SnippetSettings}
 
 -- ---- one read
 
-abbrev lends : ℕ → Source → Span → Bool
+abbrev pub lends : ℕ → Source → Span → Bool
 lends c source span = ltb (contents c source span).span.offset span.offset
     && eqb (end_of_span (contents c source span).span) span.offset
 
-abbrev ends_there : ℕ → ℕ → ℕ → Bool
+abbrev pub ends_there : ℕ → ℕ → ℕ → Bool
 ends_there n offset c = ltb 0 n && (eqb offset n && ltb 0 c)
 
 some_tells : (c : ℕ) (source : Source) (span : Span) → 1 ≤ c → 0 < length source.bytes → span.offset
@@ -83,7 +83,7 @@ none_tells c source span le none =
     and_left _ _ (le-ltb (contents c source span).span.offset span.offset (omega (arith, le, none)))
     ∙ sym (and_left _ _ (le-ltb 0 (length source.bytes) (omega (arith, none))))
 
-tells : (c : ℕ) (source : Source) (span : Span) → span.offset ≤ length source.bytes → lends c source span
+pub tells : (c : ℕ) (source : Source) (span : Span) → span.offset ≤ length source.bytes → lends c source span
     ≡ ends_there (length source.bytes) span.offset c
 tells zero source span le =
     and_left _ _ (le-ltb span.offset span.offset (omega arith))
@@ -132,7 +132,7 @@ told_all context source labels (r ∷ rs) h =
 
 -- the labels by offset, with the lines of context with which their groups are read
 
-any_same : (p q : Label → Bool) → ((l : Label) → p l ≡ q l) → (ls : List Label) → list_any p ls ≡ list_any q ls
+pub any_same : (p q : Label → Bool) → ((l : Label) → p l ≡ q l) → (ls : List Label) → list_any p ls ≡ list_any q ls
 any_same p q same [] = refl
 any_same p q same (l ∷ ls) = ap (λ b. b || list_any p ls) (same l) ∙ ap (λ b. q l || b) (any_same p q same ls)
 

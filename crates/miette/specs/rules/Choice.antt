@@ -1,7 +1,7 @@
 -- Which handler options and a terminal choose, and how it is set. Of several places that may say it, the first that
 -- does counts.
 use Rattle.std.specs.Prelude.{◌≡◌, ℕ, Bool, true, false, not, ◌&&◌, List, Option, Some, None, is_some, if◌then◌else◌}
-use Rattle.std.specs.Prelude.{unwrap_or, option_map, chars, codes, string_bytes, max}
+use Rattle.std.specs.Prelude.{unwrap_or, option_map, chars, codes, string_bytes}
 use Rattle.std.specs.Str.{bytes_eq}
 use Rattle.miette_style.specs.rules.Themes.{Styles, Theme, ansi_styles, ascii_characters, no_styles}
 use Rattle.miette_style.specs.rules.Themes.{rgb_styles, unicode_characters}
@@ -35,12 +35,6 @@ abbrev pub chosen_line_columns : {H : Type 0} → Options H → Terminal → Opt
 chosen_line_columns o t =
     if o.fit_lines then Some (unwrap_or o.layout.line_columns (chosen_width o t)) else o.layout.line_columns
 
--- How many lines are shown around a label: as was set, and at least one where labels at the end of a source are drawn,
--- which stand on its last line.
-abbrev pub chosen_context_lines : {H : Type 0} → Options H → ℕ
-chosen_context_lines o =
-    if o.layout.end_labels then max o.layout.context_lines 1 else o.layout.context_lines
-
 abbrev pub chosen_urls : {H : Type 0} → Options H → Terminal → UrlMode
 chosen_urls o t = links_shown (unwrap_or o.links t.hyperlinks)
 
@@ -70,7 +64,7 @@ chosen_highlighter o t = if takes_colours o t then o.highlighter else None
 abbrev pub picture_settings : {H : Type 0} → Options H → Terminal → Settings
 picture_settings o t =
     record (default_settings (chosen_theme o t)) {
-      layout = record o.layout { context_lines = chosen_context_lines o; line_columns = chosen_line_columns o t };
+      layout = record o.layout { line_columns = chosen_line_columns o t };
       wrapping = o.wrapping;
       width = chosen_width o t;
       urls = chosen_urls o t;

@@ -310,7 +310,7 @@ impl<H: Highlighter> MietteHandlerOpts<H> {
     }
 
     /// Whether a label at the end of a source that isn't empty is drawn in pictures, behind the text of the last line;
-    /// else it isn't. So that this line is shown, no context lines count as one then.
+    /// else it isn't. Where no lines are shown around labels, those over that source have one then.
     pub fn end_labels(mut self, drawn: bool) -> Self
         ensures { result ≡ record self { layout = record self.layout { end_labels = drawn } } }
     {

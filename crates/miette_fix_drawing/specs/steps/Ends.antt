@@ -22,5 +22,5 @@ all_ends text start bytes [] = []
 all_ends text start bytes (span ∷ spans) = span_ends text start bytes span ++ all_ends text start bytes spans
 
 -- the stretches of a changed line, by their counts
-abbrev pub line_cut : SnippetSettings → ChangedLine → Option (List MadeStretch)
-line_cut s line = option_map (map measure) (changed_cut s line)
+abbrev pub line_cut : SnippetSettings → ChangedLine → Option ChangedLine → Option (List MadeStretch)
+line_cut s line other = option_map (map measure) (changed_cut s line other)

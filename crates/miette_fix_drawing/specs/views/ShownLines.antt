@@ -1,31 +1,46 @@
 -- Lines that are shown, as a program has them.
-use Rattle.std.specs.Prelude.{ℕ, ◌+◌, ◌<◌, ◌^◌, length, List, [], ◌∷◌, Option, Some, None, option_copied}
+use Rattle.std.specs.Prelude.{ℕ, ◌+◌, ◌-◌, ◌<◌, ◌^◌, length, List, [], ◌∷◌, Option, Some, None}
+use Rattle.std.specs.Option.{option_map}
 use Rattle.std.specs.List.{flat_map}
 use Rattle.miette_fix_rows.specs.rules.Blocks.{line_texts}
-use Rattle.miette_fix_rows.specs.rules.DiffFrames.{DiffLine, Standing, kept, removed, added, kept_lines, removed_with}
-use Rattle.miette_fix_rows.specs.rules.DiffFrames.{added_with}
+use Rattle.miette_fix_rows.specs.rules.DiffFrames.{DiffLine, OtherLine, Standing, kept, removed, added, kept_lines}
+use Rattle.miette_fix_rows.specs.rules.DiffFrames.{added_with, other_line, removed_with}
 use Rattle.miette_fix_drawing.specs.declared.segments.Segment.{Segment}
+use Rattle.miette_fix_drawing.specs.declared.segments.OtherText.{OtherText}
 use Rattle.miette_fix_drawing.specs.declared.segments.ShownLine.{ShownLine}
 use Rattle.miette_fix_drawing.specs.declared.segments.Kind.{Kind}
 use Rattle.miette_fix_drawing.specs.declared.segments.Kind.TheVariants.{Kept, Removed, Added}
 
+abbrev pub other_of : OtherText → OtherLine
+other_of other = other_line other.text.now other.away
+
 -- a line by what becomes of it
-abbrev pub line_by : Kind → List ℕ → Option (List ℕ) → DiffLine
+abbrev pub line_by : Kind → List ℕ → Option OtherLine → DiffLine
 line_by Kept text other = kept text
 line_by Removed text other = removed text other
 line_by Added text other = added text other
 
 abbrev pub line_of_shown : ShownLine → DiffLine
-line_of_shown line = line_by line.kind line.text.now (option_copied line.other)
+line_of_shown line = line_by line.kind line.text.now (option_map other_of line.other)
 
 -- lines one behind the other, with those that go with them
-abbrev pub lines_by : Kind → List (List ℕ) → List (List ℕ) → List DiffLine
-lines_by Kept lines others = kept_lines lines
-lines_by Removed lines others = removed_with lines others
-lines_by Added lines others = added_with lines others
+abbrev pub lines_by : Kind → ℕ → List (List ℕ) → List (List ℕ) → List DiffLine
+lines_by Kept away lines others = kept_lines lines
+lines_by Removed away lines others = removed_with away lines others
+lines_by Added away lines others = added_with away lines others
+
+-- where the next of the others stands, behind one of so many bytes
+abbrev pub away_behind : Kind → ℕ → ℕ → ℕ
+away_behind Kept away size = away
+away_behind Removed away size = away + size
+away_behind Added away size = away - size
+
+abbrev pub away_past : Kind → ℕ → Option (List ℕ) → ℕ
+away_past kind away None = away
+away_past kind away (Some text) = away_behind kind away (length text)
 
 abbrev pub lines_of_segment : Segment → List DiffLine
-lines_of_segment it = lines_by it.kind (line_texts it.lines.now) (line_texts it.others.now)
+lines_of_segment it = lines_by it.kind it.away (line_texts it.lines.now) (line_texts it.others.now)
 
 abbrev pub lines_of_segments : List Segment → List DiffLine
 lines_of_segments list = flat_map lines_of_segment list

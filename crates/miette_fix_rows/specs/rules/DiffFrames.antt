@@ -1,34 +1,56 @@
 -- Which lines of a diff are shown, and in which frames.
 use Rattle.std.specs.Prelude.{ℕ, ◌+◌, ◌-◌, List, [], ◌∷◌, ◌++◌, length, map, take, drop, Option, Some, None}
 use Rattle.std.specs.Prelude.{Bool, true, false, ◌&&◌, nat_le, if◌then◌else◌}
-use Rattle.std.specs.List.{flat_map}
 use Rattle.miette_fix_rows.specs.rules.Hunks.{Change, Hunk, Diff, removed_lines, added_lines}
 use Rattle.miette_fix_rows.specs.rules.Blocks.{bytes_of}
+
+-- The line that goes with a changed one, with its terminator, and where it stands among the changes with no unchanged
+-- line between them: of an added one, how many bytes the added lines in front of it have; of a removed one, how many it
+-- and the removed lines behind it have.
+pub record OtherLine : Type 0 where
+  pub text : List ℕ
+  pub away : ℕ
+
+abbrev pub other_line : List ℕ → ℕ → OtherLine
+other_line text away = record { text = text; away = away }
 
 -- A line that is shown, with its terminator: one that stays, a removed or an added one. With these stands the line that
 -- goes with it, if there is one: a block's first removed line goes with its first added one, and so on.
 pub data DiffLine : Type 0 where
   kept : List ℕ → DiffLine
-  removed : List ℕ → Option (List ℕ) → DiffLine
-  added : List ℕ → Option (List ℕ) → DiffLine
+  removed : List ℕ → Option OtherLine → DiffLine
+  added : List ℕ → Option OtherLine → DiffLine
 
-abbrev pub removed_with : List (List ℕ) → List (List ℕ) → List DiffLine
-removed_with [] others = []
-removed_with (line ∷ lines) [] = removed line None ∷ removed_with lines []
-removed_with (line ∷ lines) (other ∷ others) = removed line (Some other) ∷ removed_with lines others
+-- removed lines with added ones, in front of which so many bytes are added
+abbrev pub removed_with : ℕ → List (List ℕ) → List (List ℕ) → List DiffLine
+removed_with away [] others = []
+removed_with away (line ∷ lines) [] = removed line None ∷ removed_with away lines []
+removed_with away (line ∷ lines) (other ∷ others) =
+    removed line (Some (other_line other away)) ∷ removed_with (away + length other) lines others
 
-abbrev pub added_with : List (List ℕ) → List (List ℕ) → List DiffLine
-added_with [] others = []
-added_with (line ∷ lines) [] = added line None ∷ added_with lines []
-added_with (line ∷ lines) (other ∷ others) = added line (Some other) ∷ added_with lines others
+-- added lines with removed ones, from the first of which on so many bytes are removed
+abbrev pub added_with : ℕ → List (List ℕ) → List (List ℕ) → List DiffLine
+added_with away [] others = []
+added_with away (line ∷ lines) [] = added line None ∷ added_with away lines []
+added_with away (line ∷ lines) (other ∷ others) =
+    added line (Some (other_line other away)) ∷ added_with (away - length other) lines others
 
 abbrev pub kept_lines : List (List ℕ) → List DiffLine
 kept_lines lines = map (λ line. kept line) lines
 
+abbrev pub removed_from : ℕ → List Change → List DiffLine
+removed_from away [] = []
+removed_from away (change ∷ changes) =
+    removed_with away change.removed change.added ++ removed_from (away + bytes_of change.added) changes
+
+abbrev pub added_from : ℕ → List Change → List DiffLine
+added_from away [] = []
+added_from away (change ∷ changes) =
+    added_with away change.added change.removed ++ added_from (away - bytes_of change.removed) changes
+
 -- of changes with no unchanged line between them the removed lines stand first
 abbrev pub changed_lines : List Change → List DiffLine
-changed_lines changes = flat_map (λ change. removed_with change.removed change.added) changes
-    ++ flat_map (λ change. added_with change.added change.removed) changes
+changed_lines changes = removed_from 0 changes ++ added_from (bytes_of (removed_lines changes)) changes
 
 -- how many lines of the source and of the applied text stand before one, and how many bytes
 pub record Standing : Type 0 where

@@ -1,11 +1,13 @@
 -- The rows of a fix: what it changes, in frames.
-use Rattle.std.specs.Prelude.{ℕ, ◌+◌, ◌-◌, List, [], ◌∷◌, ◌++◌, length, replicate, decimal, codes, max, Bool, true}
+use Rattle.std.specs.Prelude.{ℕ, ◌+◌, ◌-◌, List, [], ◌∷◌, ◌++◌, length, replicate, decimal, codes, max, min, Bool, true}
 use Rattle.std.specs.Prelude.{Option, Some, None, if◌then◌else◌}
+use Rattle.std.specs.Option.{option_map}
 use Rattle.miette_style.specs.declared.style.Style.{Style}
 use Rattle.miette_source_lines.specs.rules.Lines.{line_of, column_of}
 use Rattle.miette_protocol.specs.rules.Reading.{Span, Source}
 use Rattle.miette_page.specs.rules.Rows.{Row, styled_run, plain_run}
-use Rattle.miette_snippet_rules.specs.rules.CutLines.{Stretch, cut_line, dots, dots_in, shown_runs, shown_marks}
+use Rattle.miette_snippet_rules.specs.rules.CutLines.{Stretch, cut_line, cut_line_by, dots, dots_in, limit_of}
+use Rattle.miette_snippet_rules.specs.rules.CutLines.{reach_at, shown_marks, shown_runs}
 use Rattle.miette_snippet_rules.specs.rules.Drawing.{blank}
 use Rattle.miette_snippet_rules.specs.rules.Frames.{Place, number_start, other_start, top_row_of, bottom_row}
 use Rattle.miette_snippet_rules.specs.rules.Settings.{SnippetSettings}
@@ -14,7 +16,8 @@ use Rattle.miette_fixes.specs.declared.error.FixError.TheVariants.{OutOfBounds, 
 use Rattle.miette_fixes.specs.rules.Edits.{Replacement}
 use Rattle.miette_fixes.specs.rules.Applying.{by_offset, refusal}
 use Rattle.miette_fix_rows.specs.rules.Hunks.{diff}
-use Rattle.miette_fix_rows.specs.rules.DiffFrames.{DiffFrame, DiffLine, Standing, kept, removed, added, frames_of}
+use Rattle.miette_fix_rows.specs.rules.DiffFrames.{DiffFrame, DiffLine, OtherLine, Standing, kept, removed, added}
+use Rattle.miette_fix_rows.specs.rules.DiffFrames.{frames_of}
 use Rattle.miette_fix_rows.specs.rules.DiffTexts.{deleted_spans, edit_marks, inserted_spans, line_cells, line_ends}
 use Rattle.miette_fix_rows.specs.rules.DiffTexts.{look_alike, pieces, sign_runs}
 
@@ -41,15 +44,29 @@ sign_start s w line =
     ∷ styled_run s.width s.theme.styles.linum (replicate (w - length (decimal line.number)) 32 ++ decimal line.number)
     ∷ blank s 1 ∷ styled_run s.width line.style (line.sign ∷ []) ∷ blank s 1 ∷ []
 
--- how a changed line is cut, if it is, around what edits delete (insert) there
-abbrev pub changed_cut : SnippetSettings → ChangedLine → Option (List Stretch)
-changed_cut s line =
-    cut_line (dots_in s.theme.characters) s.layout.line_columns (line_ends s line.start line.text line.spans)
-    (line_cells s line.start line.text)
+-- how far around what edits delete (insert) in a changed line it is shown within a limit
+abbrev pub line_reach : SnippetSettings → ℕ → ChangedLine → ℕ
+line_reach s limit line = reach_at (limit_of limit) (dots_in s.theme.characters)
+    (line_ends s line.start line.text line.spans) (line_cells s line.start line.text)
 
-abbrev pub text_row : SnippetSettings → ℕ → ChangedLine → Row
-text_row s w line = sign_start s w line
-    ++ shown_runs (dots s.theme) (changed_cut s line)
+-- by the smaller reach of it and of the line that goes with it: so what is equal stands under one another
+abbrev pub pair_reach : SnippetSettings → ℕ → ChangedLine → Option ChangedLine → ℕ
+pair_reach s limit line None = line_reach s limit line
+pair_reach s limit line (Some other) = min (line_reach s limit line) (line_reach s limit other)
+
+-- how a changed line is cut, if it is
+abbrev pub cut_beside : SnippetSettings → Option ℕ → ChangedLine → Option ChangedLine → Option (List Stretch)
+cut_beside s None line other = None
+cut_beside s (Some limit) line other =
+    cut_line_by (dots_in s.theme.characters) limit (pair_reach s limit line other)
+    (line_ends s line.start line.text line.spans) (line_cells s line.start line.text)
+
+abbrev pub changed_cut : SnippetSettings → ChangedLine → Option ChangedLine → Option (List Stretch)
+changed_cut s line other = cut_beside s s.layout.line_columns line other
+
+abbrev pub text_row : SnippetSettings → ℕ → ChangedLine → Option ChangedLine → Row
+text_row s w line other = sign_start s w line
+    ++ shown_runs (dots s.theme) (changed_cut s line other)
     (pieces line.style line.spans (line_cells s line.start line.text)) (line_cells s line.start line.text)
 
 -- the row of marks below a line that looks like the one that goes with it; none where it has no mark
@@ -61,14 +78,14 @@ abbrev pub before_some : Row → List Row → List Row
 before_some start [] = []
 before_some start (row ∷ rows) = (start ++ row) ∷ before_some start rows
 
-abbrev pub marks_row : SnippetSettings → ℕ → ChangedLine → List Row
-marks_row s w line = before_some (other_start s w) (row_if_some (sign_runs s line.sign 0
-    (shown_marks (dots_in s.theme.characters) (changed_cut s line)
+abbrev pub marks_row : SnippetSettings → ℕ → ChangedLine → Option ChangedLine → List Row
+marks_row s w line other = before_some (other_start s w) (row_if_some (sign_runs s line.sign 0
+    (shown_marks (dots_in s.theme.characters) (changed_cut s line other)
     (edit_marks s line.start line.text line.style line.spans))))
 
-abbrev pub changed_rows : SnippetSettings → ℕ → ChangedLine → Option (List ℕ) → List Row
-changed_rows s w line other =
-    text_row s w line ∷ (if look_alike s line.text other then marks_row s w line else [])
+abbrev pub changed_rows : SnippetSettings → ℕ → ChangedLine → Option ChangedLine → List Row
+changed_rows s w line other = text_row s w line other
+    ∷ (if look_alike s line.text (option_map (λ it. it.text) other) then marks_row s w line other else [])
 
 abbrev pub kept_row : SnippetSettings → ℕ → Standing → List ℕ → Row
 kept_row s w at text = number_start s w (at.old_line + 1)
@@ -96,6 +113,13 @@ added_line c at text = record {
   spans = c.inserted;
 }
 
+-- the lines that go with changed ones: an added one, which the removed line stands in front of, and a removed one
+abbrev pub added_beside : DiffContext → Standing → OtherLine → ChangedLine
+added_beside c at other = record (added_line c at other.text) { start = at.new_offset + other.away }
+
+abbrev pub removed_beside : DiffContext → Standing → OtherLine → ChangedLine
+removed_beside c at other = record (removed_line c at other.text) { start = at.old_offset - other.away }
+
 -- behind a line
 abbrev pub past : Standing → DiffLine → Standing
 past at (kept text) = record {
@@ -111,8 +135,10 @@ past at (added text other) =
 
 abbrev pub rows_of_line : DiffContext → Standing → DiffLine → List Row
 rows_of_line c at (kept text) = kept_row c.settings c.number_width at text ∷ []
-rows_of_line c at (removed text other) = changed_rows c.settings c.number_width (removed_line c at text) other
-rows_of_line c at (added text other) = changed_rows c.settings c.number_width (added_line c at text) other
+rows_of_line c at (removed text other) =
+    changed_rows c.settings c.number_width (removed_line c at text) (option_map (added_beside c at) other)
+rows_of_line c at (added text other) =
+    changed_rows c.settings c.number_width (added_line c at text) (option_map (removed_beside c at) other)
 
 abbrev pub rows_of_lines : DiffContext → Standing → List DiffLine → List Row
 rows_of_lines c at [] = []

@@ -16,7 +16,7 @@ use Rattle.miette_labels.specs.rules.Groups.{AreAccepted, in_order, lines_of_gro
 use Rattle.miette_labels.specs.rules.Labels.{DrawnLabel, multi_line, one_line, some_shows_end}
 use Rattle.miette_snippet_rules.specs.rules.SnippetLayout as snippet_layout
 use Rattle.miette_snippet_rules.specs.rules.SnippetLayout.{body_rows, cells_of, cut_ends, line_cut, line_marks}
-use Rattle.miette_snippet_rules.specs.rules.SnippetLayout.{settings_around}
+use Rattle.miette_snippet_rules.specs.rules.SnippetLayout.{end_lines, end_settings, settings_around}
 use Rattle.miette_page.specs.rules.Rows.{Row, columns_of, glyphs_of}
 use Rattle.miette_cells.specs.rules.Cells.{Cell}
 use Rattle.miette_cells.specs.rules.Widths.{width_of}
@@ -26,11 +26,11 @@ use Rattle.miette_row_laws.specs.laws.Cuts.{pieces_shown}
 use Rattle.miette_snippet_rules.specs.rules.Marks.{Mark, marks_at, AreApart}
 use Rattle.miette_snippet_rules.specs.rules.PrintedCells.{cells_width}
 use Rattle.miette_snippet_rules.specs.rules.Numbers.{ranges, IsRange, AreParted}
-use Rattle.miette_row_laws.specs.laws.Ends.{AreBehindShown, EndsStandBehind, draws_ends, with_ends}
+use Rattle.miette_row_laws.specs.laws.Ends.{AreBehindShown, EndsStandBehind, asks_ends, draws_ends, with_ends}
 use Rattle.miette_range_laws.specs.laws.Folding.{EndsPass, FitsIn, IsInside}
 use Rattle.miette_row_laws.specs.laws.Pictures.{BodyShows, marks_of_line, text_of_line}
 use Rattle.miette_snippet_rules.specs.rules.ShownLines.{framed_ranges, line_at}
-use Rattle.miette_snippet_rules.specs.rules.Snippets.{shown_numbers, snippets, is_kept, is_left_out}
+use Rattle.miette_snippet_rules.specs.rules.Snippets.{is_shown, shown_numbers, snippets, is_kept, is_left_out}
 use Rattle.miette_graphical.specs.rules.Answers.{pieces_listed}
 use Rattle.miette_graphical.specs.rules.Sources.{LabelledSource}
 use Rattle.miette_graphical.specs.rules.Settings.{Settings}
@@ -40,17 +40,26 @@ use Rattle.miette_graphical.specs.rules.Snippets.{snippet_settings, shown_rows, 
 
 -- ---- the lines of the snippets
 
+-- with how many lines of context the labels over a source that always reads are drawn, and the settings of their
+-- snippets with these
+
+abbrev pub context_of : Settings → Source → List Label → ℕ
+context_of s source labels = end_lines s.layout false source labels
+
+abbrev pub label_settings : Settings → Source → List Label → snippets.SnippetSettings
+label_settings s source labels = end_settings (snippet_settings s) false source labels
+
 -- the numbers of the lines in the context of some label
 abbrev pub shown_lines : Settings → Source → List Label → List ℕ
-shown_lines s source labels = shown_numbers s.layout.context_lines source.bytes labels
+shown_lines s source labels = shown_numbers (context_of s source labels) source.bytes labels
 
 -- the groups of labels, of which each is drawn as one snippet
 abbrev pub groups_of : Settings → Source → List Label → List Span
-groups_of s source labels = grouping.groups_of s.layout.context_lines source [] (in_order labels)
+groups_of s source labels = grouping.groups_of (context_of s source labels) source [] (in_order labels)
 
 -- the settings of the snippets, with the lines of context with which these groups are read
-abbrev pub group_settings : Settings → List Label → snippets.SnippetSettings
-group_settings s labels = settings_around (snippet_settings s) (in_order labels)
+abbrev pub group_settings : Settings → Source → List Label → snippets.SnippetSettings
+group_settings s source labels = settings_around (label_settings s source labels) (in_order labels)
 
 -- The snippets show the lines in the context of some label, once and in order, each with its number: the rows are
 -- those of the maximal ranges of these lines, each line with its own cells, in whatever pieces, each range in a frame;
@@ -60,9 +69,9 @@ group_settings s labels = settings_around (snippet_settings s) (in_order labels)
 pub record ShowsRanges (s : Settings) (source : Source) (labels : List Label) : Type 0 where
   pub rows : (pieces : List (List (List Highlight))) →
       source_rows s (Some source) labels (pieces_listed pieces)
-      ≡ shown_rows (Some (framed_ranges (snippet_settings s) source labels (pieces_listed pieces)))
-  pub groups : lines_of_groups (group_settings s labels).layout.context_lines source (groups_of s source labels)
-      ≡ snippets s.layout.context_lines source.bytes labels
+      ≡ shown_rows (Some (framed_ranges (label_settings s source labels) source labels (pieces_listed pieces)))
+  pub groups : lines_of_groups (group_settings s source labels).layout.context_lines source (groups_of s source labels)
+      ≡ snippets (context_of s source labels) source.bytes labels
   pub whole : concat (ranges (shown_lines s source labels)) ≡ shown_lines s source labels
   pub consecutive : AllByRecursion IsRange (ranges (shown_lines s source labels))
   pub parted : AreParted (ranges (shown_lines s source labels))
@@ -74,7 +83,7 @@ abbrev pub LinesAreShown : Settings → LabelledSource → Type 0
 LinesAreShown s p =
     IfSome p.source (λ source.
     source.always_reads ≡ true → AreAccepted source.bytes p.labels →
-    HaveContext s.layout.context_lines p.labels
+    HaveContext (context_of s source p.labels) p.labels
     → ShowsRanges s source p.labels)
 
 -- ---- the marks under a line
@@ -82,7 +91,7 @@ LinesAreShown s p =
 -- the labels as they are drawn, by offset
 abbrev pub drawn_labels : Settings → Source → List Label → List DrawnLabel
 drawn_labels s source labels =
-    snippet_layout.drawn_labels (group_settings s labels) (length source.bytes) (in_order labels)
+    snippet_layout.drawn_labels (group_settings s source labels) (length source.bytes) (in_order labels)
 
 -- line k and its cells
 abbrev pub line_of : Source → ℕ → Line
@@ -115,11 +124,11 @@ MarksAreApart s p = IfSome p.source (λ source. (k : ℕ) →
 
 -- whether line k is kept where labels are folded to so many lines
 abbrev pub is_kept_at : ℕ → Settings → Source → List Label → ℕ → Bool
-is_kept_at limit s source labels k = is_kept (Some limit) s.layout.context_lines source.bytes labels k
+is_kept_at limit s source labels k = is_kept (Some limit) (context_of s source labels) source.bytes labels k
 
 -- whether it is left out
 abbrev pub is_left_out_at : ℕ → Settings → Source → List Label → ℕ → Bool
-is_left_out_at limit s source labels k = is_left_out (Some limit) s.layout.context_lines source.bytes labels k
+is_left_out_at limit s source labels k = is_left_out (Some limit) (context_of s source labels) source.bytes labels k
 
 -- the labels on line k and on others beside it
 abbrev pub labels_through : Settings → Source → List Label → ℕ → List DrawnLabel
@@ -148,7 +157,7 @@ abbrev pub LabelsAreFolded : Settings → LabelledSource → Type 0
 LabelsAreFolded s p =
     IfSome p.source (λ source. IfSome s.layout.label_lines (λ limit.
     source.always_reads ≡ true → AreAccepted source.bytes p.labels →
-    HaveContext s.layout.context_lines p.labels
+    HaveContext (context_of s source p.labels) p.labels
     → FoldsTo limit s source p.labels))
 
 -- ---- lines that are cut
@@ -218,19 +227,19 @@ abbrev pub SnippetStays : Settings → Source → List Label → Span → Type 0
 SnippetStays s source labels group =
     (spreads : List Spread) (pieces : List (List Highlight)) →
     AllByRecursion (λ line. Fits s.layout.line_columns (cells_of (snippet_settings s) source.bytes line))
-    (lines_of_contents (contents (group_settings s labels).layout.context_lines source group)) →
-    body_rows (group_settings s labels) spreads (drawn_labels s source labels) source.bytes
-    (contents (group_settings s labels).layout.context_lines source group) pieces
-    ≡ body_rows (record (group_settings s labels) {
+    (lines_of_contents (contents (group_settings s source labels).layout.context_lines source group)) →
+    body_rows (group_settings s source labels) spreads (drawn_labels s source labels) source.bytes
+    (contents (group_settings s source labels).layout.context_lines source group) pieces
+    ≡ body_rows (record (group_settings s source labels) {
       layout =
-          record (group_settings s labels).layout { line_columns = None };
+          record (group_settings s source labels).layout { line_columns = None };
     }) spreads (drawn_labels s source labels)
-    source.bytes (contents (group_settings s labels).layout.context_lines source group) pieces
+    source.bytes (contents (group_settings s source labels).layout.context_lines source group) pieces
 
 -- In all rows of some labels, in whatever pieces the lines are, nothing changes where no line of their snippets has.
 abbrev pub RowsStay : Settings → Source → List Label → Type 0
 RowsStay s source labels =
-    GroupsFit (group_settings s labels) source (groups_of s source labels) →
+    GroupsFit (group_settings s source labels) source (groups_of s source labels) →
     (pieces : List (List (List Highlight))) →
     source_rows s (Some source) labels (pieces_listed pieces)
     ≡ source_rows (record s { layout = record s.layout { line_columns = None } }) (Some source) labels
@@ -249,8 +258,8 @@ LinesThatFitStay s p =
 abbrev pub SnippetHangs : Settings → Source → List Label → Span → Type 0
 SnippetHangs s source labels group =
     (pieces : List (List Highlight)) →
-    BodyShows (group_settings s labels) (drawn_labels s source labels) source.bytes
-    (contents (group_settings s labels).layout.context_lines source group) pieces
+    BodyShows (group_settings s source labels) (drawn_labels s source labels) source.bytes
+    (contents (group_settings s source labels).layout.context_lines source group) pieces
 
 -- in each snippet of a diagnostic, where the theme's drawing characters are one column wide
 abbrev pub TextsHang : Settings → LabelledSource → Type 0
@@ -264,7 +273,7 @@ TextsHang s p =
 -- Just these labels stand behind the text of the last line, and in the row of each line, in whatever pieces, the marks
 -- of such labels begin in the column after what is shown of its text, or where the mark before them ends.
 pub record EndsBehind (s : Settings) (source : Source) (labels : List Label) : Type 0 where
-  pub lines : EndsStandBehind (group_settings s labels) source.bytes (in_order labels)
+  pub lines : EndsStandBehind (group_settings s source labels) source.bytes (in_order labels)
   pub marks : (k : ℕ) (pieces : List Highlight) →
       AreBehindShown (snippet_settings s) (drawn_labels s source labels) (line_of source k) (cells_under s source k)
       pieces
@@ -273,14 +282,24 @@ pub record EndsBehind (s : Settings) (source : Source) (labels : List Label) : T
 abbrev pub without_ends : Settings → Settings
 without_ends s = record s { layout = (with_ends false (snippet_settings s)).layout }
 
--- where labels at the end are drawn, and one of them has a line of context; and where none has one, the rows are those
--- without the setting
+-- Where labels at the end are drawn, and a source that always reads and accepts its labels has one there, its last line
+-- is shown, with whatever lines of context, and they are drawn behind that.
+abbrev pub EndIsShown : Settings → Source → List Label → Type 0
+EndIsShown s source labels =
+    source.always_reads ≡ true → AreAccepted source.bytes labels →
+    asks_ends (snippet_settings s) (length source.bytes) labels ≡ true →
+    (is_shown (context_of s source labels) source.bytes labels (length (lines_of source.bytes) - 1) ≡ true)
+    × EndsBehind s source labels
+
+-- They are drawn so where one of them has a line of context; and where none of them asks for one, or none is there, the
+-- rows are those without the setting.
 abbrev pub EndsAreDrawn : Settings → LabelledSource → Type 0
 EndsAreDrawn s p =
     IfSome p.source (λ source.
-    (draws_ends (group_settings s p.labels) (length source.bytes)
+    (draws_ends (group_settings s source p.labels) (length source.bytes)
     (in_order p.labels) ≡ true → EndsBehind s source p.labels)
-    × (some_shows_end s.layout.context_lines (length source.bytes) p.labels ≡ false →
+    × EndIsShown s source p.labels
+    × (some_shows_end 1 (length source.bytes) p.labels ≡ false →
     (pieces : List (List (List Highlight))) →
     source_rows s (Some source) p.labels (pieces_listed pieces)
     ≡ source_rows (without_ends s) (Some source) p.labels (pieces_listed pieces)))

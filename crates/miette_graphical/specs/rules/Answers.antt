@@ -12,7 +12,13 @@ SourceAnswer = snippet_answers.Answers
 
 -- no read failed
 abbrev pub pieces_listed : List (List (List snippet_answers.Highlight)) → SourceAnswer
-pieces_listed pieces = record { label_fails = []; join_fails = []; place_fails = []; pieces = pieces }
+pieces_listed pieces = record {
+  end_fails = false;
+  label_fails = [];
+  join_fails = [];
+  place_fails = [];
+  pieces = pieces;
+}
 
 abbrev pub source_unlisted : SourceAnswer
 source_unlisted = pieces_listed []

@@ -17,7 +17,7 @@ use Rattle.miette_labels.specs.rules.Around.{group_context}
 use Rattle.miette_labels.specs.rules.Groups.{in_order, groups_of}
 use Rattle.miette_highlight.specs.rules.HighlighterCalls.{Call}
 use Rattle.miette_snippet_rules.specs.rules.Highlighting.{SnippetsHavePieces}
-use Rattle.miette_snippet_rules.specs.rules.SnippetLayout.{snippet_rows}
+use Rattle.miette_snippet_rules.specs.rules.SnippetLayout.{end_lines, rows_of_labels}
 use Rattle.miette_tree.specs.views.Handler.{AppendsOne}
 use Rattle.miette_tree.specs.rules.Reads.{always_reads}
 use Rattle.miette_graphical.specs.rules.Snippets.{snippet_settings}
@@ -32,14 +32,14 @@ use Rattle.miette_tree.specs.rules.Tree.{effective}
 -- there are rows, under these settings of snippets
 abbrev pub HasRows : snippets.SnippetSettings → Option Source → List Label → SourceAnswer → Type 0
 HasRows l None labels a = Unit {0}
-HasRows l (Some source) labels a = is_some (snippet_rows l source labels a) ≡ true
+HasRows l (Some source) labels a = is_some (rows_of_labels l source labels a) ≡ true
 
 -- the pieces are of the lines of the snippets
 abbrev pub HasPieces : snippets.SnippetSettings → Bool → Option Source → List Label → SourceAnswer → Type 0
 HasPieces l blank None labels a = Unit {0}
-HasPieces l blank (Some source) labels a = SnippetsHavePieces (group_context l.layout.context_lines (in_order labels))
-    blank source
-    (groups_of l.layout.context_lines source a.join_fails (in_order labels)) a.pieces
+HasPieces l blank (Some source) labels a =
+    SnippetsHavePieces (group_context (end_lines l.layout a.end_fails source labels) (in_order labels)) blank source
+    (groups_of (end_lines l.layout a.end_fails source labels) source a.join_fails (in_order labels)) a.pieces
 
 -- of labels over a source; are lines left plain, and does every read succeed?
 pub record IsAnswerOf (l : snippets.SnippetSettings) (blank : Bool) (source : Option Source) (labels : List Label)

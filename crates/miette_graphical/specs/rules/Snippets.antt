@@ -5,7 +5,7 @@ use Rattle.miette_runs.specs.rules.Runs.{Fragment, Styled}
 use Rattle.miette_page.specs.rules.Rows.{Row, Run}
 use Rattle.miette_snippet_rules.specs.rules.Settings as snippets
 use Rattle.miette_cells.specs.rules.Widths.{width_of}
-use Rattle.miette_snippet_rules.specs.rules.SnippetLayout.{snippet_rows}
+use Rattle.miette_snippet_rules.specs.rules.SnippetLayout.{rows_of_labels}
 use Rattle.miette_fix_rows.specs.rules.DiffRows.{fix_rows}
 use Rattle.miette_fixes.specs.rules.Edits.{Proposal, Replacement}
 use Rattle.miette_tree.specs.rules.DiagnosticParts.{given_labels}
@@ -36,7 +36,7 @@ shown_rows rows = map runs_of_row (unwrap_or rows [])
 -- no rows without a source; else the frames, lines and marks of its snippets, or the row of a refused label
 abbrev pub source_rows : Settings → Option Source → List Label → SourceAnswer → List (List Fragment)
 source_rows s None labels a = []
-source_rows s (Some source) labels a = shown_rows (snippet_rows (snippet_settings s) source labels a)
+source_rows s (Some source) labels a = shown_rows (rows_of_labels (snippet_settings s) source labels a)
 
 -- those over each of several sources, one after the other; highlights go on from one to the next
 abbrev pub rows_over : Settings → List LabelledSource → SourceAnswers → List (List Fragment)

@@ -13,7 +13,7 @@ use Rattle.miette_graphical.specs.rules.DiagnosticText.{fixes_text, rows_text, t
 use Rattle.miette_tree.specs.rules.Reads.{always_reads}
 use Rattle.miette_graphical.specs.rules.Settings.{Settings}
 use Rattle.miette_graphical.specs.rules.Sources.{LabelledSource, drawn_with, reads_for, sources_of}
-use Rattle.miette_snippet_rules.specs.rules.Highlighting.{snippet_calls}
+use Rattle.miette_snippet_rules.specs.rules.Highlighting.{calls_of_labels}
 use Rattle.miette_graphical.specs.rules.Snippets.{drawn_fix, rows_over, snippet_settings, source_rows, whole_drawing}
 use Rattle.miette_graphical.specs.rules.Calls.{own_calls, calls_over, source_calls, cause_calls, related_calls}
 use Rattle.miette_graphical.specs.rules.Text.{ends_there, inner_text, causes_text, related_text, body_over, drawn_text}
@@ -25,7 +25,7 @@ use Rattle.miette_graphical.specs.views.Painting.{Printing}
 abbrev pub IsDrawn : Option Source → Diagnosis → Printing → List ℕ → Type 0
 IsDrawn source m by text =
     (a : Answer) × IsAnswer (snippet_settings by.settings) by.blank source m a
-    × by.happen (own_calls by.settings.layout.context_lines source m a)
+    × by.happen (own_calls by.settings.layout source m a)
     × (text ≡ drawn_text whole_drawing by.settings m source a)
 
 -- fixes behind a text, over their source, of which the read for them fails or not
@@ -39,7 +39,7 @@ pub record AppendsFixes (s : Settings) (source : Option Source) (fixes : List Pr
 abbrev pub AreDrawn : Settings → Source → List Label → Printing → List ℕ → Type 0
 AreDrawn s source labels by text =
     (a : SourceAnswer) × IsAnswerOf (snippet_settings s) by.blank (Some source) labels source.always_reads a
-    × by.happen (snippet_calls s.layout.context_lines source labels a)
+    × by.happen (calls_of_labels s.layout source labels a)
     × (text ≡ rows_text (source_rows s (Some source) labels a))
 
 -- that of the rows over one of a diagnostic's sources, and of those over several, drawn in these settings
@@ -47,13 +47,13 @@ abbrev pub IsSourceDrawn : Settings → LabelledSource → Printing → List ℕ
 IsSourceDrawn s it by text =
     (a : SourceAnswer) × IsAnswerOf (snippet_settings s) by.blank it.source it.labels
     (always_reads it.source it.labels) a
-    × by.happen (source_calls s.layout.context_lines it.source it.labels a)
+    × by.happen (source_calls s.layout it.source it.labels a)
     × (text ≡ rows_text (source_rows s it.source it.labels a))
 
 abbrev pub AreSourcesDrawn : Settings → List LabelledSource → Printing → List ℕ → Type 0
 AreSourcesDrawn s sources by text =
     (a : SourceAnswers) × AreAnswersOver (snippet_settings s) by.blank sources a
-    × by.happen (calls_over s.layout.context_lines sources a)
+    × by.happen (calls_over s.layout sources a)
     × (text ≡ rows_text (rows_over s sources a))
 
 -- the text of the rows of a diagnostic's snippets
@@ -64,14 +64,14 @@ AreRowsDrawn source m by text = AreSourcesDrawn (drawn_with m.snippets by.settin
 abbrev pub AreCauses : Option Severity → Option Source → Cause → Printing → List ℕ → Type 0
 AreCauses outer inherited c by text =
     (a : Answers) × AreCauseAnswers (snippet_settings by.settings) by.blank inherited c a
-    × by.happen (cause_calls by.settings.layout.context_lines by.settings.related_as_nested inherited c a)
+    × by.happen (cause_calls by.settings.layout by.settings.related_as_nested inherited c a)
     × (text ≡ causes_text whole_drawing by.settings outer inherited c a)
 
 -- its related reports
 abbrev pub AreRelated : Option Severity → Option Source → Trees → Printing → List ℕ → Type 0
 AreRelated outer inherited ts by text =
     (more : RelatedAnswers) × AreRelatedAnswers (snippet_settings by.settings) by.blank inherited ts more
-    × by.happen (related_calls by.settings.layout.context_lines by.settings.related_as_nested inherited ts more)
+    × by.happen (related_calls by.settings.layout by.settings.related_as_nested inherited ts more)
     × (text ≡ related_text whole_drawing by.settings outer inherited ts more)
 
 -- what stands below a tree's causes, over its effective source: what is drawn of it, and its related reports
@@ -79,8 +79,8 @@ abbrev pub IsBelow : Option Source → Tree → Printing → List ℕ → Type 0
 IsBelow source t by text =
     (a : Answer) × (more : RelatedAnswers) × IsAnswer (snippet_settings by.settings) by.blank source (head t) a
     × AreRelatedAnswers (snippet_settings by.settings) by.blank source (related_of t) more
-    × by.happen (own_calls by.settings.layout.context_lines source (head t) a
-    ++ related_calls by.settings.layout.context_lines by.settings.related_as_nested source (related_of t) more)
+    × by.happen (own_calls by.settings.layout source (head t) a
+    ++ related_calls by.settings.layout by.settings.related_as_nested source (related_of t) more)
     × (text ≡ drawn_text whole_drawing by.settings (head t) source a
     ++ related_text whole_drawing by.settings (head t).severity source (related_of t) more)
 
@@ -89,8 +89,8 @@ abbrev pub IsInner : Option Source → Tree → Printing → List ℕ → Type 0
 IsInner source (tree m own c r) by text =
     (a : Answer) × (more : RelatedAnswers) × IsAnswer (snippet_settings by.settings) by.blank source m a
     × AreRelatedAnswers (snippet_settings by.settings) by.blank source r more
-    × by.happen (own_calls by.settings.layout.context_lines source m a
-    ++ related_calls by.settings.layout.context_lines by.settings.related_as_nested source r more)
+    × by.happen (own_calls by.settings.layout source m a
+    ++ related_calls by.settings.layout by.settings.related_as_nested source r more)
     × (text ≡ inner_text whole_drawing by.settings m source a
     (related_text whole_drawing by.settings m.severity source r more))
 
@@ -101,9 +101,9 @@ IsSibling source (tree m own c r) by text =
     × IsAnswer (snippet_settings by.settings) by.blank source m a
     × AreCauseAnswers (snippet_settings by.settings) by.blank source c below
     × AreRelatedAnswers (snippet_settings by.settings) by.blank source r more
-    × by.happen (cause_calls by.settings.layout.context_lines by.settings.related_as_nested source c below
-    ++ (own_calls by.settings.layout.context_lines source m a
-    ++ related_calls by.settings.layout.context_lines by.settings.related_as_nested source r more))
+    × by.happen (cause_calls by.settings.layout by.settings.related_as_nested source c below
+    ++ (own_calls by.settings.layout source m a
+    ++ related_calls by.settings.layout by.settings.related_as_nested source r more))
     × (text ≡ title_text by.settings m ++ body_over by.settings m (drawn_text whole_drawing by.settings m source a)
     (causes_text whole_drawing by.settings m.severity source c below)
     (related_text whole_drawing by.settings m.severity source r more))

@@ -87,7 +87,7 @@ impl<H: Highlighter> GraphicalReportHandler<H> {
             ((calls : List Call) → follows_of H.may_follow self.old calls → AnsweredBy answer calls) →
             follows_of H.may_follow self.new [] → all_read (diagnostics_of self.old.settings tree) ≡ true →
             string_bytes out.new ≡ string_bytes out.old ++ encode_utf8_all (report_text whole_drawing self.old.settings
-            tree (answers_by answer self.old.settings.layout.context_lines tree))) }
+            tree (answers_by answer self.old.settings.layout tree))) }
         // where every source always reads, and no highlighter or a blank one is set, there is one such text
         ensures only { let tree = tree_of D.meaning S.source report.now in
             OnOk result (draws_plain H.is_blank self.old ≡ true →
@@ -133,8 +133,9 @@ impl<H: Highlighter> GraphicalReportHandler<H> {
         ensures fits { OnOk result (EachPrinted LinesThatFitStay self.old (tree_of D.meaning S.source report.now)) }
         // each text of a label on one line hangs from its own mark,
         ensures texts { OnOk result (EachPrinted TextsHang self.old (tree_of D.meaning S.source report.now)) }
-        // where labels at the end of its source are drawn, just these stand behind the text of the last line, and
-        // their marks in the column after what is shown of it; where there is none, nothing changes,
+        // where labels at the end of its source are drawn, its last line is shown with whatever lines of context, just
+        // these stand behind its text, and their marks in the column after what is shown of it; where there is none,
+        // nothing changes,
         ensures ends { OnOk result (EachPrinted EndsAreDrawn self.old (tree_of D.meaning S.source report.now)) }
         // and where labels are folded, no label begins or ends on a line that is left out, none is left out alone, the
         // bars of a break are those of the labels that run through it, and short labels change nothing

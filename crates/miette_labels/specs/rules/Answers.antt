@@ -8,11 +8,12 @@ pub record Highlight : Type 0 where
   pub bytes : ℕ
   pub style : Style
 
--- Whether each read fails, of each label, of each group that a label would join (where some label has its own number
--- of context lines: of each group), of each snippet's place;
+-- Whether the read fails that tells where the source ends; whether each read fails, of each label, of each group that a
+-- label would join (where some label has its own number of context lines: of each group), of each snippet's place;
 -- and the highlighter's pieces for each line of each snippet. A read that isn't listed succeeds, a line that isn't
 -- listed is plain. One plain piece is not listed.
 pub record Answers : Type 0 where
+  pub end_fails : Bool
   pub label_fails : List Bool
   pub join_fails : List Bool
   pub place_fails : List Bool
@@ -34,6 +35,7 @@ NoneFails fails = AllByRecursion (λ f. f ≡ false) fails
 
 -- answers of a source that always reads
 pub record AlwaysReads (answers : Answers) : Type 0 where
+  pub end : answers.end_fails ≡ false
   pub labels : NoneFails answers.label_fails
   pub joins : NoneFails answers.join_fails
   pub places : NoneFails answers.place_fails

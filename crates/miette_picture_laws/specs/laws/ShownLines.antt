@@ -15,7 +15,7 @@ use Rattle.miette_graphical.specs.rules.Answers.{SourceAnswers, first_source, pi
 use Rattle.miette_graphical.specs.rules.Settings.{Settings}
 use Rattle.miette_graphical.specs.rules.Snippets.{runs_of_row, source_rows}
 use Rattle.miette_graphical.specs.rules.Sources.{LabelledSource, after_labels}
-use Rattle.miette_graphical.specs.laws.Headline.{drawn_labels, group_settings, line_of, shown_lines}
+use Rattle.miette_graphical.specs.laws.Headline.{context_of, drawn_labels, group_settings, line_of, shown_lines}
 
 -- some rows stand among others, one after the other
 pub record StandAmong {A : Type 0} (rows all : List A) : Type 0 where
@@ -46,9 +46,9 @@ pieces_at place pieces = first_of (drop (length place.front) (first_of (drop (le
 -- labels of several lines.
 abbrev pub range_context : Settings → Source → List Label → List ℕ → SnippetContext
 range_context s source labels range =
-    snippet_context (group_settings s labels) (range_width range)
+    snippet_context (group_settings s source labels) (range_width range)
     (gutter_columns (drawn_labels s source labels) (map (line_of source) range)) (drawn_labels s source labels)
-    (cells_of (group_settings s labels) source.bytes)
+    (cells_of (group_settings s source labels) source.bytes)
 
 abbrev pub ShownPlace : Settings → Source → List Label → Type 0
 ShownPlace s source labels = PlaceIn (ranges (shown_lines s source labels))
@@ -63,7 +63,7 @@ rows_at s source labels place pieces =
 -- The rows of each line that isn't left out inside folded labels stand among those of the labels.
 abbrev pub ShownLinesStand : Settings → Source → List Label → Type 0
 ShownLinesStand s source labels = (place : ShownPlace s source labels) (pieces : List (List (List Highlight))) →
-    is_kept s.layout.label_lines s.layout.context_lines source.bytes labels place.line ≡ true →
+    is_kept s.layout.label_lines (context_of s source labels) source.bytes labels place.line ≡ true →
     StandAmong (map runs_of_row (rows_at s source labels place pieces))
     (source_rows s (Some source) labels (pieces_listed pieces))
 

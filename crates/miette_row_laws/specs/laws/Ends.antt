@@ -26,6 +26,10 @@ stands_behind line label = label.behind && (is_empty label && is_one_line line l
 abbrev pub draws_ends : SnippetSettings → ℕ → List Label → Bool
 draws_ends s n labels = s.layout.end_labels && some_shows_end s.layout.context_lines n labels
 
+-- whether the settings say so, and one of them has a line of context where there is one
+abbrev pub asks_ends : SnippetSettings → ℕ → List Label → Bool
+asks_ends s n labels = s.layout.end_labels && some_shows_end 1 n labels
+
 -- just the labels that begin at the source's end stand behind the text of its last line
 abbrev pub EndsStandBehind : SnippetSettings → List ℕ → List Label → Type 0
 EndsStandBehind s bytes labels =

@@ -114,6 +114,16 @@ cut_to limit many [] cells = with_short many (stretches (has_room limit many) fa
 cut_to limit many (end ∷ ends) cells =
     cut_at many (reach_of limit many (end ∷ ends) cells) (end ∷ ends) cells
 
+-- the reach of a line; the limit, where it has no ends
+abbrev pub reach_at : ℕ → ℕ → List ℕ → List Cell → ℕ
+reach_at limit many [] cells = limit
+reach_at limit many (end ∷ ends) cells = reach_of limit many (end ∷ ends) cells
+
+-- what is shown of a line by so many columns around its ends; its first cells, where it has none
+abbrev pub cut_by : ℕ → ℕ → ℕ → List ℕ → List Cell → List Stretch
+cut_by limit many reach [] cells = cut_to limit many [] cells
+cut_by limit many reach (end ∷ ends) cells = cut_at many reach (end ∷ ends) cells
+
 -- a limit below 8 counts as 8: a shorter row says nothing
 abbrev pub limit_of : ℕ → ℕ
 limit_of limit = max 8 limit
@@ -124,6 +134,11 @@ abbrev pub cut_line : ℕ → Option ℕ → List ℕ → List Cell → Option (
 cut_line many None ends cells = None
 cut_line many (Some limit) ends cells =
     if nat_lt (limit_of limit) (cells_width 0 cells) then Some (cut_to (limit_of limit) many ends cells) else None
+
+-- the same, by so many columns around its ends, where there is a limit
+abbrev pub cut_line_by : ℕ → ℕ → ℕ → List ℕ → List Cell → Option (List Stretch)
+cut_line_by many limit reach ends cells =
+    if nat_lt (limit_of limit) (cells_width 0 cells) then Some (cut_by (limit_of limit) many reach ends cells) else None
 
 -- ---- what is printed
 

@@ -12,6 +12,8 @@ use Rattle.miette_labels.specs.rules.Answers.{Answers, Highlight, first_of}
 use Rattle.miette_labels.specs.rules.Around.{group_context}
 use Rattle.miette_labels.specs.rules.Contexts.{contents, lines_of_contents}
 use Rattle.miette_labels.specs.rules.Groups.{in_order, refusal, groups_of}
+use Rattle.miette_snippet_rules.specs.declared.options.LayoutOptions.{LayoutOptions}
+use Rattle.miette_snippet_rules.specs.rules.SnippetLayout.{end_lines}
 
 -- whether lines are left plain: there is no highlighter, or a blank one
 abbrev pub leaves_plain : {H : Type 0} → (H → Bool) → Option H → Bool
@@ -76,12 +78,17 @@ group_calls context source (group ∷ groups) pieces =
     ∷ line_calls (texts_of source.bytes (lines_of_contents (contents context source group))) (first_of pieces)
     ++ group_calls context source groups (drop 1 pieces)
 
--- the calls for the snippets of some labels; none where a label is refused
+-- the calls for the snippets of some labels with so many lines of context; none where a label is refused
 abbrev pub snippet_calls : ℕ → Source → List Label → Answers → List Call
 snippet_calls context source labels answers =
     if is_some (refusal source.bytes answers.label_fails (in_order labels)) then []
     else group_calls (group_context context (in_order labels)) source
     (groups_of context source answers.join_fails (in_order labels)) answers.pieces
+
+-- the calls for the snippets of a diagnostic's labels over a source
+abbrev pub calls_of_labels : LayoutOptions → Source → List Label → Answers → List Call
+calls_of_labels layout source labels answers =
+    snippet_calls (end_lines layout answers.end_fails source labels) source labels answers
 
 -- ---- A highlighter without a state.
 

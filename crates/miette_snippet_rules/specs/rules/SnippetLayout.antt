@@ -1,7 +1,7 @@
 -- The rows of a diagnostic's snippets.
 use Rattle.std.specs.Prelude.{ℕ, ◌+◌, ◌-◌, List, [], ◌∷◌, ◌++◌, map, length, slice_range, Option, Some, None, Bool}
-use Rattle.std.specs.Prelude.{false, ◌&&◌, ◌||◌, if◌then◌else◌, nat_le, drop}
-use Rattle.std.specs.List.{filter}
+use Rattle.std.specs.Prelude.{false, not, ◌&&◌, ◌||◌, if◌then◌else◌, max, nat_le, nat_lt, drop}
+use Rattle.std.specs.List.{filter, list_any}
 use Rattle.std.specs.Option.{option_map}
 use Rattle.miette_source_lines.specs.rules.Lines.{Line}
 use Rattle.miette_protocol.specs.views.Meaning.{Label}
@@ -11,6 +11,7 @@ use Rattle.miette_labels.specs.rules.Answers.{Answers, Highlight, first_of}
 use Rattle.miette_labels.specs.rules.Around.{has_own, group_context}
 use Rattle.miette_labels.specs.rules.Contexts.{end_of_span, contents, lines_of_contents}
 use Rattle.miette_labels.specs.rules.Groups.{in_order, refusal, groups_of, some_fails, groups_fail}
+use Rattle.miette_snippet_rules.specs.declared.options.LayoutOptions.{LayoutOptions}
 use Rattle.miette_snippet_rules.specs.rules.PrintedCells.{cells_width}
 use Rattle.miette_cells.specs.rules.Cells.{Cell, characters, cells_from}
 use Rattle.miette_labels.specs.rules.Labels.{DrawnLabel, drawn_from, some_shows_end, one_line, multi_line}
@@ -213,9 +214,35 @@ rows_unless s source labels answers (Some row) = Some (row ∷ [])
 rows_unless s source labels answers None = rows_of_groups s source labels answers
     (groups_of s.layout.context_lines source answers.join_fails labels)
 
--- The rows of a diagnostic's snippets, or none where a group or the place of one can't be read: labels by offset, and
--- one row if one of them is refused.
+-- The rows of a diagnostic's snippets with the lines of context of these settings, or none where a group or the place
+-- of one can't be read: labels by offset, and one row if one of them is refused.
 abbrev pub snippet_rows : SnippetSettings → Source → List Label → Answers → Option (List Row)
 snippet_rows s source labels answers =
     rows_unless s source (in_order labels) answers
     (option_map (refused_row s) (refusal source.bytes answers.label_fails (in_order labels)))
+
+-- ---- labels at the end of a source
+
+-- Whether of these labels one at the end of a source of so many bytes shows its last line with a line of context, and
+-- none begins behind the end, where it is refused.
+abbrev pub asks_for_end : ℕ → List Label → Bool
+asks_for_end n labels =
+    some_shows_end 1 n labels && not (list_any (λ label. nat_lt n label.span.offset) labels)
+
+-- With how many lines of context labels over a source are drawn: with at least one where labels at its end are drawn
+-- and one of these asks for that. Where the read fails that tells where the source ends, none is known to lie there.
+abbrev pub end_lines : LayoutOptions → Bool → Source → List Label → ℕ
+end_lines layout fails source labels =
+    if layout.end_labels && (not fails && asks_for_end (length source.bytes) labels) then max 1 layout.context_lines
+    else layout.context_lines
+
+-- the settings with these lines of context
+abbrev pub end_settings : SnippetSettings → Bool → Source → List Label → SnippetSettings
+end_settings s fails source labels =
+    record s { layout = record s.layout { context_lines = end_lines s.layout fails source labels } }
+
+-- The rows of the snippets of a diagnostic's labels over a source, or none where a group or the place of one can't be
+-- read.
+abbrev pub rows_of_labels : SnippetSettings → Source → List Label → Answers → Option (List Row)
+rows_of_labels s source labels answers =
+    snippet_rows (end_settings s answers.end_fails source labels) source labels answers

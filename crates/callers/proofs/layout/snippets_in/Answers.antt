@@ -6,7 +6,7 @@ use Rattle.miette_page.specs.rules.Rows.{Row}
 use Rattle.miette_page.specs.views.Printouts.{Printout, ended_text, printout_of, ◌⊕◌}
 use Rattle.miette_page.specs.views.Tokens.{rows_tokens}
 use Rattle.miette_protocol.specs.rules.Reading.{plain_source}
-use Rattle.miette_snippet_rules.specs.rules.SnippetLayout.{snippet_rows}
+use Rattle.miette_snippet_rules.specs.rules.SnippetLayout.{rows_of_labels}
 use Rattle.miette_style.specs.rules.Themes.{theme_of}
 use Rattle.callers.proofs.layout.snippets_in.Goals as goal
 
@@ -22,7 +22,7 @@ returns c =
     let given = c.in_ok-page.ensures.gives in
     let found = printed_rows (printout_of []) c.in_ok-page.page _
     (given.is ∙ ap₂ (λ before layout. option_map (λ rows. before ⊕ rows_tokens rows)
-    (snippet_rows (record { theme = theme_of c.args.theme.now; width = width_of; layout = layout })
+    (rows_of_labels (record { theme = theme_of c.args.theme.now; width = width_of; layout = layout })
     (plain_source c.args.source.now) c.args.labels.now given.answers))
     (c.over-page.ensures ∙ ap printout_of c.for_text.ensures) c.default-layout.ensures) in
     record {

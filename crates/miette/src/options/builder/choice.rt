@@ -4,7 +4,7 @@ ghost use Rattle.std.specs.Prelude.{◌≡◌, IfOk, None};
 ghost use Rattle.miette_graphical.specs.views.SettingsView.{handler_settings};
 ghost use Rattle.miette_style.specs.rules.Themes.{characters_of, styles_of, theme_of};
 ghost use Rattle.miette.specs.rules.Choice.{IsChosen, IsDrawing, brief_settings, chosen_highlighter, chosen_theme};
-ghost use Rattle.miette.specs.rules.Choice.{chosen_context_lines, chosen_line_columns, chosen_urls, chosen_width};
+ghost use Rattle.miette.specs.rules.Choice.{chosen_line_columns, chosen_urls, chosen_width};
 ghost use Rattle.miette.specs.rules.Choice.{coloured_styles, fitting_theme, is_graphical, narration_settings};
 ghost use Rattle.miette.specs.rules.Choice.{picture_settings, takes_colours};
 
@@ -57,7 +57,6 @@ impl<H: Highlighter> MietteHandlerOpts<H> {
     {
         let width = self.chosen_width(terminal);
         let urls = self.chosen_urls(terminal);
-        let context_lines = self.chosen_context_lines();
         let line_columns = self.chosen_line_columns(terminal);
         let MietteHandlerOpts {
             layout,
@@ -70,7 +69,6 @@ impl<H: Highlighter> MietteHandlerOpts<H> {
         Settings {
             theme,
             layout: LayoutOptions {
-                context_lines,
                 line_columns,
                 ..layout
             },
@@ -192,17 +190,6 @@ impl<H: Highlighter> MietteHandlerOpts<H> {
             (None, Some(width)) => width,
             (None, None) => 80,
         }
-    }
-
-    /// How many lines are shown around a label in pictures.
-    fn chosen_context_lines(&self) -> usize
-        ensures { result ≡ chosen_context_lines self.now }
-    {
-        let set = self.layout.context_lines;
-        if self.layout.end_labels {
-            return set.max(1);
-        }
-        set
     }
 
     /// How many columns the text of a line may have before it is cut, if lines are cut.

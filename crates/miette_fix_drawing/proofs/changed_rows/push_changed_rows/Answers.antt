@@ -1,5 +1,4 @@
-use Rattle.std.proofs.Common.{◌∙◌, ap, false, length}
-use Rattle.std.specs.Prelude.{option_copied}
+use Rattle.std.proofs.Common.{◌∙◌, ap, false}
 use Rattle.std.proofs.lemmas.Result.{on_ok_weaker}
 use Rattle.miette_cells.specs.rules.Widths.{width_of}
 use Rattle.miette_page.specs.views.Printouts.{◌⊕◌}
@@ -7,9 +6,19 @@ use Rattle.miette_page.specs.views.Tokens.{rows_tokens}
 use Rattle.miette_snippet_rules.specs.views.SettingsView.{settings_of}
 use Rattle.miette_cuts.proofs.StopColumns.{cells_come_from}
 use Rattle.miette_fix_rows.specs.rules.DiffTexts.{text_of_line}
-use Rattle.miette_fix_drawing.specs.views.ChangedLines.{changed_line_of}
-use Rattle.miette_fix_drawing.proofs.ChangedRows.{near_rows}
+use Rattle.miette_fix_drawing.proofs.ChangedRows.{near_put, near_readable, near_within}
 use Rattle.miette_fix_drawing.proofs.changed_rows.push_changed_rows.Goals as goal
+
+pub push_near_rows-requires-clause-within : goal.push_near_rows-requires-clause-within
+push_near_rows-requires-clause-within g c =
+    near_within c.args.line.now c.near_line-near.result c.near_line-near.ensures c.requires.within
+
+pub push_near_rows-requires-clause-apart : goal.push_near_rows-requires-clause-apart
+push_near_rows-requires-clause-apart g c = c.near_line-near.ensures.apart
+
+pub push_near_rows-requires-clause-other : goal.push_near_rows-requires-clause-other
+push_near_rows-requires-clause-other g c =
+    near_readable c.args.other c.near_other-beside.result c.near_other-beside.ensures c.requires.other
 
 pub returns : goal.returns
 returns g c =
@@ -17,9 +26,6 @@ returns g c =
     let line = c.args.line.now in
     on_ok_weaker c.push_near_rows.result (λ h. h
     ∙ ap (λ rows. c.args.page.now ⊕ rows_tokens rows)
-    (near_rows s c.args.frame.now.number_width (changed_line_of line) c.spans_from.result.now
-    (option_copied c.args.other)
+    (near_put s c.args.frame.now.number_width line c.near_line-near.result c.args.other c.near_other-beside.result
     (cells_come_from width_of c.args.frame.now.settings.layout.now.tab_width false line.start 0
-    (text_of_line line.text.now))
-    c.spans_from.ensures.held (c.spans_from.ensures.parts (length line.text.now) line.style)
-    (c.spans_from.ensures.on line.text.now))) c.push_near_rows.ensures
+    (text_of_line line.text.now)) c.near_line-near.ensures c.near_other-beside.ensures)) c.push_near_rows.ensures

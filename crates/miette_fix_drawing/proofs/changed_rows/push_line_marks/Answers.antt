@@ -1,4 +1,4 @@
-use Rattle.std.proofs.Common.{◌∙◌, ap, map}
+use Rattle.std.proofs.Common.{◌∙◌, ap, map, option_map}
 use Rattle.std.proofs.lemmas.Result.{on_ok_weaker}
 use Rattle.miette_page.specs.views.Printouts.{◌⊕◌}
 use Rattle.miette_page.specs.views.Tokens.{rows_tokens}
@@ -16,7 +16,7 @@ returns g c =
     let s = settings_of c.args.frame.now.settings in
     let w = c.args.frame.now.number_width in
     let line = c.args.line.now in
-    let cut = changed_cut s (changed_line_of line) in
+    let cut = changed_cut s (changed_line_of line) (option_map changed_line_of c.args.other.now) in
     on_ok_weaker c.push_marks_row.result (λ h. h
     ∙ ap (λ ms. c.args.page.now ⊕ rows_tokens (before_some (other_start s w)
     (row_if_some (sign_runs s line.sign 0 ms))))

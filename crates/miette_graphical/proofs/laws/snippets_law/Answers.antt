@@ -1,4 +1,4 @@
-use Rattle.std.proofs.Common.{ℕ, ◌≡◌, ◌≤◌, List, [], ◌∷◌, Option, Some, None, IfSome, refl, ap, ◌∙◌}
+use Rattle.std.proofs.Common.{ℕ, ◌≡◌, ◌≤◌, true, List, [], ◌∷◌, Option, Some, None, IfSome, refl, ap, ◌∙◌}
 use Rattle.std.proofs.Common.{length}
 use Rattle.std.proofs.Common.{sym}
 use Rattle.std.proofs.Common.{subst}
@@ -15,15 +15,19 @@ use Rattle.miette_row_laws.specs.laws.Cuts.{Fits}
 use Rattle.miette_graphical.specs.rules.Answers.{pieces_listed}
 use Rattle.miette_graphical.specs.rules.Settings.{Settings}
 use Rattle.miette_graphical.specs.laws.Headline.{EndsAreDrawn, LabelsAreFolded, LinesAreShown, MarksAreApart, TextsHang}
-use Rattle.miette_graphical.specs.laws.Headline.{SnippetHangs, drawn_labels, groups_of, group_settings}
+use Rattle.miette_graphical.specs.laws.Headline.{EndsBehind, SnippetHangs, context_of, drawn_labels, groups_of}
+use Rattle.miette_graphical.specs.laws.Headline.{group_settings, label_settings}
 use Rattle.miette_graphical.specs.laws.Headline.{shown_lines, CutsAreExact, LinesThatFitStay, SnippetStays, cells_under}
 use Rattle.miette_graphical.specs.laws.Headline.{ends_under, line_of}
 use Rattle.miette_graphical.specs.rules.Sources.{HoldsOfSources, LabelledSource, after_labels, drawn_with, sources_of}
 use Rattle.miette_graphical.specs.rules.PrintedDiagnostics.{HoldsOfPrinted, PrintedDiagnostic, diagnostics_of}
 use Rattle.miette_graphical.specs.rules.Snippets.{snippet_settings, shown_rows, source_rows}
 use Rattle.miette_labels.specs.rules.Answers.{Answers}
-use Rattle.miette_snippet_rules.specs.rules.SnippetLayout.{snippet_rows}
+use Rattle.miette_snippet_rules.specs.rules.SnippetLayout.{end_settings, snippet_rows}
 use Rattle.miette_graphical.proofs.DrawnRows.{none_listed}
+use Rattle.miette_graphical.proofs.EndShown.{context_set, end_shown, none_fewer}
+use Rattle.miette_row_laws.specs.laws.Ends.{draws_ends}
+use Rattle.miette_snippet_rules.specs.rules.Settings.{SnippetSettings}
 use Rattle.miette_graphical.proofs.LabelLines.{labels_have_lines}
 use Rattle.miette_graphical.proofs.NarrowCharacters.{is_narrow}
 use Rattle.miette_graphical.proofs.laws.snippets_law.Goals as goal
@@ -52,21 +56,24 @@ if_is : {A : Type 0} (P : A → Type 0) (o : Option A) → ((x : A) → o ≡ So
 if_is P None f = tt
 if_is P (Some x) f = f x refl
 
+-- the settings with labels folded to so many lines, or not
+abbrev folded_at : Option ℕ → SnippetSettings → SnippetSettings
+folded_at limit l = record l { layout = record l.layout { label_lines = limit } }
+
 -- the rows with labels folded to so many lines, in which nothing is left out
 short_rows : (limit : ℕ) (s : Settings) (source : Source) (labels : List Label) (answers : Answers)
     → s.layout.label_lines
     ≡ Some limit →
-    snippet_rows (record (snippet_settings s) {
-      layout = record (snippet_settings s).layout { label_lines = Some limit };
-    }) source labels answers
-    ≡ snippet_rows (record (snippet_settings s) { layout = record (snippet_settings s).layout { label_lines = None } })
-    source labels answers →
+    snippet_rows (folded_at (Some limit) (end_settings (snippet_settings s) answers.end_fails source labels)) source
+    labels answers
+    ≡ snippet_rows (folded_at None (end_settings (snippet_settings s) answers.end_fails source labels)) source labels
+    answers →
     source_rows s (Some source) labels answers ≡ source_rows
     (record s { layout = record s.layout { label_lines = None } }) (Some source) labels
     answers
 short_rows limit s source labels answers e h =
-    ap (λ o. shown_rows (snippet_rows (record (snippet_settings s)
-    { layout = record (snippet_settings s).layout { label_lines = o } }) source labels answers)) e
+    ap (λ o. shown_rows (snippet_rows (folded_at o (end_settings (snippet_settings s) answers.end_fails source labels))
+    source labels answers)) e
     ∙ ap shown_rows h
 
 pub returns-clause-lines : goal.returns-clause-lines
@@ -74,13 +81,13 @@ returns-clause-lines c = λ s t. everywhere LinesAreShown (λ s p.
     let labels = p.labels in
     if_some _ (λ source reads accepted context.
     let maximal = c.ranges_are_maximal.ensures (shown_lines s source labels) in record {
-      rows = λ pieces. ap (λ rows. shown_rows rows) (c.snippets_draw_ranges.ensures (snippet_settings s) source labels
-          (pieces_listed pieces) context accepted (none_listed pieces));
-      groups = c.groups_are_ranges.ensures s.layout.context_lines source [] labels context tt;
+      rows = λ pieces. ap (λ rows. shown_rows rows) (c.snippets_draw_ranges.ensures (label_settings s source labels)
+          source labels (pieces_listed pieces) context accepted (none_listed pieces));
+      groups = c.groups_are_ranges.ensures (context_of s source labels) source [] labels context tt;
       whole = maximal.0;
       consecutive = maximal.1;
       parted = maximal.2;
-      own = labels_have_lines s.layout.context_lines source.bytes labels;
+      own = labels_have_lines (context_of s source labels) source.bytes labels;
     }) p.source) s (diagnostics_of s t)
 
 pub returns-clause-marks : goal.returns-clause-marks
@@ -124,11 +131,11 @@ returns-clause-fits c = λ s t. everywhere LinesThatFitStay (λ s p.
     let labels = p.labels in
     if_some _ (λ source. (
       each (SnippetStays s source labels)
-          (λ group spreads pieces fit. c.lines_that_fit_stay.ensures.snippet (group_settings s labels) spreads
+          (λ group spreads pieces fit. c.lines_that_fit_stay.ensures.snippet (group_settings s source labels) spreads
           (drawn_labels s source labels) source.bytes
-          (contents (group_settings s labels).layout.context_lines source group) pieces fit)
+          (contents (group_settings s source labels).layout.context_lines source group) pieces fit)
           (groups_of s source labels),
-      λ fit pieces. ap shown_rows (c.lines_that_fit_stay.ensures.rows (snippet_settings s) source labels
+      λ fit pieces. ap shown_rows (c.lines_that_fit_stay.ensures.rows (label_settings s source labels) source labels
           (pieces_listed pieces) fit),
     )) p.source) s (diagnostics_of s t)
 
@@ -136,34 +143,42 @@ pub returns-clause-texts : goal.returns-clause-texts
 returns-clause-texts c = λ s t. everywhere TextsHang (λ s p.
     let labels = p.labels in
     if_some _ (λ source narrow. each (SnippetHangs s source labels)
-    (λ group pieces. c.texts_hang.ensures (group_settings s labels) (drawn_labels s source labels) source.bytes
-    (contents (group_settings s labels).layout.context_lines source group) pieces (is_narrow s.theme.characters narrow))
+    (λ group pieces. c.texts_hang.ensures (group_settings s source labels) (drawn_labels s source labels) source.bytes
+    (contents (group_settings s source labels).layout.context_lines source group) pieces
+    (is_narrow s.theme.characters narrow))
     (groups_of s source labels)) p.source) s (diagnostics_of s t)
 
 pub returns-clause-ends : goal.returns-clause-ends
 returns-clause-ends c = λ s t. everywhere EndsAreDrawn (λ s p.
     let labels = p.labels in
-    if_some _ (λ source. (
-      λ drawn. record {
-        lines = c.ends_are_drawn.ensures.lines (group_settings s labels) source.bytes (in_order labels) drawn;
-        marks = λ k pieces. c.ends_are_drawn.ensures.row (snippet_settings s) (drawn_labels s source labels)
-            source.bytes (line_of source k) pieces;
-      },
-      λ none pieces. ap (λ rows. shown_rows rows) (c.ends_are_drawn.ensures.others s.layout.end_labels
-          (snippet_settings s) source labels (pieces_listed pieces) none),
+    if_some _ (λ source.
+    let behind : draws_ends (group_settings s source labels) (length source.bytes) (in_order labels) ≡ true
+    → EndsBehind s source labels = λ drawn. record {
+      lines = c.ends_are_drawn.ensures.lines (group_settings s source labels) source.bytes (in_order labels) drawn;
+      marks = λ k pieces. c.ends_are_drawn.ensures.row (snippet_settings s) (drawn_labels s source labels)
+          source.bytes (line_of source k) pieces;
+    } in (
+      behind,
+      end_shown s source labels behind,
+      λ none pieces. ap (λ lines. shown_rows (snippet_rows (record (snippet_settings s) {
+        layout = record s.layout { context_lines = lines };
+      }) source labels (pieces_listed pieces))) (context_set s source labels none)
+          ∙ ap (λ rows. shown_rows rows) (c.ends_are_drawn.ensures.others s.layout.end_labels (snippet_settings s)
+          source labels (pieces_listed pieces) (none_fewer (length source.bytes) s.layout.context_lines labels none)),
     )) p.source) s (diagnostics_of s t)
 
 pub returns-clause-folds : goal.returns-clause-folds
 returns-clause-folds c = λ s t. everywhere LabelsAreFolded (λ s p.
     let labels = p.labels in
     if_some _ (λ source. if_is _ s.layout.label_lines (λ limit is reads accepted context. record {
-      ends = c.ranges_end_kept.ensures (Some limit) s.layout.context_lines source.bytes labels context;
-      inside = λ k. c.left_out_lines_are_inside.ensures.inside _ _ limit s.layout.context_lines source.bytes labels k
+      ends = c.ranges_end_kept.ensures (Some limit) (context_of s source labels) source.bytes labels context;
+      inside = λ k. c.left_out_lines_are_inside.ensures.inside _ _ limit (context_of s source labels) source.bytes
+          labels k context;
+      same = λ k. c.left_out_lines_are_inside.ensures.same _ _ limit (context_of s source labels) source.bytes labels k
           context;
-      same = λ k. c.left_out_lines_are_inside.ensures.same _ _ limit s.layout.context_lines source.bytes labels k
-          context;
-      pairs = c.left_out_lines_are_inside.ensures.pairs limit s.layout.context_lines source.bytes labels;
+      pairs = c.left_out_lines_are_inside.ensures.pairs limit (context_of s source labels) source.bytes labels;
       short = λ fit pieces. short_rows limit s source labels (pieces_listed pieces) is
-          (c.short_labels_stay.ensures (snippet_settings s) limit source labels (pieces_listed pieces) context accepted
+          (c.short_labels_stay.ensures (label_settings s source labels) limit source labels (pieces_listed pieces)
+          context accepted
           (none_listed pieces) fit);
     })) p.source) s (diagnostics_of s t)

@@ -1,21 +1,14 @@
-use Rattle.std.proofs.Common.{ap, map, ◌∙◌}
+use Rattle.std.proofs.lemmas.Result.{IfOk-weaker}
+use Rattle.miette_snippet_rules.specs.rules.Highlighting.{leaves_plain, AreCallsOn}
 use Rattle.miette_snippet_rules.specs.views.SettingsView.{settings_of}
-use Rattle.miette_labels.specs.views.GivenLabels.{label_at}
-use Rattle.miette_snippet_rules.specs.rules.Highlighting.{leaves_plain, follows}
-use Rattle.miette_highlight.specs.rules.HighlighterCalls.{Leads}
-use Rattle.miette_layout.proofs.SnippetSequence.{gives_refused}
+use Rattle.miette_layout.proofs.AskedEnds.{given_asked}
 use Rattle.miette_layout.proofs.snippets.all_snippets.Goals as goal
 
 pub returns-clause-gives : goal.returns-clause-gives
-returns-clause-gives g c =
-    gives_refused (settings_of c.args.settings.now)
-    (g.S.SourceCode.source c.args.source.now) c.args.labels.now
-    (map (λ turn. label_at c.args.labels.now turn.index) c.deref.result.now)
-    (leaves_plain g.H.Highlighter.is_blank c.args.highlighter.now)
-    (λ calls. Leads (follows g.H.Highlighter.may_follow c.args.highlighter.now) calls
-    (follows g.H.Highlighter.may_follow c.args.highlighter.now)) c.in_ok-reads.field-0 c.in-Refused.index
-    c.in-Refused.refusal c.index-labels-index.result
-    c.name_of.result.now c.args.page c.push_refused_row.new.page
-    c.in_ok-reads.ensures c.in-Refused.is (ap (λ order. map (λ turn. label_at c.args.labels.now turn.index) order)
-    c.deref.ensures.value ∙ c.in_ok-order.ensures.order) c.index-labels-index.is c.name_of.ensures
-    c.in_ok-push_refused_row-in-Refused.ensures (λ later k. k)
+returns-clause-gives g c = IfOk-weaker c.snippets_around.result _ _ (λ made h.
+    given_asked (record {
+      settings = settings_of c.args.settings.now;
+      blank = leaves_plain g.H.Highlighter.is_blank c.args.highlighter.now;
+      happen = AreCallsOn g.H.Highlighter.may_follow c.args.highlighter.now c.snippets_around.new.highlighter;
+    }) (g.S.SourceCode.source c.args.source.now) c.args.labels.now c.end_lines-context_lines.result c.args.page made
+    c.end_lines-context_lines.ensures h) c.snippets_around.ensures.gives

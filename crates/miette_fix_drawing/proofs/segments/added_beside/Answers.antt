@@ -1,0 +1,27 @@
+use Rattle.std.proofs.Common.{◌∙◌, ap, length, option_map, Some, subst, sym, arith}
+use Rattle.miette_fix_rows.specs.rules.DiffRows.{ChangedLine, added_beside, added_line}
+use Rattle.miette_fix_drawing.specs.steps.Spans.{AreApart}
+use Rattle.miette_fix_drawing.specs.views.Contexts.{context_with}
+use Rattle.miette_fix_drawing.specs.views.ShownLines.{other_of}
+use Rattle.miette_fix_drawing.specs.views.Standings.{standing_of}
+use Rattle.miette_fix_drawing.proofs.segments.added_beside.Goals as goal
+
+pub returns-in_default-clause-lines : goal.returns-in_default-clause-lines
+returns-in_default-clause-lines c =
+    ap (λ o. option_map (added_beside (context_with c.args.drawing.now) (standing_of c.args.at.now))
+    (option_map other_of o)) (sym c.in_default.is)
+
+pub returns-clause-lines : goal.returns-clause-lines
+returns-clause-lines c =
+    let context = context_with c.args.drawing.now in
+    let at = standing_of c.args.at.now in
+    let line : ChangedLine = added_line context at c.in-Some.other.text.now in
+    ap (λ (it : ChangedLine). Some (record it { start = c.in_ok-start.start })) c.in_ok-line.ensures
+    ∙ ap (λ n. Some (record line { start = n })) c.in_ok-start.ensures
+    ∙ ap (λ o. option_map (added_beside context at) (option_map other_of o)) (sym c.in-Some.is)
+
+pub returns-clause-readable : goal.returns-clause-readable
+returns-clause-readable c = (
+  omega (arith, c.in_ok-_end.ensures, ap (λ (it : ChangedLine). length it.text) c.in_ok-line.ensures),
+  subst AreApart (sym (ap (λ (it : ChangedLine). it.spans) c.in_ok-line.ensures)) c.requires,
+)
