@@ -33,7 +33,7 @@ pub enum Call {
 }
 
 /// All calls.
-pub static CALLS: [(&str, Call); 139] = [
+pub static CALLS: [(&str, Call); 141] = [
     ("LabeledSpan::at", Call::Label(Label::At)),
     ("LabeledSpan::at_offset", Call::Label(Label::AtOffset)),
     ("LabeledSpan::clone", Call::Label(Label::Clones)),
@@ -83,7 +83,12 @@ pub static CALLS: [(&str, Call); 139] = [
     ),
     ("NamedSource::clone", Call::Source(Source::NamedClones)),
     ("OwnedSource::new", Call::Source(Source::Owned)),
+    ("OwnedSource::indexed", Call::Source(Source::OwnedIndexed)),
     ("OwnedSource::named", Call::Source(Source::OwnedNamed)),
+    (
+        "OwnedSource::named_indexed",
+        Call::Source(Source::OwnedNamedIndexed),
+    ),
     (
         "ThemeCharacters::unicode",
         Call::Theme(Theme::UnicodeCharacters),

@@ -14,7 +14,9 @@ pub enum Call {
     NamedWithLanguage,
     NamedClones,
     Owned,
+    OwnedIndexed,
     OwnedNamed,
+    OwnedNamedIndexed,
 }
 
 /// Three lines, the last without a line feed.
@@ -30,9 +32,14 @@ pub fn make(alloc: Global, call: Call, row: &mut Rows) -> Called {
         Call::Indexed => read(row, IndexedSource::new(alloc, bytes)),
         Call::Named => read(row, NamedSource::new(alloc, "bad_file.rs", bytes)),
         Call::Owned => read(row, OwnedSource::new(alloc, bytes)),
+        Call::OwnedIndexed => read(row, OwnedSource::indexed(alloc, bytes)),
         Call::OwnedNamed => read(
             row,
             OwnedSource::named(alloc, "bad_file.rs", Some("rust"), bytes),
+        ),
+        Call::OwnedNamedIndexed => read(
+            row,
+            OwnedSource::named_indexed(alloc, "bad_file.rs", Some("rust"), bytes),
         ),
         Call::NamedWithLanguage => return with_language(alloc, row, bytes),
         Call::NamedClones => return clones(alloc, row, bytes),

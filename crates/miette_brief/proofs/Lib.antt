@@ -18,3 +18,4 @@ pub mod Commanding
 pub mod CommandsBack
 pub mod ToldSources
 pub mod LabelOrder
+pub mod KnownPlaces

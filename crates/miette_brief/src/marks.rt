@@ -21,7 +21,7 @@ use crate::spots::label_of;
 use miette_labels::order::{Turn, by_offset};
 use miette_protocol::error::RenderError;
 use miette_protocol::protocol::{Diagnostic, LabeledSpan};
-use miette_protocol::source::SourceCode;
+use miette_protocol::source::{START, SourceCode};
 use miette_tree::parts::labels_of;
 use miette_tree::report::{Report, Snippets, SourceRef};
 use std::alloc::{AllocError, Global};
@@ -46,7 +46,7 @@ fn push_mark<'a, S: SourceCode>(
     Ok(())
 }
 
-/// Appends labels in this order; `Refused` where one can't be read.
+/// Appends labels in this order, each read near the one before; `Refused` where one can't be read.
 fn push_marks<'a, S: SourceCode>(
     source: Option<SourceRef<'a, S>>,
     labels: &'a [LabeledSpan],
@@ -63,9 +63,10 @@ fn push_marks<'a, S: SourceCode>(
         accepts (option_map (shown_source S.source) source.entry)
         (map (λ turn. label_at labels.now turn.index) order.now) ≡ false }
 {
+    let mut known = START;
     for turn in order {
         let label = label_of(labels, *turn);
-        label_place(source, label.inner())?;
+        label_place(source, label.inner(), &mut known)?;
         push_mark(Mark { source, label }, marks)?;
     }
     Ok(())

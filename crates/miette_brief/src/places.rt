@@ -7,7 +7,7 @@ ghost use Rattle.miette_brief.specs.rules.Places.{label_place as place_of_label}
 ghost use Rattle.std.specs.List.{All};
 ghost use Rattle.miette_tree.specs.rules.Reads.{accepts, holds_further};
 ghost use Rattle.miette_tree.specs.views.Attached.{section_of};
-ghost use Rattle.miette_brief.specs.steps.Reads.{IsUnread, IsReadAt, IsNamePlace, IsDiagnosticPlace};
+ghost use Rattle.miette_brief.specs.steps.Reads.{AreKnown, IsUnread, IsReadAt, IsNamePlace, IsDiagnosticPlace};
 ghost use Rattle.miette_brief.specs.steps.Reads.{IsSourcePlace, IsCausePlace};
 ghost use Rattle.miette_brief.specs.rules.Places.{span_place as begin_of_span, primary_spot as primary_of};
 ghost use Rattle.miette_labels.specs.rules.Groups.{in_order};
@@ -20,7 +20,7 @@ use crate::spots::{Found, primary_found, primary_label, read_begin};
 use miette_labels::order::Turn;
 use miette_protocol::error::RenderError;
 use miette_protocol::protocol::{LabeledSpan, SourceOffset, SourceSpan};
-use miette_protocol::source::SourceCode;
+use miette_protocol::source::{KnownLines, SourceCode};
 use miette_tree::report::{Snippets, SourceRef};
 use std::alloc::{AllocError, Global};
 
@@ -34,27 +34,34 @@ fn no_place() -> Place<'static>
     }
 }
 
-/// Where a span begins; `Refused` where its read is refused.
+/// Where a span begins, read near lines that are known; `Refused` where its read is refused.
 fn span_place<'a, S: SourceCode>(
     source: SourceRef<'a, S>,
     span: &SourceSpan,
+    known: &mut KnownLines,
 ) -> Result<Place<'a>, RenderError>
+    requires { AreKnown (Some (shown_source S.source source)) known.old }
+    ensures known { AreKnown (Some (shown_source S.source source.entry)) known.new }
     ensures place { IfOk result (λ at. place_of at ≡ begin_of_span (shown_source S.source source.entry) span.now) }
     ensures accepted { OnOk result (IsAccepted (shown_source S.source source.entry).bytes span.now) }
     ensures refused { (result ≡ Err RenderError.Refused) →
         IsUnread (Some (shown_source S.source source.entry)) span.now }
 {
-    match read_begin(source, span)? {
+    match read_begin(source, span, known)? {
         Some(at) => Ok(at),
         None => Err(RenderError::Refused),
     }
 }
 
-/// Where a label's span begins, nowhere without a source; `Refused` where its read is refused.
+/// Where a label's span begins, nowhere without a source; `Refused` where its read is refused. It is read near lines
+/// that are known; then those are where it begins.
 pub(crate) fn label_place<'a, S: SourceCode>(
     source: Option<SourceRef<'a, S>>,
     span: &SourceSpan,
+    known: &mut KnownLines,
 ) -> Result<Place<'a>, RenderError>
+    requires { AreKnown (option_map (shown_source S.source) source) known.old }
+    ensures known { AreKnown (option_map (shown_source S.source) source.entry) known.new }
     ensures place { IfOk result (λ at.
         place_of at ≡ place_of_label (option_map (shown_source S.source) source.entry) span.now) }
     ensures accepted { OnOk result (IsReadAt (option_map (shown_source S.source) source.entry) span.now) }
@@ -62,7 +69,7 @@ pub(crate) fn label_place<'a, S: SourceCode>(
         IsUnread (option_map (shown_source S.source) source.entry) span.now }
 {
     match source {
-        Some(source) => span_place(source, span),
+        Some(source) => span_place(source, span, known),
         None => Ok(no_place()),
     }
 }

@@ -18,7 +18,7 @@ ghost use Rattle.miette_brief.specs.rules.Report.{help_rows};
 ghost use Rattle.miette_brief.specs.rules.Rows.{rows_text};
 ghost use Rattle.miette_brief.specs.steps.AppendedParts.{AppendsAdvice, AppendsCauses, AppendsLabelled, AppendsOwn};
 ghost use Rattle.miette_brief.specs.steps.Conversions.{place_of};
-ghost use Rattle.miette_brief.specs.steps.Reads.{IsUnread, IsReadAt};
+ghost use Rattle.miette_brief.specs.steps.Reads.{AreKnown, IsUnread, IsReadAt};
 ghost use Rattle.miette_labels.specs.rules.Groups.{in_order};
 ghost use Rattle.miette_labels.specs.views.GivenLabels.{label_at};
 
@@ -29,7 +29,7 @@ use crate::spots::label_of;
 use miette_labels::order::{Turn, by_offset};
 use miette_protocol::error::RenderError;
 use miette_protocol::protocol::{Diagnostic, LabeledSpan};
-use miette_protocol::source::SourceCode;
+use miette_protocol::source::{KnownLines, START, SourceCode};
 use miette_tree::parts::{cause_texts, labels_of, own_or};
 use miette_tree::report::{Cause, Report, Snippets, SourceRef};
 use std::alloc::{AllocError, Global};
@@ -47,19 +47,22 @@ fn push_head<D: Diagnostic, S: SourceCode>(
     push_row(out, at, kind, report.message())
 }
 
-/// The row of a label that has a text; `Refused` where its read is refused.
+/// The row of a label that has a text, read near lines that are known; `Refused` where its read is refused.
 fn push_note<S: SourceCode>(
     source: Option<SourceRef<'_, S>>,
     label: &LabeledSpan,
+    known: &mut KnownLines,
     out: &mut String,
 ) -> Result<(), RenderError>
+    requires { AreKnown (option_map (shown_source S.source) source) known.old }
+    ensures known { AreKnown (option_map (shown_source S.source) source.entry) known.new }
     ensures text { OnOk result (string_bytes out.new ≡ string_bytes out.old ++ rows_text (note_rows_of
         (place_of_label (option_map (shown_source S.source) source.entry) label.now.span) label.now.text)) }
     ensures accepted { OnOk result (IsReadAt (option_map (shown_source S.source) source.entry) label.now.span) }
     ensures refused { (result ≡ Err RenderError.Refused) →
         IsUnread (option_map (shown_source S.source) source.entry) label.now.span }
 {
-    let at = label_place(source, label.inner())?;
+    let at = label_place(source, label.inner(), known)?;
     let Some(text) = label.label() else {
         return Ok(());
     };
@@ -67,7 +70,7 @@ fn push_note<S: SourceCode>(
     Ok(())
 }
 
-/// The rows of labels in this order; `Refused` where one can't be read.
+/// The rows of labels in this order, each read near the one before; `Refused` where one can't be read.
 fn push_notes<S: SourceCode>(
     source: Option<SourceRef<'_, S>>,
     labels: &[LabeledSpan],
@@ -84,9 +87,10 @@ fn push_notes<S: SourceCode>(
         accepts (option_map (shown_source S.source) source.entry)
         (map (λ turn. label_at labels.now turn.index) order.now) ≡ false }
 {
+    let mut known = START;
     for turn in order {
         let label = label_of(labels, *turn);
-        push_note(source, label, out)?;
+        push_note(source, label, &mut known, out)?;
     }
     Ok(())
 }

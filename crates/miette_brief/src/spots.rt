@@ -9,14 +9,15 @@ ghost use Rattle.miette_labels.specs.views.GivenLabels.{label_at};
 ghost use Rattle.miette_brief.specs.rules.Places.{marked_in, first_in, spot_over, found_further};
 ghost use Rattle.miette_brief.specs.rules.Places.{primary_spot as primary_of};
 ghost use Rattle.miette_brief.specs.steps.Conversions.{place_of};
-ghost use Rattle.miette_brief.specs.steps.Reads.{IsBegin, IsFound};
+ghost use Rattle.miette_brief.specs.steps.Reads.{AreKnown, IsBegin, IsFound};
+ghost use Rattle.miette_protocol.specs.rules.Outcome.{Answers};
 
 use crate::fix_its::Position;
 use crate::rows::Place;
 use miette_basics::sums::sum;
 use miette_labels::order::{Turn, by_offset};
 use miette_protocol::protocol::{LabeledSpan, SourceSpan};
-use miette_protocol::source::{MietteSpanContents, SourceCode};
+use miette_protocol::source::{KnownLines, MietteSpanContents, ReadResult, START, SourceCode};
 use miette_tree::report::{Snippets, SourceRef};
 use std::alloc::{AllocError, Global};
 
@@ -58,14 +59,38 @@ fn begin_of<'a>(contents: &MietteSpanContents<'a>) -> Result<Place<'a>, AllocErr
     })
 }
 
-/// Where a span begins, none where its read is refused.
+/// Reads a span without context near lines that are known; then those are where it begins.
+fn read_near<'a, S: SourceCode>(
+    source: SourceRef<'a, S>,
+    span: &SourceSpan,
+    known: &mut KnownLines,
+) -> ReadResult<'a>
+    requires { AreKnown (Some (shown_source S.source source)) known.old }
+    ensures answers { Answers (shown_source S.source source.entry) span.now 0 0 result }
+    ensures known { AreKnown (Some (shown_source S.source source.entry)) known.new }
+{
+    match source.read_span_near(*known, span, 0, 0) {
+        Ok(lent) => {
+            let begin = lent.known();
+            *known = begin;
+            Ok(lent)
+        }
+        Err(error) => Err(error),
+    }
+}
+
+/// Where a span begins, none where its read is refused. It is read near lines that are known; then those are where it
+/// begins.
 pub(crate) fn read_begin<'a, S: SourceCode>(
     source: SourceRef<'a, S>,
     span: &SourceSpan,
+    known: &mut KnownLines,
 ) -> Result<Option<Place<'a>>, AllocError>
-    ensures { IfOk result (λ at. IsBegin (shown_source S.source source.entry) span.now (option_map place_of at)) }
+    requires { AreKnown (Some (shown_source S.source source)) known.old }
+    ensures begin { IfOk result (λ at. IsBegin (shown_source S.source source.entry) span.now (option_map place_of at)) }
+    ensures known { AreKnown (Some (shown_source S.source source.entry)) known.new }
 {
-    match source.read_span(span, 0, 0) {
+    match read_near(source, span, known) {
         Ok(contents) => Ok(Some(begin_of(&contents)?)),
         Err(_) => Ok(None),
     }
@@ -79,7 +104,8 @@ fn read_spot<'a, S: SourceCode>(
     ensures { IfOk result (λ found.
         IsFound (Some (record { source = shown_source S.source source.entry; span = span.now })) found) }
 {
-    match read_begin(source, span)? {
+    let mut known = START;
+    match read_begin(source, span, &mut known)? {
         Some(at) => Ok(Found::At(at)),
         None => Ok(Found::Unread),
     }

@@ -13,7 +13,8 @@ ghost use Rattle.miette_tree.specs.views.Report.{tree_of};
 use crate::error::{BuildError, Built};
 use crate::json_values::{list_in, member_at, text_in};
 use crate::members::{needed_text_at, whole_at};
-use crate::parts::{described, diagnostic_from, labels_at, source_from};
+use crate::parts::{described, diagnostic_from, labels_at};
+use crate::source::{is_read_often, source_from};
 use json::Value;
 use miette_fixes::fix::{Applicability, Edit, Fix};
 use miette_protocol::diagnostic::MietteDiagnostic;
@@ -103,7 +104,7 @@ fn needed_source_at(alloc: Global, value: &Value<'_>, key: &str) -> Built<OwnedS
         and_then (at_key key.now (value_data value.now)) source_of ≡ None }
 {
     let found = described(member_at(value, key))?;
-    source_from(alloc, found)
+    source_from(alloc, found, is_read_often(value))
 }
 
 /// Labels over a further source.

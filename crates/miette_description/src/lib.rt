@@ -10,3 +10,4 @@ mod numbers;
 mod parts;
 mod reading;
 pub mod report;
+mod source;

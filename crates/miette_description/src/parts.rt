@@ -5,10 +5,9 @@ ghost use Rattle.std.specs.Option.{option_copied};
 ghost use Rattle.serde_json.specs.Find.{as_str};
 ghost use Rattle.miette_description.specs.steps.ParsedValues.{value_data};
 ghost use Rattle.miette_protocol.specs.views.Diagnostic.{meaning_of};
-ghost use Rattle.miette_tree.specs.views.Owned.{owned_source};
 ghost use Rattle.miette_description.specs.rules.Members.{at_key, optional_value, list_of, severity_of};
 ghost use Rattle.miette_description.specs.rules.Members.{label_of};
-ghost use Rattle.miette_description.specs.rules.Members.{source_of, meaning_in};
+ghost use Rattle.miette_description.specs.rules.Members.{meaning_in};
 
 use crate::error::{BuildError, Built};
 use crate::json_values::{list_in, member_at, text_in};
@@ -16,7 +15,6 @@ use crate::members::{lines_at, needed_text_at, text_at, truth_at, whole_at};
 use json::Value;
 use miette_protocol::diagnostic::MietteDiagnostic;
 use miette_protocol::protocol::{LabeledSpan, Severity};
-use miette_tree::report::OwnedSource;
 use std::alloc::{AllocError, Global};
 
 // What is found, or that the description is bad.
@@ -160,34 +158,6 @@ fn severity_at(value: &Value<'_>, key: &str) -> Option<Option<Severity>>
         None => Some(None),
         Some(found) => Some(Some(severity_named(found)?)),
     }
-}
-
-pub(crate) fn source_from(alloc: Global, value: &Value<'_>) -> Built<OwnedSource>
-    ensures ok { IfOk result (λ s. source_of (value_data value.now) ≡ Some (owned_source s)) }
-    ensures description { (result ≡ Err BuildError.Description) → source_of (value_data value.now) ≡ None }
-{
-    let text = described(needed_text_at(value, "text"))?;
-    let name = described(text_at(value, "name"))?;
-    let language = described(text_at(value, "language"))?;
-    let Ok(bytes) = Vec::from_slice(alloc, text.as_bytes()) else {
-        return Err(BuildError::Memory);
-    };
-    match name {
-        Some(name) => Ok(OwnedSource::named(alloc, name, language, bytes)?),
-        None => Ok(OwnedSource::new(alloc, bytes)?),
-    }
-}
-
-pub(crate) fn source_at(alloc: Global, value: &Value<'_>, key: &str) -> Built<Option<OwnedSource>>
-    ensures ok { IfOk result (λ o. optional_value source_of (at_key key.now (value_data value.now))
-        ≡ Some (option_map owned_source o)) }
-    ensures description { (result ≡ Err BuildError.Description) →
-        optional_value source_of (at_key key.now (value_data value.now)) ≡ None }
-{
-    let Some(found) = member_at(value, key) else {
-        return Ok(None);
-    };
-    Ok(Some(source_from(alloc, found)?))
 }
 
 pub(crate) fn diagnostic_from(alloc: Global, value: &Value<'_>) -> Built<MietteDiagnostic>

@@ -2,4 +2,6 @@
 
 pub use crate::characters::by_char;
 pub use crate::highlighter::{BlankHighlighter, Highlighter, pieces_law};
-pub use crate::patterns::{Delimiters, Delimiters as Marks, OpenPart, Pattern, PatternHighlighter, Rule};
+pub use crate::patterns::{
+    Delimiters, Delimiters as Marks, OpenPart, Pattern, PatternHighlighter, Rule,
+};

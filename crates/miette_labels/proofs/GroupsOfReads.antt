@@ -7,8 +7,8 @@ use Rattle.std.specs.Option.{option_map}
 use Rattle.std.specs.List.{AllByRecursion}
 use Rattle.std.specs.List.Sorted.{IsNonDecreasingBy, IsStableByKey}
 use Rattle.std.specs.Ordering.{nat_cmp}
-use Rattle.std.proofs.lemmas.List.{map-append, take_more, drop_all}
-use Rattle.std.proofs.lemmas.List.Elements.{All-from_recursion, All-push, All-tail}
+use Rattle.std.proofs.lemmas.List.{map-append, take_all, take_more, drop_all}
+use Rattle.std.proofs.lemmas.List.Elements.{All-from_recursion, All-nil, All-push, All-tail}
 use Rattle.std.proofs.lemmas.Bool.{or_parts}
 use Rattle.miette_protocol.specs.views.Meaning.{Label}
 use Rattle.miette_protocol.specs.rules.Reading.{Span, Source, Contents, IsAccepted}
@@ -66,6 +66,17 @@ read_more source spans i groups more span lent h lt is accepted e m =
       lent = All-push (λ (g : Group). IsLent 0 source g.span g.contents) groups own h.lent
           (record { accepted = accepted; is = e });
     })
+
+pub none_read : (source : Source) (spans : List Span) (groups : List Group) → groups ≡ []
+    → AreReadTo source spans 0 groups
+none_read source spans groups e =
+    subst (λ (gs : List Group). AreReadTo source spans 0 gs) (sym e)
+    (record { are = refl; lent = All-nil (λ (g : Group). IsLent 0 source g.span g.contents) })
+
+pub all_read : (source : Source) (spans : List Span) (i : ℕ) (groups : List Group) → length spans ≤ i
+    → AreReadTo source spans i groups → (map (λ group. group.span) groups ≡ spans)
+    × All (λ group. IsLent 0 source group.span group.contents) groups
+all_read source spans i groups past h = (h.are ∙ take_all i spans past, h.lent)
 
 -- ---- the spans of groups are accepted
 

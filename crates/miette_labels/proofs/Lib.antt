@@ -6,3 +6,4 @@ pub mod OwnContexts
 pub mod RefusedLabel
 pub mod SortedLabels
 pub mod Swept
+pub mod KnownLabels

@@ -1,11 +1,12 @@
 -- Labels that were read so far, and the first one that is refused.
-use Rattle.std.proofs.Common.{ℕ, suc, ◌+◌, ◌<◌, ◌≡◌, max, Bool, true, false, cond, leb, List, [], ◌∷◌, ◌++◌, length}
-use Rattle.std.proofs.Common.{map, take, drop, get_or, Some, None, refl, sym, ap, ◌∙◌, subst, arith, All, append_assoc}
+use Rattle.std.proofs.Common.{ℕ, suc, ◌+◌, ◌<◌, ◌≤◌, ◌≡◌, max, Bool, true, false, cond, leb, List, [], ◌∷◌, ◌++◌}
+use Rattle.std.proofs.Common.{length, map, take, drop, get_or, Some, None, refl, sym, ap, ◌∙◌, subst, arith, All}
+use Rattle.std.proofs.Common.{append_assoc}
 use Rattle.std.proofs.Common.{take-append-drop}
 use Rattle.std.specs.Prelude.{codes, unwrap_or}
 use Rattle.std.proofs.lemmas.Bool.{le-leb, leb-true, and_from, and_left, and_right}
-use Rattle.std.proofs.lemmas.List.{map-append, get_or-map, take_more, length-map}
-use Rattle.std.proofs.lemmas.List.Elements.{All-push}
+use Rattle.std.proofs.lemmas.List.{map-append, get_or-map, take_all, take_more, length-map}
+use Rattle.std.proofs.lemmas.List.Elements.{All-nil, All-push}
 use Rattle.miette_protocol.specs.views.Meaning.{Label}
 use Rattle.miette_protocol.specs.rules.Reading.{Span, Source, IsAccepted, is_accepted}
 use Rattle.miette_protocol.specs.rules.Outcome.{Refuses}
@@ -51,6 +52,20 @@ pub record AreReadTo (context : ℕ) (source : Source) (labels : List Label) (or
     (read : List ReadLabel) : Type 0 where
   pub are : map (read_of labels) read ≡ take i (map (turn_of labels) order)
   pub each : All (IsRead context source labels) read
+
+pub none_read : (context : ℕ) (source : Source) (labels : List Label) (order : List Turn) (read : List ReadLabel)
+    → read ≡ [] → AreReadTo context source labels order 0 read
+none_read context source labels order read e =
+    subst (λ (xs : List ReadLabel). AreReadTo context source labels order 0 xs) (sym e)
+    (record { are = refl; each = All-nil (IsRead context source labels) })
+
+pub all_read : (context : ℕ) (source : Source) (labels : List Label) (order : List Turn) (i : ℕ) (read : List ReadLabel)
+    → length order ≤ i → AreReadTo context source labels order i read
+    → (map (read_of labels) read ≡ map (turn_of labels) order) × All (IsRead context source labels) read
+all_read context source labels order i read past h = (
+  h.are ∙ take_all i (map (turn_of labels) order) (omega (arith, past, length-map order (turn_of labels))),
+  h.each,
+)
 
 order-more : (labels : List Label) (order : List Turn) (i : ℕ) (d : Turn) → i < length order →
     take (i + 1) (map (turn_of labels) order) ≡ take i (map (turn_of labels) order) ++ turn_of labels (get_or order i d)

@@ -13,7 +13,7 @@ use crate::reading::{ReadLabel, some_own};
 pub use crate::spans::{end_of, join};
 use crate::stretches;
 use miette_protocol::protocol::{LabeledSpan, SourceSpan};
-use miette_protocol::source::{MietteSpanContents, SourceCode};
+use miette_protocol::source::{KnownLines, MietteSpanContents, START, SourceCode};
 use std::alloc::{AllocError, Global};
 use std::mem;
 
@@ -33,7 +33,8 @@ fn touches(before: &MietteSpanContents<'_>, label: &MietteSpanContents<'_>) -> b
     label.line().saturating_sub(before.line()) <= before.line_count()
 }
 
-// The group with a label, where it joins and the joined span is read.
+// The group with a label, where it joins and the joined span is read: of a source without an index no more is gone
+// through than the label's lines.
 fn larger_group<'a, S: SourceCode>(
     source: &'a S,
     context: usize,
@@ -53,7 +54,9 @@ fn larger_group<'a, S: SourceCode>(
         return Ok(None);
     }
     let span = join(&before.span, &label.span)?;
-    match source.read_span(&span, context, context) {
+    let first = before.contents.begin();
+    let last = label.contents.begin();
+    match source.read_span_near(KnownLines { first, last }, &span, context, context) {
         Ok(contents) => Ok(Some(Group { span, contents })),
         Err(_) => Ok(None),
     }
@@ -109,12 +112,16 @@ fn read_all<'a, S: SourceCode>(
         × All (λ group. IsLent 0 (S.source source.now) group.span group.contents) groups.items)) }
 {
     let mut groups = Vec::with_capacity(alloc, spans.len())?;
+    let mut known = START;
     for span in spans {
-        match source.read_span(span, 0, 0) {
-            Ok(contents) => groups.push(Group {
-                span: *span,
-                contents,
-            })?,
+        match source.read_span_near(known, span, 0, 0) {
+            Ok(contents) => {
+                known = contents.known();
+                groups.push(Group {
+                    span: *span,
+                    contents,
+                })?
+            }
             Err(_) => return Ok(None),
         }
     }

@@ -2,12 +2,13 @@
 
 ghost use Rattle.std.specs.Prelude.{◌≡◌, None, IfOk};
 ghost use Rattle.std.specs.List.Sorted.{IsNonDecreasingBy};
+ghost use Rattle.miette_source_lines.specs.views.Known.{IsKnown};
 ghost use Rattle.miette_labels.specs.views.Primary.{chosen_label, end_within as end_of_label, PointsTo};
 
 use crate::reading::ReadLabel;
 use crate::spans::end_of;
 use miette_protocol::protocol::SourceSpan;
-use miette_protocol::source::SourceCode;
+use miette_protocol::source::{KnownLines, SourceCode};
 use std::alloc::AllocError;
 
 /// Where a snippet's primary label begins.
@@ -99,19 +100,22 @@ pub fn near<'r, 'a>(
 /// Where the primary label of a group with this span begins, by a read without context. A label belongs to the group
 /// where its span lies within the group's; or, where labels have their `own` numbers of context lines, where it
 /// begins in the group's bytes or at their end. `AllocError` where the group's span or a label's ends past the
-/// largest `usize`; a read that fails is the place `Unread`.
+/// largest `usize`; a read that fails is the place `Unread`. Lines near the group are known.
 pub fn place_of<S: SourceCode>(
     source: &S,
     own: bool,
+    known: KnownLines,
     span: &SourceSpan,
     reads: &[ReadLabel<'_>],
 ) -> Result<Place, AllocError>
+    requires first { IsKnown (S.source source.now).bytes known.first }
+    requires last { IsKnown (S.source source.now).bytes known.last }
     ensures { IfOk result (λ place. PointsTo (S.source source.now) (chosen_label own span.now None reads.now) place) }
 {
     let Some(label) = primary(own, span, reads)? else {
         return Ok(Place::Nowhere);
     };
-    match source.read_span(&label, 0, 0) {
+    match source.read_span_near(known, &label, 0, 0) {
         Ok(contents) => Ok(Place::At(contents.line(), contents.column())),
         Err(_) => Ok(Place::Unread),
     }

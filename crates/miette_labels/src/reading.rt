@@ -10,7 +10,7 @@ ghost use Rattle.miette_labels.specs.steps.Reads.{Reason};
 use crate::order::Turn;
 use miette_protocol::error::MietteError;
 use miette_protocol::protocol::{LabeledSpan, SourceSpan};
-use miette_protocol::source::{MietteSpanContents, SourceCode};
+use miette_protocol::source::{MietteSpanContents, START, SourceCode};
 use std::alloc::{AllocError, Global};
 
 /// A label that was read: its number in the list as given, its span, whether it is marked as primary, and what the
@@ -84,9 +84,9 @@ pub fn lines_around(context: usize, own: bool, label: &LabeledSpan) -> usize
     }
 }
 
-/// Reads the labels in this order, each with its own number of context lines or with this one, up to the first one
-/// that is refused.
-/// Where some label has its own number, this one counts as at least 1. `AllocError` where memory is refused.
+/// Reads the labels in this order, each near the one before it, with its own number of context lines or with this one,
+/// up to the first one that is refused. Where some label has its own number, this one counts as at least 1.
+/// `AllocError` where memory is refused.
 pub fn read_labels<'a, S: SourceCode>(
     alloc: Global,
     source: &'a S,
@@ -100,16 +100,20 @@ pub fn read_labels<'a, S: SourceCode>(
 {
     let own = some_own(labels);
     let mut reads = Vec::with_capacity(alloc, order.len())?;
+    let mut known = START;
     for turn in order {
         let label = &labels[turn.index];
         let lines = lines_around(context, own, label);
-        match source.read_span(label.inner(), lines, lines) {
-            Ok(contents) => reads.push(ReadLabel {
-                index: turn.index,
-                span: *label.inner(),
-                primary: label.primary(),
-                contents,
-            })?,
+        match source.read_span_near(known, label.inner(), lines, lines) {
+            Ok(contents) => {
+                known = contents.known();
+                reads.push(ReadLabel {
+                    index: turn.index,
+                    span: *label.inner(),
+                    primary: label.primary(),
+                    contents,
+                })?
+            }
             Err(error) => return Ok(ReadLabels::Refused(turn.index, reason_of(&error))),
         }
     }

@@ -96,7 +96,7 @@ fn read_snippets<'a, 'b, S: SourceCode, H: Highlighter, O: Canvas + Drop>(
     };
     for group in &groups {
         let near = near(own, &group.span, reads)?;
-        let place = place_of(source, own, &group.span, near)?;
+        let place = place_of(source, own, group.contents.known(), &group.span, near)?;
         if place.is_unread() {
             return Ok(None);
         }

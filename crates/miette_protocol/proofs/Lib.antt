@@ -2,3 +2,4 @@ pub mod LineFacts
 pub mod Wholes
 pub mod Locations
 pub mod Labelled
+pub mod KnownLines

@@ -5,6 +5,7 @@ ghost use Rattle.std.specs.Option.{option_copied};
 ghost use Rattle.miette_protocol.specs.rules.Reading.{Contents};
 
 use crate::protocol::SourceSpan;
+use miette_source_lines::near::{KnownLine, KnownLines};
 use std::alloc::AllocError;
 use std::marker::Model;
 
@@ -148,6 +149,30 @@ impl<'a> MietteSpanContents<'a> {
         ensures { result ≡ self.now.line }
     {
         self.line
+    }
+
+    /// Where the bytes begin, and the line there.
+    pub fn begin(&self) -> KnownLine
+        ensures offset { result.offset ≡ self.now.span.offset }
+        ensures line { result.line ≡ self.now.line }
+    {
+        KnownLine {
+            offset: self.span.offset(),
+            line: self.line,
+        }
+    }
+
+    /// The same, for a read near them.
+    pub fn known(&self) -> KnownLines
+        ensures offset { result.first.offset ≡ self.now.span.offset }
+        ensures line { result.first.line ≡ self.now.line }
+        ensures last { result.last ≡ result.first }
+    {
+        let begin = self.begin();
+        KnownLines {
+            first: begin,
+            last: begin,
+        }
     }
 
     /// The zero-based column, in bytes of text, at which the bytes begin in that line.

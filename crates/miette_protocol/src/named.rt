@@ -1,10 +1,11 @@
 //! A source with a name.
 
-ghost use Rattle.std.specs.Prelude.{◌≡◌, Some, None, IfOk};
+ghost use Rattle.std.specs.Prelude.{◌≡◌, Some, None, IfOk, if◌then◌else◌};
 
 use crate::contents::MietteSpanContents;
 use crate::protocol::SourceSpan;
 use crate::source_code::{ReadResult, SourceCode};
+use miette_source_lines::near::KnownLines;
 use std::alloc::{AllocError, Global};
 
 /// A source with a name, and with a language where one is given. All else is the inner source's, its
@@ -72,6 +73,36 @@ impl<S: SourceCode> NamedSource<S> {
     }
 }
 
+impl<S> NamedSource<S> {
+    ghost use Rattle.std.specs.Option.{is_some};
+    ghost use Rattle.miette_protocol.specs.views.Named.{name_of, given_language};
+
+    // Contents of the source inside, with the name and the language of this one.
+    fn named<'a>(&'a self, inner: &MietteSpanContents<'a>) -> MietteSpanContents<'a>
+        ensures { result ≡ record inner.now {
+          name = Some (name_of self.now);
+          language = if is_some (given_language self.now) then given_language self.now else inner.now.language;
+        } }
+    {
+        let named = MietteSpanContents::new_named(
+            self.name.as_str(),
+            inner.data(),
+            *inner.span(),
+            inner.line(),
+            inner.column(),
+            inner.line_count(),
+        );
+        let language = match &self.language {
+            Some(language) => Some(language.as_str()),
+            None => inner.language(),
+        };
+        match language {
+            Some(language) => named.with_language(language),
+            None => named,
+        }
+    }
+}
+
 impl<S: SourceCode> SourceCode for NamedSource<S> {
     ghost use Rattle.std.specs.Prelude.{Some};
     ghost use Rattle.miette_protocol.specs.rules.Reading.{named_source};
@@ -81,21 +112,17 @@ impl<S: SourceCode> SourceCode for NamedSource<S> {
 
     fn read_span(&self, span: &SourceSpan, before: usize, after: usize) -> ReadResult<'_> {
         let contents = self.source.read_span(span, before, after)?;
-        let named = MietteSpanContents::new_named(
-            self.name.as_str(),
-            contents.data(),
-            *contents.span(),
-            contents.line(),
-            contents.column(),
-            contents.line_count(),
-        );
-        let language = match &self.language {
-            Some(language) => Some(language.as_str()),
-            None => contents.language(),
-        };
-        Ok(match language {
-            Some(language) => named.with_language(language),
-            None => named,
-        })
+        Ok(self.named(&contents))
+    }
+
+    fn read_span_near(
+        &self,
+        known: KnownLines,
+        span: &SourceSpan,
+        before: usize,
+        after: usize,
+    ) -> ReadResult<'_> {
+        let contents = self.source.read_span_near(known, span, before, after)?;
+        Ok(self.named(&contents))
     }
 }

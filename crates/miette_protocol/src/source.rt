@@ -8,3 +8,4 @@ pub use crate::named_traits::{
 pub use crate::source_code::{ReadResult, SourceCode};
 pub use miette_source_lines::indexed::IndexedSource;
 pub use miette_source_lines::lines::{LineOfText, Lines};
+pub use miette_source_lines::near::{KnownLine, KnownLines, START};

@@ -52,7 +52,8 @@ fn reports_of<D: Diagnostic, S: SourceCode>(
     Ok(reports)
 }
 
-/// The reports of findings in an input under its name: the first one has it, and the others are related to that.
+/// The reports of findings in an input under its name: the first one has it, with an index of its lines, and the others
+/// are related to that.
 ///
 /// # Errors
 /// Where no memory is found.
@@ -70,7 +71,7 @@ pub(crate) fn reports_over<D: Diagnostic, S: SourceCode>(
         return Ok(reports);
     }
     let first = reports.remove(0);
-    let source = OwnedSource::named(alloc, name, None, input)?;
+    let source = OwnedSource::named_indexed(alloc, name, None, input)?;
     let mut list = Vec::with_capacity(alloc, 1)?;
     list.push(first.with_related(reports).with_owned_source(source))?;
     Ok(list)

@@ -9,3 +9,4 @@ pub mod Only
 pub mod Firsts
 pub mod Parts
 pub mod Blocks
+pub mod Feeds

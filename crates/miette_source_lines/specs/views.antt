@@ -1,3 +1,4 @@
 -- What the code's values stand for.
 pub mod Index
+pub mod Known
 pub mod Walking

@@ -8,5 +8,6 @@ pub mod indexed;
 pub mod laws;
 mod line_ends;
 pub mod lines;
+pub mod near;
 mod newlines;
 pub mod scan;

@@ -1,6 +1,7 @@
 //! Lines of bytes, found by scans.
 
-ghost use Rattle.std.specs.Prelude.{◌≡◌, ◌+◌, ◌-◌, ◌<◌, ◌≤◌, IsNone, IfSome, length, slice_index};
+ghost use Rattle.std.specs.Prelude.{◌≡◌, ◌+◌, ◌-◌, ◌<◌, ◌≤◌, ◌==◌, IsNone, IfSome, length, slice_index};
+ghost use Rattle.std.specs.Prelude.{if◌then◌else◌};
 ghost use Rattle.miette_source_lines.specs.rules.Lines.{ends_line, line_of, line_start, line_end};
 
 use crate::find::FindLines;
@@ -53,26 +54,96 @@ fn ends_in_block(bytes: &[u8], from: usize) -> u8
     ends
 }
 
+/// 1 for a byte that is sought, 0 for others.
+#[inline(always)]
+fn count_if(byte: u8, sought: u8) -> u8
+    ensures count { result ≡ (if byte == sought then 1 else 0) }
+    ensures few { result ≤ 1 }
+{
+    if byte == sought { 1 } else { 0 }
+}
+
+/// How many terminators end between two offsets of a block, where these are LF alone; none where there is a CR. No byte
+/// is compared with the one behind it. Of a whole block the compiler sees how many bytes there are.
+#[inline(always)]
+fn feeds_between(bytes: &[u8], from: usize, to: usize) -> Option<u8>
+    requires order { from ≤ to }
+    requires within { to ≤ length bytes.now }
+    requires block { to - from ≤ 224 }
+    ensures count { IfSome result (λ feeds. line_of bytes.now from + feeds ≡ line_of bytes.now to) }
+    ensures few { IfSome result (λ feeds. feeds ≤ to - from) }
+{
+    let mut feeds = 0u8;
+    let mut returns = 0u8;
+    for i in 0..to - from {
+        let feed = count_if(bytes[from + i], b'\n');
+        let back = count_if(bytes[from + i], b'\r');
+        feeds += feed;
+        returns += back;
+    }
+    if returns > 0 {
+        return None;
+    }
+    Some(feeds)
+}
+
+/// How far bytes without CR go between two offsets, in blocks, and how many terminators end in them.
+#[tactic(auto, using(crate::proofs::Places::scan_steps))]
+fn pass_feeds(bytes: &[u8], from: usize, to: usize) -> (usize, usize)
+    requires order { from ≤ to }
+    requires within { to ≤ length bytes.now }
+    ensures behind { from ≤ result.0 }
+    ensures before { result.0 ≤ to }
+    ensures count { line_of bytes.now from + result.1 ≡ line_of bytes.now result.0 }
+    ensures few { result.1 ≤ result.0 - from }
+{
+    let mut ends = 0;
+    let mut at = from;
+    while to - at > BLOCK {
+        let Some(feeds) = feeds_between(bytes, at, at + BLOCK) else {
+            return (at, ends);
+        };
+        ends += usize::from(feeds);
+        at += BLOCK;
+    }
+    match feeds_between(bytes, at, to) {
+        Some(feeds) => (to, ends + usize::from(feeds)),
+        None => (at, ends),
+    }
+}
+
+/// How many terminators end between two offsets. Behind the first block with a CR, each may have one.
+#[tactic(auto, using(crate::proofs::Places::scan_steps))]
+pub(crate) fn ends_between(bytes: &[u8], from: usize, to: usize) -> usize
+    requires order { from ≤ to }
+    requires within { to ≤ length bytes.now }
+    ensures count { line_of bytes.now from + result ≡ line_of bytes.now to }
+    ensures few { result ≤ to - from }
+{
+    let (passed, feeds) = pass_feeds(bytes, from, to);
+    let mut ends = feeds;
+    let mut at = passed;
+    while to - at > BLOCK {
+        ends += usize::from(ends_in_block(bytes, at));
+        at += BLOCK;
+    }
+    for i in at..to {
+        if ends_line(bytes, i) {
+            ends += 1;
+        }
+    }
+    ends
+}
+
 /// The number of an offset's line, from the number of the line of an offset before it.
 #[tactic(auto, using(crate::proofs::Places::scan_steps))]
-fn line_from(bytes: &[u8], from: usize, line: usize, offset: usize) -> usize
+pub(crate) fn line_from(bytes: &[u8], from: usize, line: usize, offset: usize) -> usize
     requires order { from ≤ offset }
     requires within { offset ≤ length bytes.now }
     requires line { line ≡ line_of bytes.now from }
     ensures { result ≡ line_of bytes.now offset }
 {
-    let mut line = line;
-    let mut from = from;
-    while offset - from > BLOCK {
-        line += usize::from(ends_in_block(bytes, from));
-        from += BLOCK;
-    }
-    for at in from..offset {
-        if ends_line(bytes, at) {
-            line += 1;
-        }
-    }
-    line
+    line + ends_between(bytes, from, offset)
 }
 
 /// Where the first LF or CR at or after an offset stands. No terminator ends between the offset and it.
@@ -122,14 +193,19 @@ pub fn start_before(bytes: &[u8], offset: usize, lines: usize) -> (usize, usize)
     (0, passed)
 }
 
-/// Where the line ends that stands `lines` after an offset's line, and the number of that end's line.
+/// Where the line ends that stands `lines` after an offset's line, and the number of that end's line. No more lines are
+/// left than bytes: of as many or more all are counted in blocks.
 #[tactic(auto, using(crate::proofs::Places::scan_steps))]
-fn end_after(bytes: &[u8], offset: usize, line: usize, lines: usize) -> (usize, usize)
+pub(crate) fn end_after(bytes: &[u8], offset: usize, line: usize, lines: usize) -> (usize, usize)
     requires within { offset ≤ length bytes.now }
     requires line { line ≡ line_of bytes.now offset }
     ensures end { result.0 ≡ line_end bytes.now (line + lines) }
     ensures line { result.1 ≡ line_of bytes.now result.0 }
 {
+    if lines >= bytes.len() - offset {
+        let ends = ends_between(bytes, offset, bytes.len());
+        return (bytes.len(), line + ends);
+    }
     let mut line = line;
     let mut left = lines;
     let mut from = offset;

@@ -3,49 +3,112 @@ ghost use Rattle.std.specs.Prelude.{◌≡◌, Some, IfOk};
 ghost use Rattle.std.specs.Option.{option_copied};
 ghost use Rattle.miette_protocol.specs.rules.Reading.{plain_source, named_source};
 ghost use Rattle.miette_protocol.specs.rules.Outcome.{Answers};
+ghost use Rattle.miette_source_lines.specs.views.Known.{IsKnown};
 
 use miette_protocol::protocol::SourceSpan;
-use miette_protocol::source::{IndexedSource, NamedSource, ReadResult, SourceCode};
+use miette_protocol::source::{IndexedSource, KnownLines, NamedSource, ReadResult, SourceCode};
 use std::alloc::{AllocError, Global};
 use std::rc::Rc;
 
-/// The bytes, with a name or without one.
+/// Bytes, whose lines are counted for each read, or found once, by an index.
 #[derive(Drop)]
 enum Bytes {
-    Plain(IndexedSource),
-    Named(NamedSource<IndexedSource>),
+    Bare(Vec<u8>),
+    Indexed(IndexedSource),
 }
 
-/// A source that owns its bytes and keeps an index of their lines. What it keeps lies in a place of its own, so that a
-/// report that holds it, or none, is small, and that reports over one file can share it. It always reads.
+impl SourceCode for Bytes {
+    ghost use Rattle.miette_tree.specs.views.Owned.{bytes_in};
+
+    ghost source = { λ it. plain_source (bytes_in it) };
+
+    fn read_span(&self, span: &SourceSpan, before: usize, after: usize) -> ReadResult<'_> {
+        match self {
+            Bytes::Bare(bytes) => bytes.read_span(span, before, after),
+            Bytes::Indexed(source) => source.read_span(span, before, after),
+        }
+    }
+
+    fn read_span_near(
+        &self,
+        known: KnownLines,
+        span: &SourceSpan,
+        before: usize,
+        after: usize,
+    ) -> ReadResult<'_> {
+        match self {
+            Bytes::Bare(bytes) => bytes.read_span_near(known, span, before, after),
+            Bytes::Indexed(source) => source.read_span_near(known, span, before, after),
+        }
+    }
+}
+
+/// Bytes with a name or without one.
+#[derive(Drop)]
+enum Held {
+    Plain(Bytes),
+    Named(NamedSource<Bytes>),
+}
+
+/// A source that owns its bytes. What it keeps lies in a place of its own, so that a report that holds it, or none, is
+/// small, and that reports over one file can share it. It always reads. Without an index it counts lines for each read:
+/// the labels of one report by one pass up to the last of them, where each goes through its own lines. An index
+/// (`indexed`) is one pass over all bytes, and finds any line: it pays where several reports lie over a source, or one
+/// has fixes or many labels.
 #[derive(Drop)]
 pub struct OwnedSource {
-    bytes: Rc<Bytes>,
+    held: Rc<Held>,
 }
 
 impl OwnedSource {
-    ghost use Rattle.miette_tree.specs.views.Owned.{bytes_source, owned_source};
+    ghost use Rattle.miette_tree.specs.views.Owned.{bytes_in, held_source, owned_source};
 
-    // Of these bytes, in a place of its own.
-    fn of_bytes(alloc: Global, bytes: Bytes) -> Result<OwnedSource, AllocError>
-        ensures { IfOk result (λ it. owned_source it ≡ bytes_source bytes) }
+    // What it keeps, in a place of its own.
+    fn of_held(alloc: Global, held: Held) -> Result<OwnedSource, AllocError>
+        ensures { IfOk result (λ it. owned_source it ≡ held_source held) }
     {
-        match Rc::new(alloc, bytes) {
-            Ok(bytes) => Ok(OwnedSource { bytes }),
+        match Rc::new(alloc, held) {
+            Ok(held) => Ok(OwnedSource { held }),
             Err(_) => Err(AllocError),
         }
     }
 
-    /// These bytes, with no name and no language. `AllocError` where there is no memory for the index and its place;
+    // Bytes with a name, and with a language where one is given.
+    fn with_name(
+        alloc: Global,
+        name: &str,
+        language: Option<&str>,
+        bytes: Bytes,
+    ) -> Result<OwnedSource, AllocError>
+        ensures { IfOk result (λ it. owned_source it
+            ≡ named_source (plain_source (bytes_in bytes)) name.now (option_copied language.entry)) }
+    {
+        let source = NamedSource::new(alloc, name, bytes)?;
+        let source = match language {
+            Some(language) => source.with_language(alloc, language)?,
+            None => source,
+        };
+        OwnedSource::of_held(alloc, Held::Named(source))
+    }
+
+    /// These bytes, with no name and no language. `AllocError` where there is no memory for the place of what it keeps;
     /// the bytes are then dropped.
     pub fn new(alloc: Global, bytes: Vec<u8>) -> Result<OwnedSource, AllocError>
         ensures { IfOk result (λ it. owned_source it ≡ plain_source bytes.items) }
     {
-        OwnedSource::of_bytes(alloc, Bytes::Plain(IndexedSource::new(alloc, bytes)?))
+        OwnedSource::of_held(alloc, Held::Plain(Bytes::Bare(bytes)))
+    }
+
+    /// The same, with an index of their lines. `AllocError` also where there is no memory for the index.
+    pub fn indexed(alloc: Global, bytes: Vec<u8>) -> Result<OwnedSource, AllocError>
+        ensures { IfOk result (λ it. owned_source it ≡ plain_source bytes.items) }
+    {
+        let source = IndexedSource::new(alloc, bytes)?;
+        OwnedSource::of_held(alloc, Held::Plain(Bytes::Indexed(source)))
     }
 
     /// These bytes, with a name, and with a language where one is given. `AllocError` where there is no memory
-    /// for the index and its place, the name or the language; the bytes are then dropped.
+    /// for the place of what it keeps, the name or the language; the bytes are then dropped.
     pub fn named(
         alloc: Global,
         name: &str,
@@ -55,12 +118,21 @@ impl OwnedSource {
         ensures { IfOk result (λ it. owned_source it
             ≡ named_source (plain_source bytes.items) name.now (option_copied language.entry)) }
     {
-        let source = NamedSource::new(alloc, name, IndexedSource::new(alloc, bytes)?)?;
-        let source = match language {
-            Some(language) => source.with_language(alloc, language)?,
-            None => source,
-        };
-        OwnedSource::of_bytes(alloc, Bytes::Named(source))
+        OwnedSource::with_name(alloc, name, language, Bytes::Bare(bytes))
+    }
+
+    /// The same, with an index of their lines. `AllocError` also where there is no memory for the index.
+    pub fn named_indexed(
+        alloc: Global,
+        name: &str,
+        language: Option<&str>,
+        bytes: Vec<u8>,
+    ) -> Result<OwnedSource, AllocError>
+        ensures { IfOk result (λ it. owned_source it
+            ≡ named_source (plain_source bytes.items) name.now (option_copied language.entry)) }
+    {
+        let source = IndexedSource::new(alloc, bytes)?;
+        OwnedSource::with_name(alloc, name, language, Bytes::Indexed(source))
     }
 
     /// The same source once more. Bytes and index are shared, and stay as long as one of the sources does. It takes no
@@ -68,8 +140,8 @@ impl OwnedSource {
     pub fn share(&self) -> Result<OwnedSource, AllocError>
         ensures { IfOk result (λ it. owned_source it ≡ owned_source self.now) }
     {
-        let bytes = self.bytes.clone()?;
-        Ok(OwnedSource { bytes })
+        let held = self.held.clone()?;
+        Ok(OwnedSource { held })
     }
 }
 
@@ -80,9 +152,22 @@ impl SourceCode for OwnedSource {
     ghost source = { owned_source };
 
     fn read_span(&self, span: &SourceSpan, before: usize, after: usize) -> ReadResult<'_> {
-        match &*self.bytes {
-            Bytes::Plain(source) => source.read_span(span, before, after),
-            Bytes::Named(source) => source.read_span(span, before, after),
+        match &*self.held {
+            Held::Plain(source) => source.read_span(span, before, after),
+            Held::Named(source) => source.read_span(span, before, after),
+        }
+    }
+
+    fn read_span_near(
+        &self,
+        known: KnownLines,
+        span: &SourceSpan,
+        before: usize,
+        after: usize,
+    ) -> ReadResult<'_> {
+        match &*self.held {
+            Held::Plain(source) => source.read_span_near(known, span, before, after),
+            Held::Named(source) => source.read_span_near(known, span, before, after),
         }
     }
 }
@@ -122,6 +207,24 @@ impl<'a, S: SourceCode> SourceRef<'a, S> {
             OwnSource::Owned(source) => source.read_span(span, before, after),
         }
     }
+
+    /// The same, where the lines of two offsets are known.
+    pub fn read_span_near(
+        self,
+        known: KnownLines,
+        span: &SourceSpan,
+        before: usize,
+        after: usize,
+    ) -> ReadResult<'a>
+        requires first { IsKnown (shown_source S.source self).bytes known.first }
+        requires last { IsKnown (shown_source S.source self).bytes known.last }
+        ensures { Answers (shown_source S.source self.entry) span.now before after result }
+    {
+        match self.place {
+            OwnSource::Boxed(source) => source.read_span_near(known, span, before, after),
+            OwnSource::Owned(source) => source.read_span_near(known, span, before, after),
+        }
+    }
 }
 
 /// A lent source reads as the source that it shows.
@@ -132,5 +235,15 @@ impl<'a, S: SourceCode> SourceCode for SourceRef<'a, S> {
 
     fn read_span(&self, span: &SourceSpan, before: usize, after: usize) -> ReadResult<'_> {
         SourceRef::read_span(*self, span, before, after)
+    }
+
+    fn read_span_near(
+        &self,
+        known: KnownLines,
+        span: &SourceSpan,
+        before: usize,
+        after: usize,
+    ) -> ReadResult<'_> {
+        SourceRef::read_span_near(*self, known, span, before, after)
     }
 }

@@ -1,5 +1,7 @@
 -- What reads for places gave.
 use Rattle.std.specs.Prelude.{◌≡◌, List, Option, Some, None, Bool, false, ⊤}
+use Rattle.miette_source_lines.specs.declared.near.KnownLines.{KnownLines}
+use Rattle.miette_source_lines.specs.views.Known.{IsKnown}
 use Rattle.miette_protocol.specs.views.Meaning.{Label}
 use Rattle.miette_protocol.specs.rules.Reading.{Span, Source, IsAccepted}
 use Rattle.miette_brief.specs.rules.Rows.{Place}
@@ -20,6 +22,11 @@ IsUnread (Some source) span = IsAccepted source.bytes span → source.always_rea
 abbrev pub IsReadAt : Option Source → Span → Type 0
 IsReadAt None span = ⊤
 IsReadAt (Some source) span = IsAccepted source.bytes span
+
+-- lines of a source that are known; without one there are none
+abbrev pub AreKnown : Option Source → KnownLines → Type 0
+AreKnown None known = ⊤
+AreKnown (Some source) known = IsKnown source.bytes known.first × IsKnown source.bytes known.last
 
 -- the read of a span: where it begins, or that it was refused
 abbrev pub IsBegin : Source → Span → Option Place → Type 0

@@ -1,4 +1,4 @@
-use Rattle.std.proofs.Common.{rules, map, subst}
+use Rattle.std.proofs.Common.{refl, rules, map, subst}
 use Rattle.std.specs.Option.{option_map}
 use Rattle.miette_protocol.specs.rules.Reading.{Span}
 use Rattle.miette_tree.specs.views.Owned.{shown_source}
@@ -7,12 +7,20 @@ use Rattle.miette_labels.specs.declared.order.Turn.{Turn}
 use Rattle.miette_brief.specs.rules.Marks.{mark_over}
 use Rattle.miette_brief.specs.steps.CommandParts.{mark_of}
 use Rattle.miette_brief.specs.steps.Reads.{IsReadAt, IsUnread}
+use Rattle.miette_brief.proofs.KnownPlaces.{start_of}
 use Rattle.miette_brief.proofs.Noting.{some_refused, accepted_more, accepted_end}
 use Rattle.miette_brief.proofs.Marking.{marks_more, marks_end}
 use Rattle.miette_brief.proofs.marks.push_marks.Goals as goal
 
 abbrev none : Turn
 none = record { index = 0; offset = 0 }
+
+pub loop-turn-init : goal.loop-turn-init
+loop-turn-init g c = record {
+  marks = refl;
+  accepted = λ h. h;
+  known = start_of (option_map (shown_source g.S.SourceCode.source) c.args.source);
+}
 
 pub loop-turn-preserved : goal.loop-turn-preserved
 loop-turn-preserved g c =
@@ -28,6 +36,7 @@ loop-turn-preserved g c =
           (map label c.args.order.now) c.loop-turn-test.true c.label_of-label.ensures
           (subst (λ (span : Span). IsReadAt source span) c.inner.ensures c.in_ok-label_place.ensures.accepted)
           c.loop-turn.invariant.accepted;
+      known = search rules;
     }
 
 pub returns-in_err-label_place-clause-refused : goal.returns-in_err-label_place-clause-refused

@@ -5,6 +5,7 @@ use Rattle.miette_labels.specs.views.GivenLabels.{label_at}
 use Rattle.miette_brief.specs.rules.Marks.{mark_over}
 use Rattle.miette_brief.specs.rules.PossibleAnswers.{HasAccepted}
 use Rattle.miette_brief.specs.steps.CommandParts.{mark_of}
+use Rattle.miette_brief.specs.steps.Reads.{AreKnown}
 use Rattle.miette_brief.proofs.marks.push_marks.Given as goal
 
 abbrev pub invariant-loop-turn : goal.invariant-loop-turn
@@ -18,4 +19,5 @@ invariant-loop-turn g l =
           ++ map (mark_over source) (map (λ turn. label_at l.labels turn.index) l.order);
       accepted : HasAccepted source (map (λ turn. label_at l.labels turn.index) (drop l.turn-index l.order))
           → HasAccepted source (map (λ turn. label_at l.labels turn.index) l.order);
+      known : AreKnown source l.known;
     }

@@ -1,14 +1,22 @@
-use Rattle.std.proofs.Common.{rules, map, string_bytes}
+use Rattle.std.proofs.Common.{refl, rules, map, string_bytes}
 use Rattle.std.specs.Option.{option_map}
 use Rattle.miette_tree.specs.views.Owned.{shown_source}
 use Rattle.miette_labels.specs.views.GivenLabels.{label_at}
 use Rattle.miette_labels.specs.declared.order.Turn.{Turn}
 use Rattle.miette_brief.specs.steps.Reads.{IsUnread}
+use Rattle.miette_brief.proofs.KnownPlaces.{start_of}
 use Rattle.miette_brief.proofs.Noting.{some_refused, accepted_more, accepted_end, notes_more}
 use Rattle.miette_brief.proofs.report.push_notes.Goals as goal
 
 abbrev none : Turn
 none = record { index = 0; offset = 0 }
+
+pub loop-turn-init : goal.loop-turn-init
+loop-turn-init g c = record {
+  text = refl;
+  accepted = λ h. h;
+  known = start_of (option_map (shown_source g.S.SourceCode.source) c.args.source);
+}
 
 pub returns-in_err-push_note-clause-refused : goal.returns-in_err-push_note-clause-refused
 returns-in_err-push_note-clause-refused g c = λ h.
@@ -29,6 +37,7 @@ loop-turn-preserved g c =
       accepted = accepted_more label source c.args.order.now c.loop-turn.turn-index none c.label_of-label.result.now
           (map label c.args.order.now) c.loop-turn-test.true c.label_of-label.ensures
           c.in_ok-push_note.ensures.accepted c.loop-turn.invariant.accepted;
+      known = search rules;
     }
 
 pub returns-clause-accepted : goal.returns-clause-accepted

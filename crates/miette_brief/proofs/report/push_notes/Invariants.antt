@@ -5,6 +5,7 @@ use Rattle.miette_labels.specs.views.GivenLabels.{label_at}
 use Rattle.miette_brief.specs.rules.Rows.{rows_text}
 use Rattle.miette_brief.specs.rules.Report.{note_rows}
 use Rattle.miette_brief.specs.rules.PossibleAnswers.{HasAccepted}
+use Rattle.miette_brief.specs.steps.Reads.{AreKnown}
 use Rattle.miette_brief.proofs.report.push_notes.Given as goal
 
 abbrev pub invariant-loop-turn : goal.invariant-loop-turn
@@ -16,4 +17,5 @@ invariant-loop-turn g l =
           ≡ string_bytes l.fn.out ++ rows_text (note_rows source (map (λ turn. label_at l.labels turn.index) l.order));
       accepted : HasAccepted source (map (λ turn. label_at l.labels turn.index) (drop l.turn-index l.order))
           → HasAccepted source (map (λ turn. label_at l.labels turn.index) l.order);
+      known : AreKnown source l.known;
     }

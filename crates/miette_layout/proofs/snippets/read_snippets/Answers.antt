@@ -17,6 +17,7 @@ use Rattle.miette_frames.specs.views.LentRows.{PutsRows, lent_snippet}
 use Rattle.miette_labels.specs.views.Placing.{placed_of, placed_from}
 use Rattle.miette_labels.specs.views.Primary.{PointsTo}
 use Rattle.miette_labels.proofs.GroupsOfReads.{are_grouped}
+use Rattle.miette_labels.proofs.KnownLabels.{lent_known, lent_last}
 use Rattle.miette_frames.proofs.ReadRows.{lent_texts}
 use Rattle.miette_highlight.specs.rules.HighlighterCalls.{Call, Leads, restarted}
 use Rattle.miette_labels.proofs.GroupsOfReads.{reads_rise}
@@ -29,6 +30,28 @@ use Rattle.miette_layout.proofs.snippets.read_snippets.Goals as goal
 pub near-requires : goal.near-requires
 near-requires g c = reads_rise c.args.settings.now.layout.now.context_lines (g.S.SourceCode.source c.args.source.now)
     c.args.given.now.labels.now c.args.given.now.reads.now c.requires.order c.requires.each
+
+pub place_of-requires-clause-first : goal.place_of-requires-clause-first
+place_of-requires-clause-first g c =
+    let source = g.S.SourceCode.source c.args.source.now in
+    let context = c.args.settings.now.layout.now.context_lines in
+    let ls = in_order c.args.given.now.labels.now in
+    let group = c.group-item.result in
+    lent_known (group_context context ls) source group.span group.contents c.known.result.first
+    (groups_lent context source ls c.deref-group-items.result.now c.loop-group.group-index group
+    c.loop-group.invariant.grouped c.loop-group-test.true c.group-item.is)
+    c.known.ensures.offset c.known.ensures.line
+
+pub place_of-requires-clause-last : goal.place_of-requires-clause-last
+place_of-requires-clause-last g c =
+    let source = g.S.SourceCode.source c.args.source.now in
+    let context = c.args.settings.now.layout.now.context_lines in
+    let ls = in_order c.args.given.now.labels.now in
+    let group = c.group-item.result in
+    lent_last (group_context context ls) source group.span group.contents c.known.result
+    (groups_lent context source ls c.deref-group-items.result.now c.loop-group.group-index group
+    c.loop-group.invariant.grouped c.loop-group-test.true c.group-item.is)
+    c.known.ensures.offset c.known.ensures.line c.known.ensures.last
 
 pub returns-then-is_unread-clause-gives : goal.returns-then-is_unread-clause-gives
 returns-then-is_unread-clause-gives g c =
