@@ -7,8 +7,15 @@ ghost use Rattle.miette_readers.specs.views.Values.{texts};
 ghost use Rattle.miette_sarif_reader.specs.rules.Newlines.{text_size};
 ghost use Rattle.miette_sarif_reader.specs.views.Begins.{IsNoneBefore, begins_by};
 
-use crate::regions::rest_from;
 use memchr::memchr3;
+
+/// The bytes from an offset on.
+pub(crate) fn rest_from(bytes: &[u8], at: usize) -> &[u8]
+    requires { at ≤ length bytes.now }
+    ensures { result.now ≡ drop at bytes.now }
+{
+    &bytes[at..]
+}
 
 /// With which byte a sequence begins that begins with neither of these; the second where none does. So three calls find
 /// the three bytes with which all sequences of the logs that there are begin; no clause says so.

@@ -9,11 +9,9 @@ ghost use Rattle.miette_readers.specs.views.Values.{texts, viewed};
 ghost use Rattle.miette_sarif_reader.specs.rules.Newlines.{end_size, line_behind, line_size, newlines_of, sequence_in};
 ghost use Rattle.miette_sarif_reader.specs.rules.Newlines.{stands_in, text_size, usual_newlines};
 
-use crate::begins::next_begin;
-use crate::regions::rest_from;
-use crate::saying::items_in;
+use crate::begins::{next_begin, rest_from};
 use miette_readers::lists::push_item;
-use miette_readers::members::found_at;
+use miette_readers::members::items_at;
 use serde_json::Value;
 use std::alloc::{AllocError, Global};
 
@@ -21,10 +19,7 @@ use std::alloc::{AllocError, Global};
 fn listed_in(run: &Value) -> &[Value]
     ensures { viewed result.now ≡ items_at (codes "newlineSequences") (view run.now) }
 {
-    match found_at(run, "newlineSequences") {
-        Some(found) => items_in(found),
-        None => &[],
-    }
+    items_at(run, "newlineSequences")
 }
 
 /// A sequence that isn't empty.

@@ -10,6 +10,7 @@ ghost use Rattle.miette_sarif_reader.specs.rules.Regions.{end_columns, end_line,
 ghost use Rattle.miette_sarif_reader.specs.rules.Regions.{line_stretch, offset_at, start_column, start_line};
 ghost use Rattle.miette_sarif_reader.specs.rules.Regions.{stretch_by_bytes, stretch_by_chars, stretch_in, units_behind};
 
+use crate::begins::rest_from;
 use crate::newlines::{line_behind, text_size};
 use miette_cells::cells::first_character;
 use miette_positions::place::PositionEncoding;
@@ -136,14 +137,6 @@ fn units(encoding: PositionEncoding, code: char, bytes: usize) -> usize
         PositionEncoding::Utf16 => { if u32::from(code) < 0x10000 { 1 } else { 2 } }
         PositionEncoding::Utf32 => 1,
     }
-}
-
-/// The bytes from an offset on.
-pub(crate) fn rest_from(bytes: &[u8], at: usize) -> &[u8]
-    requires { at ≤ length bytes.now }
-    ensures { result.now ≡ drop at bytes.now }
-{
-    &bytes[at..]
 }
 
 /// So many code units behind an offset: inside a character its start, behind the last one nowhere.
