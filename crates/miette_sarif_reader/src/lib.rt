@@ -5,6 +5,7 @@ mod bases;
 mod begins;
 mod drafts;
 mod ground;
+mod items;
 pub mod laws;
 mod locations;
 mod messages;

@@ -1,4 +1,4 @@
-use Rattle.std.proofs.Common.{◌≡◌, ◌<◌, ◌∙◌, ap, arith, length, sym}
+use Rattle.std.proofs.Common.{◌≡◌, ◌∙◌, ap, arith, length, sym}
 use Rattle.std.proofs.lemmas.List.{length-drop}
 use Rattle.miette_readers.specs.views.Values.{texts}
 use Rattle.miette_sarif_reader.specs.rules.Newlines.{line_behind, line_size}
