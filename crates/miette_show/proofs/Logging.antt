@@ -224,8 +224,7 @@ module _ {F : Type 0} (from : Format) (found : F → List ℕ → Option Source)
   each_logged [] others goes known has = All-nil (IsLogged from (IsFoundBy found knows first) (found later))
   each_logged (s ∷ ss) others goes known has =
       let here = All-head (AreKnown from (knows later)) s.row (map row_of ss ++ others) known in
-      All-cons (IsLogged from (IsFoundBy found knows first) (found later)) s ss
-      (
+      All-cons (IsLogged from (IsFoundBy found knows first) (found later)) s ss (
         (λ d utf8 begins is. (later, goes, here d utf8 begins is, refl)),
         All-head (HasTrees from (found later)) s ss has,
       )
