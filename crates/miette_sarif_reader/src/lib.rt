@@ -5,7 +5,6 @@ mod bases;
 mod begins;
 mod drafts;
 mod ground;
-mod items;
 pub mod laws;
 mod locations;
 mod messages;

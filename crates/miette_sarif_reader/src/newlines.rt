@@ -10,8 +10,8 @@ ghost use Rattle.miette_sarif_reader.specs.rules.Newlines.{end_size, line_behind
 ghost use Rattle.miette_sarif_reader.specs.rules.Newlines.{stands_in, text_size, usual_newlines};
 
 use crate::begins::{next_begin, rest_from};
-use crate::items::items_at;
 use miette_readers::lists::push_item;
+use miette_readers::members::items_at;
 use serde_json::Value;
 use std::alloc::{AllocError, Global};
 

@@ -11,11 +11,10 @@ ghost use Rattle.miette_sarif_reader.specs.rules.Results.{string_named, string_o
 ghost use Rattle.miette_sarif_reader.specs.views.Grounds.{ground_in};
 
 use crate::ground::{Ground, rule_id};
-use crate::items::items_at;
 use crate::messages::shown;
 use miette_protocol::protocol::Severity;
 use miette_readers::files::Files;
-use miette_readers::members::{object_at, text_at};
+use miette_readers::members::{items_at, object_at, text_at};
 use miette_readers::reports::Said;
 use serde_json::Value;
 use std::alloc::{AllocError, Global};
