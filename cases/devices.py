@@ -57,6 +57,7 @@ LABELLED_JSON = (
     '{"message": "漢","severity": "error","causes": [],"filename": "","labels": [{"label": "x","span": '
     '{"offset": 2,"length": 1}}],"related": []}'
 )
+MESSAGE_M = '{"level": "error","message": {"text": "m"}}'
 # words, input, status, text
 RUNS = [
     (["draw", "bad_file.rs", "9", "4", "This bit here", "oops!"], README, 0, DRAWN),
@@ -64,7 +65,7 @@ RUNS = [
     (["lint", "--fix", "f", "80"], "x = 1 \n \ty\nend", 0, "x = 1\n    y\nend\n"),
     (["lint", "--diff", "f", "80"], "a \n", 1, MENDED),
     (["lint", "--sarif", "f", "80"], "a\n", 0, LOG % ("lint", "")),
-    (["job", "--sarif"], SMALL, 0, LOG % ("job", '{"level": "error","message": {"text": "m"}}')),
+    (["job", "--sarif"], SMALL, 0, LOG % ("job", MESSAGE_M)),
     (["job", "--json"], SMALL, 0, SMALL_JSON),
     (["job", "--term-unicode", "yes"], LABELLED, 0, PICTURE),
     (["job", "--theme", "unicode"], LABELLED, 0, COLOURED),
@@ -75,6 +76,9 @@ RUNS = [
     (["bench", "2", "--narrated"], SMALL, 0, "33\n"),
     (["show", "--theme", "unicode_nocolor"], '{"message":"漢","level":"error"}', 1, "  × 漢\n\n"),
     (["show", "--brief"], '{ "comments": [{"message": "m"}]}', 0, "warning: m\nnote: caused by: :0:0\n\n"),
+    (["show", "--sarif"], "", 0, LOG % ("show", "")),
+    (["show", "--sarif"], '{"message":"m","level":"error"}', 1, LOG % ("show", MESSAGE_M)),
+    (["show", "--tool", "a", "--lsp"], '{"message":"m"}', 0, "[]"),
 ]
 LINT_USAGE = "usage: lint [--brief | --github | --fix | --diff | --sarif [--tool TOOL]] NAME WIDTH | --lsp WIDTH\n"
 SHOW_USAGE = "usage: show [--from auto|rustc|gcc|sarif|shellcheck] [--root DIR] [--fix | OPTIONS]\n"

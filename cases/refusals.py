@@ -86,6 +86,7 @@ RUNS = [
     (["bench", "2", *PLAIN], json.dumps(LABELLED)),
     (["show", *PLAIN], json.dumps(MESSAGE)),
     (["show", "--brief"], json.dumps(MESSAGE)),
+    (["show", "--sarif"], json.dumps(MESSAGE)),
     (["show", *PLAIN], json.dumps({"comments": [COMMENT, {**COMMENT, "file": "gone"}]})),
 ] + [
     (["job", *words], json.dumps(description))

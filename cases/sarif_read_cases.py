@@ -15,9 +15,9 @@ from sarif_reader_model import name_of
 
 FOLDER = os.path.join(HERE, "sarif_read")
 # the members of a run and of a result that are read
-READ = ("tool", "columnKind", "artifacts", "originalUriBaseIds", "results")
+READ = ("tool", "columnKind", "newlineSequences", "artifacts", "originalUriBaseIds", "results")
 # the logs made by hand
-LOGS = ("places", "messages", "flows")
+LOGS = ("places", "messages", "flows", "newlines")
 URIS = ["wide.c", "line%20ends.txt", "file:wide.c", "file:///gone.c", "gone%2", "%e6%bc%a2", "short.c", "", "x://y", 7]
 BAD = [b'{"runs":{}}\n', b'{"version":"2.1.0"}\n', b'{"runs":[]\n', b'{"runs":[],}\n', b'{"runs":[]} x\n']
 OTHER = [b'{"runs":[]}\n', b'{"runs":[5,{"results":{}}]}\n', b' {"runs":[]}\n', b'{ "runs": []}\n', b"2 warnings.\n"]
@@ -135,6 +135,7 @@ def other_value(dice, key, old):
         "arguments": [[], ["x"], ["{0}", "[a](b)"], [5, "y"], "z", None],
         "level": ["error", "warning", "note", "none", "loud", 3],
         "kind": ["fail", "pass", "open", "", 3],
+        "newlineSequences": [[], ["\n"], ["\r", "\r\n"], ["\u2028", "", 5], ["e", "\n\n"], "\n", None],
         "columnKind": ["utf16CodeUnits", "unicodeCodePoints", "", 3],
         **dict.fromkeys(("locations", "relatedLocations", "rules", "artifacts", "results", "fixes", "artifactChanges",
                          "replacements", "codeFlows", "threadFlows"), [[], None, "x", [5], [{}], {}]),

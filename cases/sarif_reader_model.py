@@ -46,9 +46,9 @@ def columns_behind(data, start, end, columns, units):
     return at
 
 
-def offset(data, line, columns, units):
-    """The byte of so many columns on a line (from 1); lines end with LF, CR LF or a lone CR."""
-    ends = list(re.finditer(rb"\r\n|\n|\r", data))
+def offset(data, line, columns, units, ends):
+    """The byte of so many columns on a line (from 1); the first of the sequences that stands somewhere ends a line."""
+    ends = list(re.finditer(b"|".join(map(re.escape, ends)), data))
     starts = [0, *(it.end() for it in ends)]
     if not 1 <= line <= len(starts):
         return None
@@ -71,8 +71,9 @@ def span_by_offsets(data, region, units):
     return (None, None) if begin is None or begin + count > len(data) else (begin, begin + count)
 
 
-def span(name, region, units, files):
+def span(name, region, run):
     """A region in rustc's form."""
+    units, files = run.units, run.files
     line, column = member(region, "startLine", int) or 0, first(member(region, "startColumn", int), 1)
     if member(region, "startLine", int) is None:
         begin, end = span_by_offsets(files[name], region, units) if name in files else (None, None)
@@ -81,9 +82,9 @@ def span(name, region, units, files):
     it = {"file_name": name, "line_start": line, "column_start": column}
     if name in files:
         data, last = files[name], member(region, "endColumn", int)
-        begin = offset(data, line, max(column - 1, 0), units)
+        begin = offset(data, line, max(column - 1, 0), units, run.ends)
         behind = len(data) if last is None else max(last - 1, 0)
-        end = offset(data, first(member(region, "endLine", int), line), behind, units)
+        end = offset(data, first(member(region, "endLine", int), line), behind, units, run.ends)
         it.update({"byte_start": begin, "byte_end": end} if None not in (begin, end) else {})
     return it
 
@@ -97,6 +98,8 @@ class Run:
         self.files, self.rules, self.artifacts = files, objects(driver, "rules"), objects(run, "artifacts")
         self.bases = member(run, "originalUriBaseIds", dict) or {}
         wide = text(run, "columnKind") == "utf16CodeUnits"
+        listed = [it.encode() for it in member(run, "newlineSequences", list) or [] if isinstance(it, str) and it]
+        self.ends = listed or [b"\r\n", b"\n"]
         self.units = (lambda it: 1 + (ord(it) > 0xFFFF)) if wide else (lambda it: 1)
 
     def rule(self, result):
@@ -137,7 +140,7 @@ class Run:
         name, region = self.file(physical), member(physical, "region", dict) or {}
         if name is None:
             return Told(rows, None, own=own)
-        found = span(name, region, self.units, self.files)
+        found = span(name, region, self)
         if member(region, "startLine", int) is None and "byte_start" not in found:
             return Told([": ".join([name, *rows])], None, own=own)
         return Told(rows, found, primary, own)
@@ -163,7 +166,7 @@ class Run:
             name = self.file({"artifactLocation": member(change, "artifactLocation", dict)}) or ""
             for it in objects(change, "replacements"):
                 region, new = member(it, "deletedRegion", dict), member(it, "insertedContent", dict) or {}
-                yield span(name, region or {}, self.units, self.files), text(new, "text")
+                yield span(name, region or {}, self), text(new, "text")
 
     def proposals(self, result):
         """What is said of each proposal, and its edits."""
@@ -237,10 +240,10 @@ def report(run, result, files):
     made["snippets"] = [{"source": source(name, files), "labels": labels(settled, at)} for at, name in further]
     offers, lost = [], []
     for said, edits in run.proposals(result):
-        if not all(settled.found(it) for it, _ in edits):
-            lost += [said] if said not in lost else []
-        elif edits:
+        if edits and all(settled.found(it) for it, _ in edits):
             offers.append((said, None, [(*settled.found(it), new) for it, new in edits]))
+        elif said and said not in lost:
+            lost.append(said)
     main = settled.lists[0] if settled.lists else None
     made["fixes"] = [fix for it in offers if main is not None for fix in fixes(it, main, it[0])]
     made["related"] = [more for it in offers for more in advice(it, main, files)]

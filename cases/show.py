@@ -22,8 +22,10 @@ import sarif_read_cases
 import shellcheck_cases
 import size_runs
 from json_changes import changed
+from lsp_model import spelled_list
 from programs import HERE, counted, program, run, run_in_terminal
-from show_model import parts_of, rows_of, shown_of
+from sarif_model import spelled_log
+from show_model import is_error, parts_of, rows_of, shown_of, told_of
 from tree_model import Page, whole_picture
 
 FOLDER = os.path.join(HERE, "rustc")
@@ -72,6 +74,14 @@ IN_PIPE = [
 ]
 # what overrules all of them
 OVERRULING = ["--width", "60", "--unicode", "no", "--color", "no", "--links", "no", "--graphical"]
+# the words that ask for a log, the tool that it is of, and what spells it
+LOGS = [
+    (["--sarif"], "show", spelled_log),
+    (["--lsp"], "show", spelled_list),
+    (["--sarif", "--tool", "漢 {}"], "漢 {}", spelled_log),
+    (["--tool", "rustc", "--lsp"], "rustc", spelled_list),
+    (["--tool", "--tool", "--sarif"], "--tool", spelled_log),
+]
 SPAN = {"byte_start": 0, "byte_end": 3, "file_name": "borrow.rs", "is_primary": True, "label": "here"}
 
 
@@ -114,6 +124,19 @@ def wanted(given, files, form):
         notes.append(passed)
         unread, error = unread or bad, error or grave
     return 3 if unread else 1 if error else 0, b"".join(shown), b"".join(notes)
+
+
+def wanted_log(given, files, form, tool, spelled):
+    """The same where one log of all reports is asked for."""
+    files, reports, notes, unread = {**files, **named_in(given)}, [], [], False
+    for number, part in parts_of(given):
+        told, passed, bad = told_of(part, files, form)
+        reports += told
+        notes += [f"show: row {number}: no message that can be read\n".encode()] if bad else []
+        notes.append(passed)
+        unread = unread or bad
+    error = any(map(is_error, reports))
+    return 3 if unread else 1 if error else 0, spelled(reports, tool).encode(), b"".join(notes)
 
 
 # ---- rows that are changed
@@ -202,14 +225,23 @@ def tried(folder, what, given, root, form="rustc"):
     named = ["show", "--root", root, "--from", form, *WORDS]
     elsewhere = told_apart(what, form, run(named, given, cwd=folder), wanted(given, files_in(root), form))
     there = told_apart(what, "auto", run(["show", *WORDS], given, cwd=root), wanted(given, files_in(root), "auto"))
-    return elsewhere and there
+    return elsewhere and there and logged(folder, what, given, root, form)
+
+
+def logged(folder, what, given, root, form):
+    """Whether they agree on the logs of all reports: each of the words that ask for one takes its turn."""
+    LOGS.append(LOGS.pop(0))
+    words, tool, spelled = LOGS[0]
+    got = run(["show", "--root", root, "--from", form, *words], given, cwd=folder)
+    return told_apart(f"{what}, {words}", form, got, wanted_log(given, files_in(root), form, tool, spelled))
 
 
 def words_tried():
     """Wrong words end with status 2 and say which are right, before anything is read."""
     usage = b"usage: show [--from auto|rustc|gcc|sarif|shellcheck] [--root DIR] [--fix | OPTIONS]\n"
     wrong = [["--from", "clang"], ["--root"], ["--from"], ["--width"], ["x"], ["--brief", "--root", "."]]
-    wrong += [["--fix", "--brief"], ["--root", ".", "--fix", "x"]]
+    wrong += [["--fix", "--brief"], ["--root", ".", "--fix", "x"], ["--fix", "--sarif"], ["--sarif", "--lsp"]]
+    wrong += [["--sarif", "--tool"], ["--tool", "a"], ["--tool", "a", "--brief"], ["--sarif", "--width", "80"]]
     return [run(["show", *words], b'{"message":"m"}\n') == (2, b"", usage) for words in wrong]
 
 

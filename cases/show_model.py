@@ -67,14 +67,22 @@ def reports_in(value, files, form):
     return [] if report is None else [report]
 
 
+def told_of(row, files, form="auto"):
+    """The reports of a part, what is passed on of it, and whether it can't be read."""
+    if not BEGINNING[form].match(row):
+        return [], row, False
+    try:
+        return reports_in(json.loads(row.decode(), parse_constant=refused), files, form), b"", False
+    except (ValueError, RecursionError, *NONE):
+        return [], row, True
+
+
+def is_error(report):
+    return report["severity"] == "error"
+
+
 def shown_of(row, files, draw, form="auto"):
     """What is shown of a part, as `draw` draws reports, and what is passed on of it; whether it can't be read, and
     whether an error is among the reports."""
-    if not BEGINNING[form].match(row):
-        return b"", row, False, False
-    try:
-        reports = reports_in(json.loads(row.decode(), parse_constant=refused), files, form)
-    except (ValueError, RecursionError, *NONE):
-        return b"", row, True, False
-    shown = b"".join(draw(it).encode() + b"\n" for it in reports)
-    return shown, b"", False, any(it["severity"] == "error" for it in reports)
+    reports, passed, bad = told_of(row, files, form)
+    return b"".join(draw(it).encode() + b"\n" for it in reports), passed, bad, any(map(is_error, reports))

@@ -1,4 +1,5 @@
 pub mod AlwaysRead
 pub mod HighlighterSteps
 pub mod JobHandlerSteps
+pub mod LogSteps
 pub mod OptionWordSteps

@@ -4,4 +4,5 @@
 pub mod arguments;
 pub mod job_handler;
 pub mod language;
+pub mod logs;
 pub mod option_words;

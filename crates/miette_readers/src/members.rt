@@ -70,7 +70,7 @@ fn items_in(value: &Value) -> &[Value]
 }
 
 /// The items of the list at a key.
-pub(crate) fn items_at<'v>(value: &'v Value, key: &str) -> &'v [Value]
+pub fn items_at<'v>(value: &'v Value, key: &str) -> &'v [Value]
     ensures { viewed result.now ≡ items_at key.now (view value.now) }
 {
     match found_at(value, key) {

@@ -8,6 +8,5 @@ pub mod LintServerSteps
 pub mod LintSteps
 pub mod CommandSteps
 pub mod LogSteps
-pub mod EditorSteps
 pub mod WholeTexts
 pub mod JobSteps

@@ -12,14 +12,14 @@ use Rattle.miette_description.specs.rules.Description.{tree_for}
 use Rattle.miette_lint.specs.rules.Coded.{Coded, coded_findings}
 use Rattle.miette_lint.specs.rules.Findings.{findings_of}
 use Rattle.miette_protocol.specs.rules.Reading.{Source}
-use Rattle.miette_sarif.specs.rules.Log.{ToolName}
+use Rattle.miette_program.specs.rules.LogWords.{LogRequest, logged_text, tool_called}
 use Rattle.miette_sarif.specs.rules.LogText.{log_text}
 use Rattle.miette_tree.proofs.Readings.{none_further}
 use Rattle.miette_tree.specs.rules.Reads.{AllAlwaysRead, AlwaysReads}
 use Rattle.miette_tree.specs.rules.Tree.{Tree, Trees, trees, with_related, with_source}
 use Rattle.miette_report.specs.declared.lint_sarif.LogWords.{LogWords}
 use Rattle.miette_report.specs.rules.Logs.{AreLogWords, IsNoLogCall, Logs, finding_tree, finding_trees, lint_log}
-use Rattle.miette_report.specs.rules.Logs.{log_words, tool_called}
+use Rattle.miette_report.specs.rules.Logs.{log_words}
 use Rattle.miette_devices.specs.rules.Words.{IsReadAs}
 use Rattle.miette_report.specs.views.LintReports.{IsClean}
 
@@ -41,26 +41,21 @@ trees_read name input (it ∷ its) ts e =
 
 -- ---- the log
 
-pub logged : (t u : ToolName) (ts : Trees) (old new : List ℕ) → t ≡ u → old ≡ []
-    → (AllAlwaysRead ts → new ≡ old ++ log_text t ts) → AllAlwaysRead ts → new ≡ log_text u ts
-logged t u ts old new same none log reads =
-    log reads ∙ ap (λ l. l ++ log_text t ts) none ∙ ap (λ x. log_text x ts) same
+pub described : {R S E : Type 0} (value : R → Tree) (bytes_of : S → List ℕ) (rs : List R) (r : R) (asked : LogRequest)
+    (bytes : List ℕ) (made : Result S E) → rs ≡ r ∷ [] → IsUtf8 bytes × (tree_for bytes ≡ Some (value r))
+    → IfOk made (λ text. bytes_of text ≡ logged_text asked (trees (map value rs)))
+    → IfOk made (λ text. Logs asked bytes (λ log. bytes_of text ≡ log))
+described value bytes_of rs r asked bytes (Err e) same h p = tt
+described value bytes_of rs r asked bytes (Ok text) same h p =
+    (h.0, (value r, h.1, p ∙ ap (λ l. logged_text asked (trees (map value l))) same))
 
-pub described : {R S E : Type 0} (value : R → Tree) (bytes_of : S → List ℕ) (rs : List R) (r : R) (tool bytes : List ℕ)
-    (made : Result S E) → rs ≡ r ∷ [] → IsUtf8 bytes × (tree_for bytes ≡ Some (value r))
-    → IfOk made (λ text. bytes_of text ≡ log_text (tool_called tool) (trees (map value rs)))
-    → IfOk made (λ text. Logs tool bytes (λ log. bytes_of text ≡ log))
-described value bytes_of rs r tool bytes (Err e) same h p = tt
-described value bytes_of rs r tool bytes (Ok text) same h p =
-    (h.0, (value r, h.1, p ∙ ap (λ l. log_text (tool_called tool) (trees (map value l))) same))
-
-pub log_written : (tool : List ℕ) (all : Option (List ℕ)) (bytes lent text put : List ℕ) (P : List ℕ → Type 0)
-    → IfSome all (λ bs. bytes ≡ bs) → lent ≡ bytes → Logs tool lent (λ log. text ≡ log) → put ≡ text → P put
-    → IfSome all (λ bs. Logs tool bs P)
-log_written tool None bytes lent text put P read same log e p = tt
-log_written tool (Some bs) bytes lent text put P read same log e p =
-    let here : Logs tool lent P = (log.0, (log.1.0, log.1.1, subst P (e ∙ log.1.2) p)) in
-    subst (λ b. Logs tool b P) (same ∙ read) here
+pub log_written : (asked : LogRequest) (all : Option (List ℕ)) (bytes lent text put : List ℕ) (P : List ℕ → Type 0)
+    → IfSome all (λ bs. bytes ≡ bs) → lent ≡ bytes → Logs asked lent (λ log. text ≡ log) → put ≡ text → P put
+    → IfSome all (λ bs. Logs asked bs P)
+log_written asked None bytes lent text put P read same log e p = tt
+log_written asked (Some bs) bytes lent text put P read same log e p =
+    let here : Logs asked lent P = (log.0, (log.1.0, log.1.1, subst P (e ∙ log.1.2) p)) in
+    subst (λ b. Logs asked b P) (same ∙ read) here
 
 -- ---- the words of `lint --sarif`
 

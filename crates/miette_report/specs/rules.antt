@@ -2,6 +2,5 @@
 pub mod Words
 pub mod Job
 pub mod Logs
-pub mod Editors
 pub mod JobCalls
 pub mod Fixing

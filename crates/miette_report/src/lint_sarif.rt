@@ -11,7 +11,6 @@ ghost use Rattle.miette_devices.specs.rules.Words.{IsReadAs};
 ghost use Rattle.miette_report.specs.views.LintReports.{IsClean};
 
 use crate::lint_reports::reports_over;
-use crate::sarif::log_of;
 use miette::report::Report;
 use miette_devices::device::Device;
 use miette_devices::fault::{Ending, Fault, Program};
@@ -19,6 +18,7 @@ use miette_devices::whole::{read_whole, write_whole};
 use miette_devices::words::number;
 use miette_lint::coded::coded_findings;
 use miette_lint::laws::coded_laws;
+use miette_program::logs::log_of;
 use std::alloc::{AllocError, Global};
 use std::io::{Read, Write};
 

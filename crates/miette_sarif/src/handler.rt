@@ -104,16 +104,18 @@ impl SarifReportHandler {
     }
 
     /// Appends the log of reports, in their order. After an error, which is want of memory, `out` is as before.
-    pub fn render_reports(&self, reports: &[Report], out: &mut String) -> Result<(), RenderError>
+    pub fn render_reports<D: Diagnostic, S: SourceCode>(
+        &self,
+        reports: &[Report<D, S>],
+        out: &mut String,
+    ) -> Result<(), RenderError>
         // The text is the spelling of the log, for some answers of the sources; it stands for that value, and for no
         // other.
-        ensures text { let tree = tree_of ⟦<Box<dyn Diagnostic> as Diagnostic>⟧.meaning
-            ⟦<Box<dyn SourceCode> as SourceCode>⟧.source in
+        ensures text { let tree = tree_of D.meaning S.source in
             OnOk result (AppendsOne (IsLogOf (tool_in self.now) (trees (map tree reports.now)))
             (string_bytes out.old) (string_bytes out.new)) }
         // Where all sources of the reports always read, there is one such log.
-        ensures value { let tree = tree_of ⟦<Box<dyn Diagnostic> as Diagnostic>⟧.meaning
-            ⟦<Box<dyn SourceCode> as SourceCode>⟧.source in let ts = trees (map tree reports.now) in
+        ensures value { let tree = tree_of D.meaning S.source in let ts = trees (map tree reports.now) in
             OnOk result (AllAlwaysRead ts
             → string_bytes out.new ≡ string_bytes out.old ++ log_text (tool_in self.now) ts) }
         ensures memory { OnErr result (result ≡ Err RenderError.Memory) }

@@ -1,9 +1,12 @@
 pub mod BaseSteps
+pub mod BeginSteps
 pub mod Finding
 pub mod FlowSteps
+pub mod HelpSteps
 pub mod Kept
 pub mod LogsHold
 pub mod NameSteps
+pub mod NewlineSteps
 pub mod PieceSteps
 pub mod Returned
 pub mod Steps

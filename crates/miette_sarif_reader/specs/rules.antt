@@ -2,6 +2,7 @@
 pub mod Messages
 pub mod Uris
 pub mod Bases
+pub mod Newlines
 pub mod Regions
 pub mod Results
 pub mod Proposals

@@ -1,3 +1,4 @@
 -- What values mean.
 pub mod Grounds
 pub mod Pieces
+pub mod Begins

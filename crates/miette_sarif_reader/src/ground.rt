@@ -4,14 +4,16 @@ ghost use Rattle.std.specs.Prelude.{◌≡◌, IfOk, codes, find, option_map, sl
 ghost use Rattle.std.specs.Option.{option_copied};
 ghost use Rattle.serde_json.specs.View.{view};
 ghost use Rattle.miette_readers.specs.rules.Members.{objects_at};
-ghost use Rattle.miette_readers.specs.views.Values.{seen};
+ghost use Rattle.miette_readers.specs.views.Values.{seen, texts};
 ghost use Rattle.miette_sarif_reader.specs.rules.Logs.{driver_of, ground_of, rules_by};
+ghost use Rattle.miette_sarif_reader.specs.rules.Newlines.{newlines_of};
 ghost use Rattle.miette_sarif_reader.specs.rules.Results.{ground_for, has_id, index_told, is_extended, item_at};
 ghost use Rattle.miette_sarif_reader.specs.rules.Results.{rule_id, rule_index, rule_named, rule_of};
 ghost use Rattle.miette_sarif_reader.specs.rules.Results.{rule_told, strings_of};
 ghost use Rattle.miette_sarif_reader.specs.views.Grounds.{ground_in};
 
 use crate::bases::bases_of;
+use crate::newlines::newlines_of;
 use crate::regions::encoding_of;
 use miette_positions::place::PositionEncoding;
 use miette_readers::files::Files;
@@ -19,11 +21,12 @@ use miette_readers::members::{object_at, objects_at, text_at, whole_at};
 use serde_json::Value;
 use std::alloc::{AllocError, Global};
 
-/// The rules of the tool that made a run, and its artifacts.
+/// The rules of the tool that made a run, its artifacts, and what ends the lines of its files.
 #[derive(Drop)]
 pub(crate) struct Lists<'v> {
     pub(crate) rules: Vec<&'v Value>,
     pub(crate) artifacts: Vec<&'v Value>,
+    pub(crate) newlines: Vec<&'v str>,
 }
 
 /// By what a run's results are read: the files, how columns are counted, the lists of the run, its bases, and the
@@ -58,10 +61,16 @@ fn rules_of<'v>(alloc: Global, run: &'v Value) -> Result<Vec<&'v Value>, AllocEr
 pub(crate) fn lists_of<'v>(alloc: Global, run: &'v Value) -> Result<Lists<'v>, AllocError>
     ensures rules { IfOk result (λ it. seen it.rules.items ≡ rules_by (driver_of (view run.now))) }
     ensures artifacts { IfOk result (λ it. seen it.artifacts.items ≡ objects_at (codes "artifacts") (view run.now)) }
+    ensures newlines { IfOk result (λ it. texts it.newlines.items ≡ newlines_of (view run.now)) }
 {
     let rules = rules_of(alloc, run)?;
     let artifacts = objects_at(alloc, run, "artifacts")?;
-    Ok(Lists { rules, artifacts })
+    let newlines = newlines_of(alloc, run)?;
+    Ok(Lists {
+        rules,
+        artifacts,
+        newlines,
+    })
 }
 
 /// By what the results of a run are read.
@@ -72,6 +81,7 @@ pub(crate) fn ground_of<'f, 'l, 'v, F: Files>(
 ) -> Ground<'f, 'l, 'v, F>
     requires rules { seen lists.now.rules.items ≡ rules_by (driver_of (view run.now)) }
     requires artifacts { seen lists.now.artifacts.items ≡ objects_at (codes "artifacts") (view run.now) }
+    requires newlines { texts lists.now.newlines.items ≡ newlines_of (view run.now) }
     ensures { ground_in F.found result ≡ ground_of (F.found files.now) (view run.now) }
 {
     Ground {

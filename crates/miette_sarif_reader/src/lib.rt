@@ -2,12 +2,14 @@
 #![tactic(auto)]
 
 mod bases;
+mod begins;
 mod drafts;
 mod ground;
 pub mod laws;
 mod locations;
 mod messages;
 pub mod names;
+mod newlines;
 mod proposals;
 mod regions;
 pub mod sarif;

@@ -198,7 +198,10 @@ impl<'f, 'l, 'v, F: Files> Ground<'f, 'l, 'v, F> {
         ensures { result ≡ (place_in (ground_in F.found self.now) name.now (view region.now)).stretch }
     {
         match self.files.find(name) {
-            Some(file) => stretch_in(self.encoding, file.indexed(), region),
+            Some(file) => {
+                let newlines = self.lists.newlines.as_slice();
+                stretch_in(self.encoding, newlines, file.bytes(), region)
+            }
             None => None,
         }
     }

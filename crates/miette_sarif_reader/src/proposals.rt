@@ -91,7 +91,7 @@ pub(crate) fn offers_of<'f, 'd, F: Files>(
     Ok(list)
 }
 
-/// Appends the words of a proposal, where a place can't be found.
+/// Appends the words of a proposal that can't be found, or replaces nothing, where it says something.
 fn push_help<F: Files>(
     rows: &mut Vec<String>,
     alloc: Global,
@@ -101,13 +101,16 @@ fn push_help<F: Files>(
     ensures { OnOk result (map string_bytes rows.new.items
         ≡ with_help (F.found files.now) (map string_bytes rows.old.items) draft.now) }
 {
-    if edits_at(alloc, files, draft.edits.as_slice())?.is_some() {
+    if draft.words.is_empty() {
+        return Ok(());
+    }
+    if offer_of(alloc, files, draft)?.is_some() {
         return Ok(());
     }
     push_row(rows, alloc, draft.words.as_str())
 }
 
-/// The words of proposals that can't be found, each once.
+/// The words of proposals that can't be found, or replace nothing, each once.
 pub(crate) fn help_of<F: Files>(
     alloc: Global,
     files: &F,

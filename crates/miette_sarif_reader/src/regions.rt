@@ -1,21 +1,21 @@
 //! The bytes of SARIF's regions, by lines and columns, or by offsets.
 
-ghost use Rattle.std.specs.Prelude.{◌≡◌, ◌≤◌, IfSome, drop, length};
+ghost use Rattle.std.specs.Prelude.{◌≡◌, ◌≤◌, ◌+◌, IfSome, drop, length, take};
 ghost use Rattle.serde_json.specs.View.{view};
 ghost use Rattle.miette_positions.specs.rules.Stops.{units};
+ghost use Rattle.miette_readers.specs.views.Values.{texts};
+ghost use Rattle.miette_sarif_reader.specs.rules.Newlines.{text_size};
 ghost use Rattle.miette_sarif_reader.specs.rules.Regions.{byte_stretch, char_stretch, column_at, count_at, encoding_of};
 ghost use Rattle.miette_sarif_reader.specs.rules.Regions.{end_columns, end_line, has_chars, has_line, is_told};
 ghost use Rattle.miette_sarif_reader.specs.rules.Regions.{line_stretch, offset_at, start_column, start_line};
 ghost use Rattle.miette_sarif_reader.specs.rules.Regions.{stretch_by_bytes, stretch_by_chars, stretch_in, units_behind};
 
+use crate::begins::rest_from;
+use crate::newlines::{line_behind, text_size};
 use miette_cells::cells::first_character;
-use miette_positions::place::{Position, PositionEncoding};
-use miette_positions::spans::clamped_offset;
-use miette_protocol::source::IndexedSource;
-use miette_readers::line_starts::line_start;
+use miette_positions::place::PositionEncoding;
 use miette_readers::members::{text_at, whole_at};
 use miette_readers::place::Stretch;
-use miette_source_lines::find::FindLines;
 use serde_json::Value;
 
 /// In which units a run counts columns: in characters where it doesn't say.
@@ -29,38 +29,54 @@ pub(crate) fn encoding_of(run: &Value) -> PositionEncoding
     }
 }
 
-/// So many columns behind the beginning of a line: behind the line's text its end, inside a character its start.
-fn column_at(encoding: PositionEncoding, bytes: &[u8], start: usize, columns: usize) -> usize
+/// Where the text of the line ends that begins here.
+fn text_end(newlines: &[&str], bytes: &[u8], start: usize) -> usize
     requires { start ≤ length bytes.now }
-    ensures { result ≡ column_at encoding bytes.now start columns }
+    ensures value { result ≡ start + text_size (texts newlines.now) (drop start bytes.now) }
+    ensures order { start ≤ result }
+    ensures within { result ≤ length bytes.now }
 {
-    let position = Position {
-        line: 0,
-        column: columns,
-    };
-    start
-        .saturating_add(clamped_offset(position, &bytes[start..], encoding))
-        .min(bytes.len())
+    start + text_size(newlines, rest_from(bytes, start))
+}
+
+/// The bytes up to an offset.
+fn front_to(bytes: &[u8], stop: usize) -> &[u8]
+    requires { stop ≤ length bytes.now }
+    ensures { result.now ≡ take stop bytes.now }
+{
+    &bytes[..stop]
+}
+
+/// So many columns behind the beginning of a line: behind the line's text its end, inside a character its start.
+fn column_at(
+    encoding: PositionEncoding,
+    newlines: &[&str],
+    bytes: &[u8],
+    start: usize,
+    columns: usize,
+) -> usize
+    requires { start ≤ length bytes.now }
+    ensures { result ≡ column_at encoding (texts newlines.now) bytes.now start columns }
+{
+    let stop = text_end(newlines, bytes, start);
+    units_behind(encoding, front_to(bytes, stop), start, columns).unwrap_or(stop)
 }
 
 /// The offset of so many columns on a line, the first with 1.
 fn offset_at(
     encoding: PositionEncoding,
-    source: &IndexedSource,
+    newlines: &[&str],
+    bytes: &[u8],
     line: u64,
     columns: usize,
 ) -> Option<usize>
-    ensures { result ≡ offset_at encoding source.now line columns }
+    ensures { result ≡ offset_at encoding (texts newlines.now) bytes.now line columns }
 {
     if line == 0 {
         return None;
     }
-    let line = (line - 1) as usize;
-    if source.line_of(source.bytes().len()).0 < line {
-        return None;
-    }
-    let start = line_start(source, line);
-    Some(column_at(encoding, source.bytes(), start, columns))
+    let start = line_behind(newlines, bytes, (line - 1) as usize)?;
+    Some(column_at(encoding, newlines, bytes, start, columns))
 }
 
 /// The line on which a region begins, the first with 1.
@@ -97,15 +113,16 @@ fn end_columns(bytes: &[u8], column: Option<u64>) -> usize
 /// Up to but without its end column.
 fn line_stretch(
     encoding: PositionEncoding,
-    source: &IndexedSource,
+    newlines: &[&str],
+    bytes: &[u8],
     region: &Value,
 ) -> Option<Stretch>
-    ensures { result ≡ line_stretch encoding source.now (view region.now) }
+    ensures { result ≡ line_stretch encoding (texts newlines.now) bytes.now (view region.now) }
 {
     let columns = start_column(region).saturating_sub(1) as usize;
-    let start = offset_at(encoding, source, start_line(region), columns)?;
-    let columns = end_columns(source.bytes(), whole_at(region, "endColumn"));
-    let end = offset_at(encoding, source, end_line(region), columns)?;
+    let start = offset_at(encoding, newlines, bytes, start_line(region), columns)?;
+    let columns = end_columns(bytes, whole_at(region, "endColumn"));
+    let end = offset_at(encoding, newlines, bytes, end_line(region), columns)?;
     Some(Stretch { start, end })
 }
 
@@ -120,14 +137,6 @@ fn units(encoding: PositionEncoding, code: char, bytes: usize) -> usize
         PositionEncoding::Utf16 => { if u32::from(code) < 0x10000 { 1 } else { 2 } }
         PositionEncoding::Utf32 => 1,
     }
-}
-
-/// The bytes from an offset on.
-fn rest_from(bytes: &[u8], at: usize) -> &[u8]
-    requires { at ≤ length bytes.now }
-    ensures { result.now ≡ drop at bytes.now }
-{
-    &bytes[at..]
 }
 
 /// So many code units behind an offset: inside a character its start, behind the last one nowhere.
@@ -232,16 +241,17 @@ pub(crate) fn is_told(region: &Value) -> bool
 /// The bytes of a region: by its lines, else by its characters, else by its bytes.
 pub(crate) fn stretch_in(
     encoding: PositionEncoding,
-    source: &IndexedSource,
+    newlines: &[&str],
+    bytes: &[u8],
     region: &Value,
 ) -> Option<Stretch>
-    ensures { result ≡ stretch_in encoding source.now (view region.now) }
+    ensures { result ≡ stretch_in encoding (texts newlines.now) bytes.now (view region.now) }
 {
     if has_line(region) {
-        line_stretch(encoding, source, region)
+        line_stretch(encoding, newlines, bytes, region)
     } else if has_chars(region) {
-        stretch_by_chars(encoding, source.bytes(), region)
+        stretch_by_chars(encoding, bytes, region)
     } else {
-        stretch_by_bytes(source.bytes(), region)
+        stretch_by_bytes(bytes, region)
     }
 }

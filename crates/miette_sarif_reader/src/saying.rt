@@ -2,9 +2,8 @@
 
 ghost use Rattle.std.specs.Prelude.{◌≡◌, [], IfOk, codes, option_and_then, option_map, string_bytes, unwrap_or};
 ghost use Rattle.std.specs.Option.{option_copied};
-ghost use Rattle.serde_json.specs.Find.{as_array};
 ghost use Rattle.serde_json.specs.View.{view};
-ghost use Rattle.miette_readers.specs.rules.Members.{items_at, items_in, said};
+ghost use Rattle.miette_readers.specs.rules.Members.{items_at, said};
 ghost use Rattle.miette_readers.specs.views.Values.{viewed};
 ghost use Rattle.miette_sarif_reader.specs.rules.Results.{code_of, default_level, has_failed, level_by, level_of};
 ghost use Rattle.miette_sarif_reader.specs.rules.Results.{message_in, message_text, rule_of, said_of, severity_by};
@@ -15,7 +14,7 @@ use crate::ground::{Ground, rule_id};
 use crate::messages::shown;
 use miette_protocol::protocol::Severity;
 use miette_readers::files::Files;
-use miette_readers::members::{found_at, object_at, text_at};
+use miette_readers::members::{items_at, object_at, text_at};
 use miette_readers::reports::Said;
 use serde_json::Value;
 use std::alloc::{AllocError, Global};
@@ -37,24 +36,11 @@ fn string_of<'v>(strings: Option<&'v Value>, message: &'v Value) -> Option<&'v s
     }
 }
 
-/// The items of a list; what is no list has none.
-fn items_in(value: &Value) -> &[Value]
-    ensures { viewed result.now ≡ items_in (as_array (view value.now)) }
-{
-    match value.as_array() {
-        Some(list) => list.as_slice(),
-        None => &[],
-    }
-}
-
 /// The arguments of a message.
 fn arguments_of(message: &Value) -> &[Value]
     ensures { viewed result.now ≡ items_at (codes "arguments") (view message.now) }
 {
-    match found_at(message, "arguments") {
-        Some(found) => items_in(found),
-        None => &[],
-    }
+    items_at(message, "arguments")
 }
 
 /// What a message says; its id where that stands for no text.

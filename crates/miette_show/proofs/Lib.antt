@@ -3,6 +3,7 @@ pub mod Calls
 pub mod ChangeSteps
 pub mod FolderSteps
 pub mod Going
+pub mod Logging
 pub mod MendEnds
 pub mod MendSteps
 pub mod NameSteps

@@ -36,6 +36,11 @@ pub passed : (from : Format) (gives : Given) (found : Finding) (files : List ℕ
 passed from gives found files row text not none =
     (files, (λ d utf8 begins is. (let no : false ≡ true = sym not ∙ begins in cc)), (not, none))
 
+-- one that is no value says nothing
+pub none_said : (from : Format) (files : List ℕ → Option Source) (row : List ℕ) → (IsUtf8 row → read row ≡ None)
+    → IsUtf8 row → row_trees from files row ≡ None
+none_said from files row none utf8 = ap (option_and_then (value_trees from files)) (none utf8)
+
 -- one that is no value
 pub unread : (from : Format) (gives : Given) (found : Finding) (files : List ℕ → Option Source) (row text : List ℕ)
     → begins_message from row ≡ true → (IsUtf8 row → read row ≡ None) → text ≡ []
@@ -43,10 +48,10 @@ pub unread : (from : Format) (gives : Given) (found : Finding) (files : List ℕ
 unread from gives found files row text begins none empty = (
   files,
   (λ d utf8 b is. (let no : None ≡ Some d = sym (none utf8) ∙ is in cc)),
-  (begins, (λ utf8. ap (option_and_then (value_trees from files)) (none utf8)), empty),
+  (begins, none_said from files row none, empty),
 )
 
-says_of : (from : Format) (files : List ℕ → Option Source) (row : List ℕ) (d : Data) → read row ≡ Some d
+pub says_of : (from : Format) (files : List ℕ → Option Source) (row : List ℕ) (d : Data) → read row ≡ Some d
     → row_trees from files row ≡ value_trees from files d
 says_of from files row d is = ap (option_and_then (value_trees from files)) is
 

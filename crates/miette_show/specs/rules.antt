@@ -3,6 +3,7 @@ pub mod Looking
 pub mod Rows
 pub mod Parts
 pub mod Shown
+pub mod Logging
 pub mod Statuses
 pub mod ShowWords
 pub mod ShowCalls

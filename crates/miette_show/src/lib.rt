@@ -4,6 +4,7 @@
 pub mod folder;
 pub mod folder_store;
 pub mod loader;
+pub mod log;
 pub mod mend;
 mod message;
 mod parts;

@@ -53,7 +53,7 @@ fn begins_array(row: &[u8]) -> bool
 }
 
 /// Whether a row begins as messages do.
-fn begins_message(from: Format, row: &[u8]) -> bool
+pub(crate) fn begins_message(from: Format, row: &[u8]) -> bool
     ensures { result ≡ begins_message from row.now }
 {
     match from {
@@ -173,7 +173,7 @@ fn value_text<H: Highlighter, F: Files>(
 }
 
 /// Whether it is the severity of an error.
-fn is_error(severity: Option<Severity>) -> bool
+pub(crate) fn is_error(severity: Option<Severity>) -> bool
     ensures { result ≡ is_grave severity }
 {
     match severity {

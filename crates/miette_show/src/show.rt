@@ -117,7 +117,7 @@ pub(crate) fn note<E: Write>(
 }
 
 /// Passes on a row that isn't shown, behind a note where it can't be read.
-fn pass_on<E: Write>(
+pub(crate) fn pass_on<E: Write>(
     alloc: Global,
     faults: &mut Device<E>,
     number: u64,

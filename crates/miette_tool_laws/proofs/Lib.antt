@@ -1,3 +1,5 @@
 mod GccFixes
 mod GccTexts
 mod LogTexts
+mod ShellcheckFixes
+mod ShellcheckTexts

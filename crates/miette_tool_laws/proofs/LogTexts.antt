@@ -1,7 +1,7 @@
 -- The texts of a result of a SARIF log stand in its report.
 use Rattle.std.proofs.Common.{◌≡◌, ◌⊎◌, ℕ, ◌+◌, List, [], ◌∷◌, ◌++◌, Option, Some, None, option_map, Bool, true}
-use Rattle.std.proofs.Common.{false, IfSome, codes, refl, ap, subst, inl, inr}
-use Rattle.std.specs.Prelude.{◌||◌, if◌then◌else◌, decimal, is_none, is_some}
+use Rattle.std.proofs.Common.{false, IfSome, codes, refl, ap, subst, sym, inl, inr}
+use Rattle.std.specs.Prelude.{◌||◌, if◌then◌else◌, decimal, is_none, is_some, option_and_then, ⊤}
 use Rattle.std.specs.List.{AllByRecursion, flat_map, fold}
 use Rattle.serde_json.specs.Data.{Data}
 use Rattle.miette_protocol.specs.rules.Reading.{Source}
@@ -10,19 +10,19 @@ use Rattle.miette_readers.specs.rules.Members.{object_at, objects_at, said}
 use Rattle.miette_readers.specs.rules.Places.{Place, Told}
 use Rattle.miette_readers.specs.rules.Proposing.{FileEdit, Offer}
 use Rattle.miette_readers.specs.rules.Rustc.{maybe_row}
-use Rattle.miette_readers.specs.rules.Settling.{with_row}
 use Rattle.miette_readers.proofs.ReportsRead.{either}
 use Rattle.miette_sarif_reader.specs.rules.Bases.{file_name}
 use Rattle.miette_sarif_reader.specs.rules.Logs.{result_in}
-use Rattle.miette_sarif_reader.specs.rules.Proposals.{Draft, all_found, description, draft_by, draft_of, drafts_of}
-use Rattle.miette_sarif_reader.specs.rules.Proposals.{edit_at, edits_of, help_of, offer_by, offer_of, offer_with}
-use Rattle.miette_sarif_reader.specs.rules.Proposals.{offers_of, with_help}
+use Rattle.miette_sarif_reader.specs.rules.Proposals.{Draft, all_found, draft_by, draft_of, drafts_of}
+use Rattle.miette_sarif_reader.specs.rules.Proposals.{edit_at, edits_of, help_of, help_row, offer_by, offer_of}
+use Rattle.miette_sarif_reader.specs.rules.Proposals.{offer_with, offers_of, with_help}
 use Rattle.miette_sarif_reader.specs.rules.Regions.{has_line}
 use Rattle.miette_sarif_reader.specs.rules.Results.{Ground, file_of, file_row, flow_told, location_told, message_in}
-use Rattle.miette_sarif_reader.specs.rules.Results.{own_told, place_in, region_of, related_told, row_alone, said_of}
+use Rattle.miette_sarif_reader.specs.rules.Results.{message_text, own_told, place_in, region_of, related_told}
+use Rattle.miette_sarif_reader.specs.rules.Results.{row_alone, said_of}
 use Rattle.miette_sarif_reader.specs.rules.Results.{step_by, step_row, step_told, steps_told, thread_told, told_at}
 use Rattle.miette_sarif_reader.specs.rules.Results.{told_of}
-use Rattle.miette_tool_laws.specs.laws.LogTexts.{described_by, fix_texts, flow_texts, location_texts, step_texts}
+use Rattle.miette_tool_laws.specs.laws.LogTexts.{fix_texts, flow_texts, location_texts, step_texts}
 use Rattle.miette_tool_laws.specs.laws.LogTexts.{step_texts_by, texts_of, thread_texts}
 use Rattle.miette_reader_laws.specs.laws.Applying.{AreFound, IsFound}
 use Rattle.miette_reader_laws.specs.laws.Standing.{Stands}
@@ -150,31 +150,43 @@ module _ (files : List ℕ → Option Source) where
   pub log_found : (ds : List Draft) → AllByRecursion (AreFound files) (offers_of files ds)
   log_found ds = all_made (AreFound files) (offer_of files) (λ d. offer_sound d.words d.edits) ds
 
-  -- ---- those that can't be found
+  -- ---- those that aren't offered
+
+  abbrev IsSaying : List ℕ → Type 0
+  IsSaying [] = ⊥
+  IsSaying (c ∷ cs) = ⊤
 
   abbrev IsHelped : List ℕ → Draft → Type 0
-  IsHelped text d = (is_none (all_found files d.edits) ≡ true) × (d.words ≡ text)
+  IsHelped text d = (is_none (offer_of files d) ≡ true) × (d.words ≡ text) × IsSaying text
+
+  row_kept : (text words : List ℕ) (rows : List (List ℕ)) → Has (Is text) rows → Has (Is text) (help_row rows words)
+  row_kept text [] rows h = h
+  row_kept text (c ∷ cs) rows h = row_stays (Is text) rows (c ∷ cs) h
 
   help_stays : (text : List ℕ) (ds : List Draft) (rows : List (List ℕ)) → Has (Is text) rows
       → Has (Is text) (fold (with_help files) rows ds)
   help_stays text [] rows h = h
   help_stays text (d ∷ ds) rows h =
       help_stays text ds (with_help files rows d)
-      (either (Has (Is text)) (is_none (all_found files d.edits)) (with_row rows d.words) rows
-      (row_stays (Is text) rows d.words h) h)
+      (either (Has (Is text)) (is_none (offer_of files d)) (help_row rows d.words) rows
+      (row_kept text d.words rows h) h)
 
-  help_by : (text words : List ℕ) (rows : List (List ℕ)) (b : Bool) → b ≡ true → words ≡ text
-      → Has (Is text) (if b then with_row rows words else rows)
-  help_by text words rows false e is = cc
-  help_by text words rows true e is =
-      subst (λ (k : List ℕ). Has (Is k) (with_row rows words)) is (row_there rows words)
+  row_helped : (text : List ℕ) (rows : List (List ℕ)) → IsSaying text → Has (Is text) (help_row rows text)
+  row_helped [] rows some = absurd some
+  row_helped (c ∷ cs) rows some = row_there rows (c ∷ cs)
+
+  help_by : (text words : List ℕ) (rows : List (List ℕ)) (b : Bool) → b ≡ true → words ≡ text → IsSaying text
+      → Has (Is text) (if b then help_row rows words else rows)
+  help_by text words rows false e is some = cc
+  help_by text words rows true e is some =
+      subst (λ (k : List ℕ). Has (Is text) (help_row rows k)) (sym is) (row_helped text rows some)
 
   help_there : (text : List ℕ) (ds : List Draft) (rows : List (List ℕ)) → Has (IsHelped text) ds
       → Has (Is text) (fold (with_help files) rows ds)
   help_there text [] rows h = absurd h
   help_there text (d ∷ ds) rows (inl it) =
       help_stays text ds (with_help files rows d)
-      (help_by text d.words rows (is_none (all_found files d.edits)) it.0 it.1)
+      (help_by text d.words rows (is_none (offer_of files d)) it.0 it.1 it.2)
   help_there text (d ∷ ds) rows (inr h) = help_there text ds (with_help files rows d) h
 
   -- ---- each of them is offered, or is help
@@ -185,20 +197,25 @@ module _ (files : List ℕ → Option Source) where
   abbrev IsProposed : List ℕ → Draft → Type 0
   IsProposed text d = IsHelped text d ⊎ IsOfferedBy text d
 
-  found_by : (words : List ℕ) (e : Place × List ℕ) (es : List (Place × List ℕ)) (o : Option (List FileEdit))
-      → all_found files (e ∷ es) ≡ o → IfSome o (AreSound files)
+  found_by : (words : List ℕ) → IsSaying words → (e : Place × List ℕ) (es : List (Place × List ℕ))
+      (o : Option (List FileEdit)) → all_found files (e ∷ es) ≡ o → IfSome o (AreSound files)
       → IsProposed words (record { words = words; edits = e ∷ es })
-  found_by words e es None is h = inl (ap is_none is, refl)
-  found_by words e es (Some found) is h = inr (offer_by words found, ap (option_map (offer_by words)) is, refl, h)
+  found_by words some e es None is h = inl (ap (λ found. is_none (option_map (offer_by words) found)) is, refl, some)
+  found_by words some e es (Some found) is h =
+      inr (offer_by words found, ap (option_map (offer_by words)) is, refl, h)
 
+  text_proposed : (words : List ℕ) → IsSaying words → (edits : List (Place × List ℕ))
+      → IsProposed words (record { words = words; edits = edits })
+  text_proposed words some [] = inl (refl, refl, some)
+  text_proposed words some (e ∷ es) =
+      found_by words some e es (all_found files (e ∷ es)) refl (all_sound files (edit_at files) edit_sound e es)
+
+  -- of what it says of itself
   draft_proposed : (edits : List (Place × List ℕ)) (o : Option (List ℕ))
-      → AllByRecursion (λ text. IsProposed text (draft_by o edits)) (described_by edits o)
-  draft_proposed [] o = tt
-  draft_proposed (e ∷ es) None = tt
-  draft_proposed (e ∷ es) (Some text) = (
-    found_by text e es (all_found files (e ∷ es)) refl (all_sound files (edit_at files) edit_sound e es),
-    tt,
-  )
+      → AllByRecursion (λ text. IsProposed text (draft_by (said o) edits)) (maybe_row (said o))
+  draft_proposed edits None = tt
+  draft_proposed edits (Some []) = tt
+  draft_proposed edits (Some (c ∷ cs)) = (text_proposed (c ∷ cs) tt edits, tt)
 
 -- ---- all of them
 
@@ -284,5 +301,6 @@ module _ (g : Ground) (r : Data) where
       (flat_map (flow_texts g) flows) (all_flat IsFlow (flow_texts g) (flow_says g) flows))
       (all_each (λ text. Has (IsFix text) proposals) (Stands (result_in g r)) fix_stands
       (flat_map (fix_texts g) proposals)
-      (all_flat IsFix (fix_texts g) (λ f. draft_proposed g.files (edits_of g f) (description g.strings f))
+      (all_flat IsFix (fix_texts g) (λ f. draft_proposed g.files (edits_of g f)
+      (option_and_then (message_text g.strings) (object_at (codes "description") f)))
       proposals))))

@@ -1,3 +1,4 @@
 -- What holds of the rules.
 pub mod GccTexts
 pub mod LogTexts
+pub mod ShellcheckTexts

@@ -1,4 +1,5 @@
-//! The texts of all that GCC writes, and of all SARIF logs, stand in their reports, and their fixes can be applied.
+//! The texts of all that GCC and ShellCheck write, and of all SARIF logs, stand in their reports, and their fixes can
+//! be applied.
 //! Each law is the contract of a function that does nothing; a caller cites it by calling it.
 
 ghost use Rattle.std.specs.Prelude.{◌≡◌, ℕ, List, [], Option, unwrap_or};
@@ -11,8 +12,10 @@ ghost use Rattle.miette_reader_laws.specs.laws.Applying.{AllFixesApply};
 ghost use Rattle.miette_reader_laws.specs.laws.Standing.{Stands};
 ghost use Rattle.miette_sarif_reader.specs.rules.Logs.{result_tree};
 ghost use Rattle.miette_sarif_reader.specs.rules.Results.{Ground, ground_for, message_in, strings_of};
+ghost use Rattle.miette_shellcheck.specs.rules.Comments as comments;
 ghost use Rattle.miette_tool_laws.specs.laws.GccTexts as gcc_texts;
 ghost use Rattle.miette_tool_laws.specs.laws.LogTexts as log_texts;
+ghost use Rattle.miette_tool_laws.specs.laws.ShellcheckTexts as shellcheck_texts;
 ghost use Rattle.miette_tree.specs.rules.Tree.{head};
 
 /// Each fix of a diagnostic of GCC can be applied, and each of related advice.
@@ -35,11 +38,24 @@ pub fn gcc_texts_stand()
 {}
 
 /// The message of a result of a SARIF log is its report's (`message`), and the texts of its locations, of the related
-/// ones, of the steps of its flows that have a location, and of its proposals stand in the report (`texts`), but of a
-/// proposal that replaces nothing.
+/// ones, of the steps of its flows that have a location, and of its proposals stand in the report (`texts`).
 pub fn log_texts_stand()
     ensures message { (g : Ground) (r : Data)
         → (head (result_tree g r)).message ≡ unwrap_or (message_in (strings_of g r) r) [] }
     ensures texts { (g : Ground) (r : Data)
         → AllByRecursion (Stands (result_tree g r)) (log_texts.texts_of (ground_for g r) r) }
+{}
+
+/// Each fix of a comment of ShellCheck can be applied, and each of related advice.
+pub fn shellcheck_fixes_can_be_applied()
+    ensures { (files : List ℕ → Option Source) (c : Data) → AllFixesApply (comments.comment_tree files c) }
+{}
+
+/// The message of a comment of ShellCheck is its report's (`message`), and what is said of its replacements, where it
+/// has any, stands in the report (`texts`).
+pub fn shellcheck_texts_stand()
+    ensures message { (files : List ℕ → Option Source) (c : Data)
+        → (head (comments.comment_tree files c)).message ≡ comments.message_of c }
+    ensures texts { (files : List ℕ → Option Source) (c : Data)
+        → AllByRecursion (Stands (comments.comment_tree files c)) (shellcheck_texts.texts_of c) }
 {}

@@ -4,8 +4,10 @@
 
 use miette_devices::fault::Fault;
 use miette_devices::words::program_words;
+use miette_program::logs::Logging;
 use miette_show::folder::Folder;
 use miette_show::folder_store::FolderStore;
+use miette_show::log::log_with;
 use miette_show::mend::mend_with;
 use miette_show::show::{Streams, refuse_words, show_with};
 use miette_show::terminal::options_in_terminal;
@@ -29,10 +31,12 @@ fn main(rt: HostRuntime) -> ExitCode {
     };
     let streams = Streams::new(rt.alloc(), rt.stdin(), rt.stdout(), rt.stderr());
     let mut files = Folder::new(&rt, asked.root);
-    ExitCode::from(if asked.fix {
-        let mut store = FolderStore::new(&rt, asked.root);
-        mend_with(rt.alloc(), &mut files, &mut store, streams)
-    } else {
-        show_with(rt.alloc(), &on_terminal, &mut files, streams)
+    ExitCode::from(match (asked.fix, Logging::asked(asked.options, "show")) {
+        (true, _) => {
+            let mut store = FolderStore::new(&rt, asked.root);
+            mend_with(rt.alloc(), &mut files, &mut store, streams)
+        }
+        (false, Some(log)) => log_with(rt.alloc(), asked.from, log, &mut files, streams),
+        (false, None) => show_with(rt.alloc(), &on_terminal, &mut files, streams),
     })
 }

@@ -1,6 +1,6 @@
--- What `job --sarif` and `lint --sarif` take, and the logs that they write.
-use Rattle.std.specs.Prelude.{◌≡◌, ℕ, ◌<◌, ◌&&◌, List, [], ◌∷◌, ◌++◌, Option, Some, None, map, unwrap_or, IfSome}
-use Rattle.std.specs.Prelude.{IsUtf8, bytes_eq, codes, if◌then◌else◌}
+-- The logs that `job --sarif`, `job --lsp` and `lint --sarif` write, and what `lint --sarif` takes.
+use Rattle.std.specs.Prelude.{◌≡◌, ℕ, ◌<◌, List, [], ◌∷◌, ◌++◌, Option, Some, None, map, unwrap_or, IfSome}
+use Rattle.std.specs.Prelude.{IsUtf8, codes}
 use Rattle.miette.specs.Diagnostic.{message_alone}
 use Rattle.miette.specs.Meaning.{Meaning}
 use Rattle.miette.specs.Reading.{named_source, plain_source}
@@ -8,32 +8,18 @@ use Rattle.miette.specs.Tree.{Tree, Trees, alone, no_trees, trees, with_fixes, w
 use Rattle.miette_description.specs.rules.Description.{tree_for}
 use Rattle.miette_lint.specs.rules.Coded.{Coded, coded_findings}
 use Rattle.miette_protocol.specs.declared.protocol.Severity.TheVariants.{Warning}
-use Rattle.miette_sarif.specs.rules.Log.{ToolName}
+use Rattle.miette_program.specs.rules.LogWords.{LogRequest, logged_text, tool_called}
 use Rattle.miette_sarif.specs.rules.LogText.{log_text}
 use Rattle.miette_tree.specs.rules.Diagnosis.{plain_diagnosis}
 use Rattle.miette_report.specs.rules.Job.{IsDescription, IsNoDescription}
 use Rattle.miette_devices.specs.rules.Words.{IsReadAs}
 
--- a tool of which a log says its name alone
-abbrev pub tool_called : List ℕ → ToolName
-tool_called name = record { name = name; version = None; information = None }
-
--- ---- `job --sarif`
-
--- The name of the tool where the words ask for a log: `job`, or the one behind `--tool`. Nothing where they are others.
-abbrev pub logging_of : List (List ℕ) → Option (List ℕ)
-logging_of [] = None
-logging_of (word ∷ []) = if bytes_eq word (codes "--sarif") then Some (codes "job") else None
-logging_of (first ∷ second ∷ []) = None
-logging_of (first ∷ second ∷ third ∷ []) =
-    if bytes_eq first (codes "--sarif") && bytes_eq second (codes "--tool") then Some third
-    else (if bytes_eq first (codes "--tool") && bytes_eq third (codes "--sarif") then Some second else None)
-logging_of (first ∷ second ∷ third ∷ fourth ∷ words) = None
+-- ---- `job --sarif` and `job --lsp`
 
 -- The bytes are a description, and this holds of the log of its report.
-abbrev pub Logs : List ℕ → List ℕ → (List ℕ → Type 0) → Type 0
-Logs tool bytes holds = IsUtf8 bytes × ((t : Tree) × (tree_for bytes ≡ Some t)
-    × holds (log_text (tool_called tool) (trees (t ∷ []))))
+abbrev pub Logs : LogRequest → List ℕ → (List ℕ → Type 0) → Type 0
+Logs asked bytes holds = IsUtf8 bytes × ((t : Tree) × (tree_for bytes ≡ Some t)
+    × holds (logged_text asked (trees (t ∷ []))))
 
 -- The status, by what the reader told: a log is never refused.
 pub record IsLogStatus (told : Option (List ℕ)) (status : ℕ) : Type 0 where

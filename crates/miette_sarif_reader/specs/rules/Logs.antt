@@ -10,6 +10,7 @@ use Rattle.miette_readers.specs.rules.Reports.{report_tree}
 use Rattle.miette_readers.specs.rules.Settling.{settled}
 use Rattle.miette_tree.specs.rules.Tree.{Tree}
 use Rattle.miette_sarif_reader.specs.rules.Bases.{bases_of}
+use Rattle.miette_sarif_reader.specs.rules.Newlines.{newlines_of}
 use Rattle.miette_sarif_reader.specs.rules.Proposals.{drafts_of, help_of, offers_of}
 use Rattle.miette_sarif_reader.specs.rules.Regions.{encoding_of}
 use Rattle.miette_sarif_reader.specs.rules.Results.{Ground, ground_for, said_of, told_of}
@@ -26,6 +27,7 @@ abbrev pub ground_of : (List ℕ → Option Source) → Data → Ground
 ground_of files run = record {
   files = files;
   encoding = encoding_of run;
+  newlines = newlines_of run;
   rules = rules_by (driver_of run);
   artifacts = objects_at (codes "artifacts") run;
   bases = bases_of run;

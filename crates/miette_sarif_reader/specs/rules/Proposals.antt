@@ -91,9 +91,14 @@ offer_of files d = offer_with files d.words d.edits
 abbrev pub offers_of : (List ℕ → Option Source) → List Draft → List Offer
 offers_of files ds = filter_map (offer_of files) ds
 
--- a proposal that can't be found is help
+-- a row of help, where it says something
+abbrev pub help_row : List (List ℕ) → List ℕ → List (List ℕ)
+help_row rows [] = rows
+help_row rows (c ∷ cs) = with_row rows (c ∷ cs)
+
+-- a proposal that can't be found, or replaces nothing, is help
 abbrev pub with_help : (List ℕ → Option Source) → List (List ℕ) → Draft → List (List ℕ)
-with_help files rows d = if is_none (all_found files d.edits) then with_row rows d.words else rows
+with_help files rows d = if is_none (offer_of files d) then help_row rows d.words else rows
 
 abbrev pub help_of : (List ℕ → Option Source) → List Draft → Option (List ℕ)
 help_of files ds = joined (fold (with_help files) [] ds)

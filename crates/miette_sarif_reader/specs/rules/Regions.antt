@@ -1,33 +1,46 @@
 -- The bytes of SARIF's regions, by lines and columns, or by offsets.
-use Rattle.std.specs.Prelude.{ℕ, zero, suc, ◌+◌, ◌-◌, List, [], ◌∷◌, Option, Some, None, Bool, ◌||◌, ◌==◌, length, min}
-use Rattle.std.specs.Prelude.{if◌then◌else◌, bytes_eq, codes, drop, is_some, nat_le, nat_lt, option_and_then, unwrap_or}
+use Rattle.std.specs.Prelude.{ℕ, zero, suc, ◌+◌, ◌-◌, List, [], ◌∷◌, Option, Some, None, Bool, ◌||◌, ◌==◌, length}
+use Rattle.std.specs.Prelude.{if◌then◌else◌, bytes_eq, codes, drop, is_some, nat_le, nat_lt, option_and_then}
+use Rattle.std.specs.Prelude.{option_map, take, unwrap_or}
 use Rattle.serde_json.specs.Data.{Data}
 use Rattle.miette_cells.specs.rules.Cells.{Character, characters}
 use Rattle.miette_positions.specs.declared.place.PositionEncoding.{PositionEncoding}
 use Rattle.miette_positions.specs.declared.place.PositionEncoding.TheVariants.{Utf16, Utf32}
-use Rattle.miette_positions.specs.rules.Regions.{stop_at}
 use Rattle.miette_positions.specs.rules.Stops.{units}
-use Rattle.miette_readers.specs.rules.LineStarts.{last_line}
 use Rattle.miette_readers.specs.rules.Members.{text_at, whole_at}
 use Rattle.miette_readers.specs.rules.Places.{Stretch}
 use Rattle.miette_readers.specs.rules.Rustc.{stretch_from}
-use Rattle.miette_source_lines.specs.rules.Lines.{line_start}
+use Rattle.miette_sarif_reader.specs.rules.Newlines.{line_behind, text_size}
 
 -- in which units a run counts columns: in characters where it doesn't say
 abbrev pub encoding_of : Data → PositionEncoding
 encoding_of run =
     if bytes_eq (unwrap_or (text_at (codes "columnKind") run) []) (codes "utf16CodeUnits") then Utf16 else Utf32
 
+-- So many code units behind an offset, over the characters there: inside a character its start, behind the last one
+-- nowhere.
+abbrev pub units_on : PositionEncoding → ℕ → ℕ → List Character → Option ℕ
+units_on e at count [] = if count == 0 then Some at else None
+units_on e at count (c ∷ cs) =
+    if nat_lt count (units e c) then Some at else units_on e (at + c.bytes) (count - units e c) cs
+
+abbrev pub units_behind : PositionEncoding → List ℕ → ℕ → ℕ → Option ℕ
+units_behind e bytes at count = units_on e at count (characters (drop at bytes))
+
+-- so many code units behind the beginning of a line's text, which stops there
+abbrev pub column_before : PositionEncoding → List ℕ → ℕ → ℕ → ℕ → ℕ
+column_before e bytes start stop columns = unwrap_or (units_behind e (take stop bytes) start columns) stop
+
 -- So many columns behind the beginning of a line: behind the line's text its end, inside a character its start.
-abbrev pub column_at : PositionEncoding → List ℕ → ℕ → ℕ → ℕ
-column_at e bytes start columns =
-    min (start + (stop_at e (drop start bytes) (record { line = 0; column = columns })).offset) (length bytes)
+abbrev pub column_at : PositionEncoding → List (List ℕ) → List ℕ → ℕ → ℕ → ℕ
+column_at e newlines bytes start columns =
+    column_before e bytes start (start + text_size newlines (drop start bytes)) columns
 
 -- the offset of so many columns on a line, the first with 1
-abbrev pub offset_at : PositionEncoding → List ℕ → ℕ → ℕ → Option ℕ
-offset_at e bytes zero columns = None
-offset_at e bytes (suc k) columns =
-    if nat_le k (last_line bytes) then Some (column_at e bytes (line_start bytes k) columns) else None
+abbrev pub offset_at : PositionEncoding → List (List ℕ) → List ℕ → ℕ → ℕ → Option ℕ
+offset_at e newlines bytes zero columns = None
+offset_at e newlines bytes (suc k) columns =
+    option_map (λ start. column_at e newlines bytes start columns) (line_behind newlines bytes 0 k)
 
 abbrev pub start_line : Data → ℕ
 start_line r = unwrap_or (whole_at (codes "startLine") r) 0
@@ -46,22 +59,12 @@ end_columns bytes None = length bytes
 end_columns bytes (Some column) = column - 1
 
 -- up to but without its end column
-abbrev pub line_stretch : PositionEncoding → List ℕ → Data → Option Stretch
-line_stretch e bytes r =
-    stretch_from (offset_at e bytes (start_line r) (start_column r - 1))
-    (offset_at e bytes (end_line r) (end_columns bytes (whole_at (codes "endColumn") r)))
+abbrev pub line_stretch : PositionEncoding → List (List ℕ) → List ℕ → Data → Option Stretch
+line_stretch e newlines bytes r =
+    stretch_from (offset_at e newlines bytes (start_line r) (start_column r - 1))
+    (offset_at e newlines bytes (end_line r) (end_columns bytes (whole_at (codes "endColumn") r)))
 
 -- ---- by offsets
-
--- So many code units behind an offset, over the characters there: inside a character its start, behind the last one
--- nowhere.
-abbrev pub units_on : PositionEncoding → ℕ → ℕ → List Character → Option ℕ
-units_on e at count [] = if count == 0 then Some at else None
-units_on e at count (c ∷ cs) =
-    if nat_lt count (units e c) then Some at else units_on e (at + c.bytes) (count - units e c) cs
-
-abbrev pub units_behind : PositionEncoding → List ℕ → ℕ → ℕ → Option ℕ
-units_behind e bytes at count = units_on e at count (characters (drop at bytes))
 
 abbrev pub stretch_behind : PositionEncoding → List ℕ → ℕ → Option ℕ → Option Stretch
 stretch_behind e bytes count None = None
@@ -105,7 +108,7 @@ abbrev pub is_told : Data → Bool
 is_told r = has_line r || (has_chars r || has_bytes r)
 
 -- the bytes of a region: by its lines, else by its characters, else by its bytes
-abbrev pub stretch_in : PositionEncoding → List ℕ → Data → Option Stretch
-stretch_in e bytes r =
-    if has_line r then line_stretch e bytes r
+abbrev pub stretch_in : PositionEncoding → List (List ℕ) → List ℕ → Data → Option Stretch
+stretch_in e newlines bytes r =
+    if has_line r then line_stretch e newlines bytes r
     else if has_chars r then stretch_by_chars e bytes r else stretch_by_bytes bytes r

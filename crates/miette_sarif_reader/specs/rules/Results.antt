@@ -19,11 +19,12 @@ use Rattle.miette_sarif_reader.specs.rules.Messages.{shown}
 use Rattle.miette_sarif_reader.specs.rules.Regions.{has_line, is_told, start_column, start_line}
 use Rattle.miette_sarif_reader.specs.rules.Regions.{stretch_in}
 
--- By what a run's results are read: the files, how columns are counted, the rules of its tool, its artifacts, its
--- bases, and the message strings of a result's rule.
+-- By what a run's results are read: the files, how columns are counted, what ends lines, the rules of its tool, its
+-- artifacts, its bases, and the message strings of a result's rule.
 pub record Ground : Type 0 where
   pub files : List ℕ → Option Source
   pub encoding : PositionEncoding
+  pub newlines : List (List ℕ)
   pub rules : List Data
   pub artifacts : List Data
   pub bases : Option Data
@@ -158,7 +159,7 @@ region_of l = option_and_then with_begin (option_and_then (object_at (codes "reg
 abbrev pub place_in : Ground → List ℕ → Data → Place
 place_in g name region = record {
   name = name;
-  stretch = option_and_then (λ (source : Source). stretch_in g.encoding source.bytes region) (g.files name);
+  stretch = option_and_then (λ (source : Source). stretch_in g.encoding g.newlines source.bytes region) (g.files name);
   line = start_line region;
   column = start_column region;
 }

@@ -2,7 +2,7 @@
 use Rattle.std.specs.Prelude.{ℕ, List, Option, option_map}
 use Rattle.serde_json.specs.View.{view}
 use Rattle.miette_protocol.specs.rules.Reading.{Source}
-use Rattle.miette_readers.specs.views.Values.{seen}
+use Rattle.miette_readers.specs.views.Values.{seen, texts}
 use Rattle.miette_sarif_reader.specs.rules.Results as results
 use Rattle.miette_sarif_reader.specs.declared.ground.Ground.{Ground}
 
@@ -10,6 +10,7 @@ abbrev pub ground_in : {F : Type 0} → (F → List ℕ → Option Source) → G
 ground_in found it = record {
   files = found it.files.now;
   encoding = it.encoding;
+  newlines = texts it.lists.now.newlines.items;
   rules = seen it.lists.now.rules.items;
   artifacts = seen it.lists.now.artifacts.items;
   bases = option_map (λ v. view v.now) it.bases;

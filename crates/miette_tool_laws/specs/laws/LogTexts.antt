@@ -1,11 +1,10 @@
 -- The texts of a result of a SARIF log beside its own.
-use Rattle.std.specs.Prelude.{ℕ, List, [], ◌∷◌, ◌++◌, Option, Some, None, codes}
+use Rattle.std.specs.Prelude.{ℕ, List, [], ◌++◌, Option, Some, None, codes}
 use Rattle.std.specs.List.{flat_map}
 use Rattle.serde_json.specs.Data.{Data}
 use Rattle.miette_readers.specs.rules.Members.{object_at, objects_at, said}
-use Rattle.miette_readers.specs.rules.Places.{Place}
 use Rattle.miette_readers.specs.rules.Rustc.{maybe_row}
-use Rattle.miette_sarif_reader.specs.rules.Proposals.{description, edits_of}
+use Rattle.miette_sarif_reader.specs.rules.Proposals.{description}
 use Rattle.miette_sarif_reader.specs.rules.Results.{Ground, message_in}
 
 abbrev pub location_texts : Ground → Data → List (List ℕ)
@@ -28,13 +27,8 @@ flow_texts g f = flat_map (thread_texts g) (objects_at (codes "threadFlows") f)
 
 -- ---- proposals
 
--- of one that replaces nothing none: it is left out
-abbrev pub described_by : List (Place × List ℕ) → Option (List ℕ) → List (List ℕ)
-described_by [] o = []
-described_by (e ∷ es) o = maybe_row o
-
 abbrev pub fix_texts : Ground → Data → List (List ℕ)
-fix_texts g f = described_by (edits_of g f) (description g.strings f)
+fix_texts g f = maybe_row (description g.strings f)
 
 -- ---- all of it
 

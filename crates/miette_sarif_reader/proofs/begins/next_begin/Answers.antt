@@ -1,0 +1,40 @@
+use Rattle.std.proofs.Common.{◌≡◌, ◌≤◌, ◌+◌, ℕ, List, ap, arith, drop, length, subst, true, rules}
+use Rattle.std.specs.List.{list_all}
+use Rattle.std.proofs.lemmas.List.{drop-drop, length-drop}
+use Rattle.memchr.specs.Find.{is_byte3}
+use Rattle.miette_readers.specs.views.Values.{texts}
+use Rattle.miette_sarif_reader.specs.rules.Newlines.{text_size}
+use Rattle.miette_sarif_reader.specs.views.Begins.{IsNoneBefore, begins_by}
+use Rattle.miette_sarif_reader.proofs.BeginSteps.{text_skips}
+use Rattle.miette_sarif_reader.proofs.begins.next_begin.Goals as goal
+
+pub returns-clause-value : goal.returns-clause-value
+returns-clause-value c =
+    let newlines = texts c.args.newlines.now in
+    let bytes = c.args.bytes.now in
+    let at = c.args.at in
+    let test = is_byte3 c.other_begin-one.result c.other_begin-two.result c.other_begin-three.result in
+    let skipped = c.bytes_before.result in
+    let rest : c.rest_from.result.now ≡ drop at bytes = c.rest_from.ensures in
+    let all : list_all (begins_by test) newlines ≡ true = search rules in
+    let none : IsNoneBefore test (drop at bytes) skipped =
+    subst (λ (bs : List ℕ). IsNoneBefore test bs skipped) rest c.bytes_before.ensures.none
+    in
+    let within : skipped ≤ length (drop at bytes) =
+    subst (λ (bs : List ℕ). skipped ≤ length bs) rest c.bytes_before.ensures.within
+    in
+    let on = text_skips test newlines all skipped (drop at bytes) within none in
+    let behind : text_size newlines (drop skipped (drop at bytes)) ≡ text_size newlines (drop (at + skipped) bytes) =
+    ap (text_size newlines) (drop-drop skipped at bytes)
+    in
+    omega (arith, on, behind)
+
+pub returns-clause-within : goal.returns-clause-within
+returns-clause-within c =
+    omega (
+      arith,
+      c.requires,
+      c.bytes_before.ensures.within,
+      ap length c.rest_from.ensures,
+      length-drop c.args.at c.args.bytes.now,
+    )

@@ -1,0 +1,40 @@
+use Rattle.std.proofs.Common.{◌≡◌, ◌∙◌, ap, arith, length, sym}
+use Rattle.std.proofs.lemmas.List.{length-drop}
+use Rattle.miette_readers.specs.views.Values.{texts}
+use Rattle.miette_sarif_reader.specs.rules.Newlines.{line_behind, line_size}
+use Rattle.miette_sarif_reader.proofs.NewlineSteps.{next_line, no_line}
+use Rattle.miette_sarif_reader.proofs.newlines.line_behind.Goals as goal
+
+pub loop-left-preserved : goal.loop-left-preserved
+loop-left-preserved c =
+    let l = c.loop-left in
+    let newlines = texts c.args.newlines.now in
+    let bytes = c.args.bytes.now in
+    let size = c.in-Some.size in
+    record {
+      within = omega (
+        arith,
+        c.in-Some.ensures.within,
+        ap length c.rest_from.ensures,
+        length-drop l.at bytes,
+        l.invariant.within,
+      );
+      same = l.invariant.same
+          ∙ next_line newlines bytes l.at l.left size c.loop-left-test.true
+          (c.in-Some.ensures.value ∙ ap (line_size newlines) c.rest_from.ensures);
+    }
+
+pub returns-in-None-clause-value : goal.returns-in-None-clause-value
+returns-in-None-clause-value c =
+    let l = c.loop-left in
+    let newlines = texts c.args.newlines.now in
+    sym (l.invariant.same
+    ∙ no_line newlines c.args.bytes.now l.at l.left c.loop-left-test.true
+    (c.in-None.ensures.value ∙ ap (line_size newlines) c.rest_from.ensures))
+
+pub returns-clause-value : goal.returns-clause-value
+returns-clause-value c =
+    let l = c.loop-left in
+    let newlines = texts c.args.newlines.now in
+    let none : l.left ≡ 0 = omega (arith, c.loop-left-test.false) in
+    sym (l.invariant.same ∙ ap (line_behind newlines c.args.bytes.now l.at) none)

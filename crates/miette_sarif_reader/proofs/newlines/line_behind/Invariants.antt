@@ -1,0 +1,14 @@
+use Rattle.std.proofs.Common.{◌≡◌, ◌≤◌, length}
+use Rattle.miette_readers.specs.views.Values.{texts}
+use Rattle.miette_sarif_reader.specs.rules.Newlines.{line_behind}
+use Rattle.miette_sarif_reader.proofs.newlines.line_behind.Given as goal
+
+abbrev pub decreases-loop-left : goal.decreases-loop-left
+decreases-loop-left l = l.left
+
+-- where the line begins that stands so many behind this one, the one begins that is asked for
+abbrev pub invariant-loop-left : goal.invariant-loop-left
+invariant-loop-left l = record {
+  within : l.at ≤ length l.bytes;
+  same : line_behind (texts l.newlines) l.bytes 0 l.fn.lines ≡ line_behind (texts l.newlines) l.bytes l.at l.left;
+}

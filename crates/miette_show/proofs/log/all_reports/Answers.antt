@@ -1,0 +1,178 @@
+use Rattle.std.proofs.Common.{◌≡◌, ◌≤◌, ◌+◌, ◌++◌, ◌∷◌, [], ◌∙◌, ℕ, List, All, ap, drop, inl, inr, length, map, refl}
+use Rattle.std.proofs.Common.{subst, sym, take, arith}
+use Rattle.std.specs.Prelude.{Vec}
+use Rattle.std.specs.Io.KnownBytes.{Appends}
+use Rattle.std.specs.declared.alloc.Global.{Global}
+use Rattle.std.proofs.lemmas.List.{map-append, take_all}
+use Rattle.std.proofs.lemmas.List.Elements.{All-append, All-nil}
+use Rattle.miette_devices.specs.declared.fault.Fault.TheVariants.{Write}
+use Rattle.miette_devices.specs.views.Device.{TakesBeginning}
+use Rattle.miette_protocol.specs.rules.Reading.{Source}
+use Rattle.miette_protocol.specs.views.Diagnostic.{meaning_of}
+use Rattle.miette_tree.specs.rules.Reads.{AlwaysReads}
+use Rattle.miette_tree.specs.views.Report.{tree_of}
+use Rattle.miette_show.specs.rules.Logging.{IsRowTrees}
+use Rattle.miette_show.specs.rules.Parts.{ends_in}
+use Rattle.miette_show.specs.rules.Shown.{passed_on}
+use Rattle.miette_show.proofs.Beginnings.{all_taken, none_taken}
+use Rattle.miette_show.proofs.Logging as logging
+use Rattle.miette_show.proofs.Logging.{Gathering, one_more_taken, parted_at, parted_behind}
+use Rattle.miette_show.proofs.NoteEnds.{not_failed, on_err_of}
+use Rattle.miette_show.proofs.log.all_reports.Goals as goal
+
+abbrev items_of : Vec ℕ Global → List ℕ
+items_of part = part.items
+
+pub loop-part-init : goal.loop-part-init
+loop-part-init g c =
+    let tree = tree_of meaning_of (λ (it : Source). it) in
+    let empty : map tree c.new-list.result.items ≡ [] = ap (map tree) c.new-list.ensures.items in
+    record {
+      sound = c.requires.sound;
+      reads = subst (All AlwaysReads) (sym empty) (All-nil AlwaysReads);
+      gathering = logging.begin c.args.held.now.from (g.F.Files.found c.args.files.now)
+          (map tree c.new-list.result.items) (g.E.Write.contents c.args.faults.now.inner) 1 c.none-verdict.result empty
+          refl c.none-verdict.ensures;
+    }
+
+pub loop-part-preserved : goal.loop-part-preserved
+loop-part-preserved g c =
+    let l = c.loop-part in
+    let from = c.args.held.now.from in
+    let files = g.F.Files.found c.args.files.now in
+    let parts = c.as_slice-part-items.result.now in
+    let row = c.part-item.result.items in
+    let slice : c.as_slice.result.now ≡ row = c.as_slice.ensures.value in
+    let kind = c.in_ok-kind.kind in
+    let tree = tree_of meaning_of (λ (it : Source). it) in
+    let made = map tree c.in_ok-kind.reports.items in
+    let following = c.in_ok-following.following in
+    let before = g.E.Write.contents c.args.faults.now.inner in
+    let later = g.E.Write.contents c.pass_on.new.faults.inner in
+    let joined : map tree c.push_all.new.list.items ≡ map tree l.list.items ++ made =
+    ap (map tree) c.in_ok-push_all.ensures ∙ map-append tree l.list.items c.in_ok-kind.reports.items
+    in
+    let said = subst (λ (r : List ℕ). Appends (g.E.Write.contents l.faults.inner) later (passed_on l.number kind r))
+    slice c.in_ok-pass_on.ensures.passed
+    in
+    record {
+      sound = not_failed _ _ Write c.in_ok-pass_on.ensures.failed;
+      reads = subst (All AlwaysReads) (sym joined)
+          (All-append AlwaysReads (map tree l.list.items) made l.invariant.reads c.in_ok-kind.ensures.reads);
+      gathering = subst (λ (ps : List (List ℕ)). Gathering from files ps (map tree c.push_all.new.list.items) before
+          later following c.with-verdict.result)
+          (sym (one_more_taken items_of parts l.part-index c.part-item.result c.loop-part-test.true c.part-item.is))
+          (logging.more from files (map items_of (take l.part-index parts)) (map tree l.list.items) made
+          (map tree c.push_all.new.list.items) before (g.E.Write.contents l.faults.inner) later l.number l.verdict
+          c.with-verdict.result row kind following l.invariant.gathering
+          (subst (λ (r : List ℕ). IsRowTrees from files r kind made) slice c.in_ok-kind.ensures.trees) joined said
+          c.with-verdict.ensures
+          (c.in_ok-following.ensures.value ∙ ap (λ (r : List ℕ). l.number + ends_in r) slice));
+    }
+
+pub returns-clause-ok : goal.returns-clause-ok
+returns-clause-ok g c =
+    let l = c.loop-part in
+    let parts = c.as_slice-part-items.result.now in
+    let end : length parts ≤ l.part-index = omega (arith, c.loop-part-test.false) in
+    logging.all_logged c.args.held.now.from (g.F.Files.found c.args.files.now)
+    (map items_of (take l.part-index parts)) (map items_of c.args.held.now.parts.items)
+    (map (tree_of meaning_of (λ (it : Source). it)) l.list.items) (g.E.Write.contents c.args.faults.now.inner)
+    (g.E.Write.contents l.faults.inner) l.number l.verdict
+    (ap (map items_of) (take_all l.part-index parts end ∙ c.as_slice-part-items.ensures.value)) l.invariant.gathering
+
+-- ---- after an error
+
+pub returns-in_err-kind-clause-beginning : goal.returns-in_err-kind-clause-beginning
+returns-in_err-kind-clause-beginning g c =
+    let l = c.loop-part in
+    let parts = c.as_slice-part-items.result.now in
+    on_err_of _ _
+    (logging.begun c.args.held.now.from (g.F.Files.found c.args.files.now) (map items_of (take l.part-index parts))
+    (map items_of (drop l.part-index parts)) (map items_of c.args.held.now.parts.items)
+    (map (tree_of meaning_of (λ (it : Source). it)) l.list.items) (g.E.Write.contents c.args.faults.now.inner)
+    (g.E.Write.contents l.faults.inner) l.number l.verdict
+    (ap (map items_of) (sym c.as_slice-part-items.ensures.value) ∙ parted_at items_of parts l.part-index)
+    l.invariant.gathering)
+
+pub returns-in_err-pass_on-clause-beginning : goal.returns-in_err-pass_on-clause-beginning
+returns-in_err-pass_on-clause-beginning g c =
+    let l = c.loop-part in
+    let from = c.args.held.now.from in
+    let files = g.F.Files.found c.args.files.now in
+    let parts = c.as_slice-part-items.result.now in
+    let row = c.part-item.result.items in
+    let slice : c.as_slice.result.now ≡ row = c.as_slice.ensures.value in
+    let kind = c.in_ok-kind.kind in
+    let tree = tree_of meaning_of (λ (it : Source). it) in
+    let made = map tree c.in_ok-kind.reports.items in
+    let before = g.E.Write.contents l.faults.inner in
+    let said = passed_on l.number kind row in
+    let taken : TakesBeginning before (g.E.Write.contents c.pass_on.new.faults.inner) said =
+    elim c.in_err-pass_on.ensures.untouched [
+      | inl failed ↦
+          subst (λ (r : List ℕ). TakesBeginning before (g.E.Write.contents c.pass_on.new.faults.inner)
+          (passed_on l.number kind r)) slice (c.in_err-pass_on.ensures.beginning failed)
+      | inr same ↦
+          subst (λ d. TakesBeginning before (g.E.Write.contents d.inner) said) (sym same) (none_taken before said)
+    ]
+    in
+    on_err_of _ _
+    (logging.begun_with from files (map items_of (take l.part-index parts))
+    (map items_of (drop (l.part-index + 1) parts)) (map items_of c.args.held.now.parts.items)
+    (map tree l.list.items) made (g.E.Write.contents c.args.faults.now.inner) before
+    (g.E.Write.contents c.pass_on.new.faults.inner) l.number l.verdict row kind
+    (ap (map items_of) (sym c.as_slice-part-items.ensures.value)
+    ∙ parted_behind items_of parts l.part-index c.part-item.result c.loop-part-test.true c.part-item.is)
+    l.invariant.gathering (subst (λ (r : List ℕ). IsRowTrees from files r kind made) slice c.in_ok-kind.ensures.trees)
+    taken)
+
+pub returns-in_err-push_all-clause-beginning : goal.returns-in_err-push_all-clause-beginning
+returns-in_err-push_all-clause-beginning g c =
+    let l = c.loop-part in
+    let from = c.args.held.now.from in
+    let files = g.F.Files.found c.args.files.now in
+    let parts = c.as_slice-part-items.result.now in
+    let row = c.part-item.result.items in
+    let slice : c.as_slice.result.now ≡ row = c.as_slice.ensures.value in
+    let kind = c.in_ok-kind.kind in
+    let tree = tree_of meaning_of (λ (it : Source). it) in
+    let made = map tree c.in_ok-kind.reports.items in
+    let before = g.E.Write.contents l.faults.inner in
+    let later = g.E.Write.contents c.pass_on.new.faults.inner in
+    let said = subst (λ (r : List ℕ). Appends before later (passed_on l.number kind r)) slice
+    c.in_ok-pass_on.ensures.passed
+    in
+    on_err_of _ _
+    (logging.begun_with from files (map items_of (take l.part-index parts))
+    (map items_of (drop (l.part-index + 1) parts)) (map items_of c.args.held.now.parts.items)
+    (map tree l.list.items) made (g.E.Write.contents c.args.faults.now.inner) before later l.number l.verdict row kind
+    (ap (map items_of) (sym c.as_slice-part-items.ensures.value)
+    ∙ parted_behind items_of parts l.part-index c.part-item.result c.loop-part-test.true c.part-item.is)
+    l.invariant.gathering (subst (λ (r : List ℕ). IsRowTrees from files r kind made) slice c.in_ok-kind.ensures.trees)
+    (all_taken before later (passed_on l.number kind row) said))
+
+pub returns-in_err-following-clause-beginning : goal.returns-in_err-following-clause-beginning
+returns-in_err-following-clause-beginning g c =
+    let l = c.loop-part in
+    let from = c.args.held.now.from in
+    let files = g.F.Files.found c.args.files.now in
+    let parts = c.as_slice-part-items.result.now in
+    let row = c.part-item.result.items in
+    let slice : c.as_slice.result.now ≡ row = c.as_slice.ensures.value in
+    let kind = c.in_ok-kind.kind in
+    let tree = tree_of meaning_of (λ (it : Source). it) in
+    let made = map tree c.in_ok-kind.reports.items in
+    let before = g.E.Write.contents l.faults.inner in
+    let later = g.E.Write.contents c.pass_on.new.faults.inner in
+    let said = subst (λ (r : List ℕ). Appends before later (passed_on l.number kind r)) slice
+    c.in_ok-pass_on.ensures.passed
+    in
+    on_err_of _ _
+    (logging.begun_with from files (map items_of (take l.part-index parts))
+    (map items_of (drop (l.part-index + 1) parts)) (map items_of c.args.held.now.parts.items)
+    (map tree l.list.items) made (g.E.Write.contents c.args.faults.now.inner) before later l.number l.verdict row kind
+    (ap (map items_of) (sym c.as_slice-part-items.ensures.value)
+    ∙ parted_behind items_of parts l.part-index c.part-item.result c.loop-part-test.true c.part-item.is)
+    l.invariant.gathering (subst (λ (r : List ℕ). IsRowTrees from files r kind made) slice c.in_ok-kind.ensures.trees)
+    (all_taken before later (passed_on l.number kind row) said))

@@ -1,0 +1,267 @@
+//! One log of all messages, over any reader, writers and files: what `show --sarif` and `show --lsp` write.
+
+ghost use Rattle.std.specs.Prelude.{◌≡◌, ◌↔◌, ◌⊎◌, ◌+◌, ◌++◌, Err, IfOk, IfSome, IsTrue, OnErr, OnOk, false, map};
+ghost use Rattle.std.specs.Prelude.{⊤};
+ghost use Rattle.std.specs.List.{All, list_any};
+ghost use Rattle.std.specs.Io.KnownBytes.{Appends};
+ghost use Rattle.miette_devices.specs.views.Device.{TakesBeginning};
+ghost use Rattle.miette_program.specs.rules.LogWords.{logged_text};
+ghost use Rattle.miette_tree.specs.rules.Reads.{AlwaysReads};
+ghost use Rattle.miette_tree.specs.rules.Tree.{trees};
+ghost use Rattle.miette_tree.specs.views.Report.{tree_of};
+ghost use Rattle.miette_show.specs.rules.Logging.{IsRowTrees, Logs, LogsFirst, LogsSome};
+ghost use Rattle.miette_show.specs.rules.Looking.{Goes, IsFoundBy};
+ghost use Rattle.miette_show.specs.rules.Parts.{ends_in, parts_of};
+ghost use Rattle.miette_show.specs.rules.Shown.{tree_grave};
+ghost use Rattle.miette_show.specs.rules.Statuses.{status_of};
+ghost use Rattle.miette_show.specs.declared.verdict.Verdict.{Verdict};
+ghost use Rattle.miette_show.specs.views.Logged.{AreKnown, AreLogged, AreLoggedFirst};
+ghost use Rattle.miette_show.specs.views.Reading.{left_of};
+
+use crate::loader::{Loader, load_all};
+use crate::message::{Row, begins_message, is_error, value_in};
+use crate::parts::ends_in;
+use crate::reports::reports_of;
+use crate::row_reader::RowReader;
+use crate::show::{Streams, pass_on};
+use crate::verdict::{RowKind, Verdict};
+use crate::words::Format;
+use miette_devices::device::Device;
+use miette_devices::fault::{Fault, Program};
+use miette_devices::whole::write_whole;
+use miette_program::logs::Logging;
+use miette_protocol::diagnostic::MietteDiagnostic;
+use miette_protocol::protocol::Diagnostic;
+use miette_protocol::source::SourceCode;
+use miette_readers::files::{Files, LentFile};
+use miette_readers::lists::push_item;
+use miette_readers::rustc::ReadError;
+use miette_tree::report::Report;
+use std::alloc::{AllocError, Global};
+use std::io::{Read, Write};
+
+/// Parts that were read, and the format that they are read in.
+#[derive(Drop)]
+struct Held {
+    from: Format,
+    parts: Vec<Vec<u8>>,
+}
+
+/// All parts that are left.
+fn all_parts<R: Read>(alloc: Global, rows: &mut RowReader<R>) -> Result<Vec<Vec<u8>>, Fault>
+    requires sound { rows.old.failed ≡ false }
+    ensures parts { IfOk result (λ list. IfSome (left_of R.remaining rows.old)
+        (λ bytes. map (λ part. part.items) list.items ≡ parts_of bytes)) }
+    ensures failed { IsTrue rows.new.failed ↔ (result ≡ Err Fault.Read) }
+    ensures others { OnErr result ((result ≡ Err Fault.Read) ⊎ (result ≡ Err Fault.Memory)) }
+{
+    let mut row = Vec::new(alloc);
+    let mut parts = Vec::new(alloc);
+    for _ in 0..u64::MAX {
+        let mut part = Vec::new(alloc);
+        rows.next_part(1, &mut row, &mut part)?;
+        if part.is_empty() {
+            return Ok(parts);
+        }
+        push_item(&mut parts, part)?;
+    }
+    Err(Fault::Memory)
+}
+
+/// Looks for all files that a part speaks of.
+fn load_part<F: Loader>(alloc: Global, files: &mut F, row: Row<'_>) -> Result<(), Fault>
+    ensures known { OnOk result (AreKnown row.entry.from (F.knows files.new) row.entry.bytes.now) }
+    ensures goes { Goes (F.found files.old) (F.knows files.old) (F.found files.new) (F.knows files.new) }
+    ensures others { OnErr result (result ≡ Err Fault.Memory) }
+{
+    if !begins_message(row.from, row.bytes) {
+        return Ok(());
+    }
+    match value_in(alloc, row.bytes)? {
+        Some(value) => Ok(load_all(alloc, files, &value)?),
+        None => Ok(()),
+    }
+}
+
+/// Looks for all files that parts speak of.
+fn load_parts<F: Loader>(alloc: Global, files: &mut F, held: &Held) -> Result<(), Fault>
+    ensures known { OnOk result (All (AreKnown held.now.from (F.knows files.new))
+        (map (λ part. part.items) held.now.parts.items)) }
+    ensures goes { Goes (F.found files.old) (F.knows files.old) (F.found files.new) (F.knows files.new) }
+    ensures others { OnErr result (result ≡ Err Fault.Memory) }
+{
+    for part in held.parts.as_slice() {
+        let row = Row {
+            from: held.from,
+            bytes: part.as_slice(),
+        };
+        load_part(alloc, files, row)?;
+    }
+    Ok(())
+}
+
+/// Whether one of these is an error.
+fn any_error<D: Diagnostic, S: SourceCode>(reports: &[Report<D, S>]) -> bool
+    ensures { result ≡ list_any tree_grave (map (tree_of D.meaning S.source) reports.now) }
+{
+    reports.iter().any(|it| is_error(it.severity()))
+}
+
+/// What a part is, and its reports.
+fn part_reports<'f, F: Files>(
+    alloc: Global,
+    files: &'f F,
+    row: Row<'_>,
+) -> Result<(RowKind, Vec<Report<MietteDiagnostic, LentFile<'f>>>), Fault>
+    ensures trees { IfOk result (λ it. IsRowTrees row.entry.from (F.found files.now) row.entry.bytes.now it.0
+        (map (tree_of ⟦<MietteDiagnostic as Diagnostic>⟧.meaning ⟦<LentFile<'f> as SourceCode>⟧.source) it.1.items)) }
+    ensures reads { IfOk result (λ it. All AlwaysReads
+        (map (tree_of ⟦<MietteDiagnostic as Diagnostic>⟧.meaning ⟦<LentFile<'f> as SourceCode>⟧.source) it.1.items)) }
+    ensures others { OnErr result (result ≡ Err Fault.Memory) }
+{
+    if !begins_message(row.from, row.bytes) {
+        return Ok((RowKind::Passed, Vec::new(alloc)));
+    }
+    let Some(value) = value_in(alloc, row.bytes)? else {
+        return Ok((RowKind::Unread, Vec::new(alloc)));
+    };
+    match reports_of(alloc, row.from, files, &value) {
+        Ok(reports) => Ok((RowKind::Messages(any_error(reports.as_slice())), reports)),
+        Err(ReadError::NoMessage) => Ok((RowKind::Unread, Vec::new(alloc))),
+        Err(ReadError::Memory) => Err(Fault::Memory),
+    }
+}
+
+/// The number of the row behind a part whose first row has this number.
+fn number_behind(number: u64, part: &[u8]) -> Result<u64, Fault>
+    ensures value { IfOk result (λ following. following ≡ number + ends_in part.now) }
+    ensures others { OnErr result (result ≡ Err Fault.Memory) }
+{
+    number.checked_add(ends_in(part)).ok_or(Fault::Memory)
+}
+
+/// Appends all of these.
+fn push_all<T: Drop>(list: &mut Vec<T>, more: Vec<T>) -> Result<(), AllocError>
+    ensures { OnOk result (list.new.items ≡ list.old.items ++ more.items) }
+{
+    let mut more = more;
+    list.append(&mut more)?;
+    Ok(())
+}
+
+/// The reports of all parts, in their order; what is none is passed on.
+fn all_reports<'f, F: Files, E: Write>(
+    alloc: Global,
+    files: &'f F,
+    faults: &mut Device<E>,
+    held: &Held,
+) -> Result<(Verdict, Vec<Report<MietteDiagnostic, LentFile<'f>>>), Fault>
+    requires sound { faults.old.failed ≡ false }
+    ensures ok { IfOk result (λ it. AreLogged held.now.from (F.found files.now)
+        (map (λ part. part.items) held.now.parts.items)
+        (map (tree_of ⟦<MietteDiagnostic as Diagnostic>⟧.meaning ⟦<LentFile<'f> as SourceCode>⟧.source) it.1.items)
+        (Appends (E.contents faults.old.inner) (E.contents faults.new.inner)) it.0) }
+    ensures reads { IfOk result (λ it. All AlwaysReads
+        (map (tree_of ⟦<MietteDiagnostic as Diagnostic>⟧.meaning ⟦<LentFile<'f> as SourceCode>⟧.source) it.1.items)) }
+    // After an error a beginning of what is passed on was taken.
+    ensures beginning { OnErr result (AreLoggedFirst held.now.from (F.found files.now)
+        (map (λ part. part.items) held.now.parts.items)
+        (TakesBeginning (E.contents faults.old.inner) (E.contents faults.new.inner))) }
+    ensures failed { IsTrue faults.new.failed ↔ (result ≡ Err Fault.Write) }
+    ensures others { OnErr result ((result ≡ Err Fault.Memory) ⊎ (result ≡ Err Fault.Write)) }
+{
+    let mut list = Vec::new(alloc);
+    let mut verdict = Verdict::none();
+    let mut number: u64 = 1;
+    for part in held.parts.as_slice() {
+        let row = Row {
+            from: held.from,
+            bytes: part.as_slice(),
+        };
+        let (kind, reports) = part_reports(alloc, files, row)?;
+        pass_on(alloc, faults, number, kind, row.bytes)?;
+        push_all(&mut list, reports)?;
+        verdict = verdict.with(kind);
+        let following = number_behind(number, row.bytes)?;
+        number = following;
+    }
+    Ok((verdict, list))
+}
+
+/// Reads all rows that are left, and writes one log of all their messages, in order, behind what is passed on.
+///
+/// # Errors
+/// `Read` exactly where a call of the reader failed, `Write` exactly where one of the writers failed. `Memory`.
+pub fn log_on<F: Loader, R: Read, W: Write, E: Write>(
+    alloc: Global,
+    from: Format,
+    log: Logging<'_>,
+    files: &mut F,
+    streams: &mut Streams<R, W, E>,
+) -> Result<Verdict, Fault>
+    requires rows_sound { streams.old.rows.failed ≡ false }
+    requires writer_sound { streams.old.writer.failed ≡ false }
+    requires faults_sound { streams.old.faults.failed ≡ false }
+    // The writer took the log of all reports in their order, and the other one each row that has no message.
+    ensures ok { IfOk result (λ verdict. IfSome (left_of R.remaining streams.old.rows) (λ bytes.
+        Logs from (IsFoundBy F.found F.knows files.old) bytes (λ ts notes.
+        Appends (W.contents streams.old.writer.inner) (W.contents streams.new.writer.inner)
+        (logged_text log.entry (trees ts))
+        × Appends (E.contents streams.old.faults.inner) (E.contents streams.new.faults.inner) notes) verdict)) }
+    // After an error the writer took nothing, or a beginning of the log, behind all that is passed on.
+    ensures beginning { OnErr result ((streams.new.writer ≡ streams.old.writer)
+        ⊎ IfSome (left_of R.remaining streams.old.rows) (λ bytes.
+        LogsSome from (IsFoundBy F.found F.knows files.old) bytes (λ ts notes.
+        TakesBeginning (W.contents streams.old.writer.inner) (W.contents streams.new.writer.inner)
+        (logged_text log.entry (trees ts))
+        × Appends (E.contents streams.old.faults.inner) (E.contents streams.new.faults.inner) notes))) }
+    ensures untouched { OnErr result ((result ≡ Err Fault.Write) ⊎ (streams.new.writer ≡ streams.old.writer)) }
+    // The other one took a beginning of what is passed on.
+    ensures noted { OnErr result (IfSome (left_of R.remaining streams.old.rows) (λ bytes.
+        LogsFirst from (IsFoundBy F.found F.knows files.old) bytes
+        (TakesBeginning (E.contents streams.old.faults.inner) (E.contents streams.new.faults.inner)))) }
+    ensures others { OnErr result ((result ≡ Err Fault.Memory) ⊎ (result ≡ Err Fault.Read)
+        ⊎ (result ≡ Err Fault.Write)) }
+    ensures read_failed { IsTrue streams.new.rows.failed ↔ (result ≡ Err Fault.Read) }
+    ensures write_failed { (IsTrue streams.new.writer.failed ⊎ IsTrue streams.new.faults.failed)
+        ↔ (result ≡ Err Fault.Write) }
+{
+    let parts = all_parts(alloc, &mut streams.rows)?;
+    let held = Held { from, parts };
+    load_parts(alloc, files, &held)?;
+    let (verdict, reports) = all_reports(alloc, files, &mut streams.faults, &held)?;
+    let text = log.text(alloc, reports.as_slice())?;
+    write_whole(&mut streams.writer, text.as_bytes())?;
+    Ok(verdict)
+}
+
+/// Writes one log of all messages of a reader, and gives the status: that of the verdict; 2 for every fault, of which a
+/// row goes to `faults`.
+pub fn log_with<F, R, W, E>(
+    alloc: Global,
+    from: Format,
+    log: Logging<'_>,
+    files: &mut F,
+    streams: Streams<R, W, E>,
+) -> u8
+where
+    F: Loader,
+    R: Read + Drop,
+    W: Write + Drop,
+    E: Write + Drop,
+    requires rows_sound { streams.rows.failed ≡ false }
+    requires writer_sound { streams.writer.failed ≡ false }
+    requires faults_sound { streams.faults.failed ≡ false }
+    ensures status { (result ≡ 2) ⊎ IfSome (left_of R.remaining streams.rows) (λ bytes. (verdict : Verdict)
+        × (result ≡ status_of verdict)
+        × Logs from (IsFoundBy F.found F.knows files.old) bytes (λ ts notes. ⊤) verdict) }
+{
+    let mut streams = streams;
+    match log_on(alloc, from, log, files, &mut streams) {
+        Ok(verdict) => verdict.status(),
+        Err(fault) => {
+            let mut faults = streams.faults.into_inner();
+            Program::Show.fail(fault, &mut faults).status
+        }
+    }
+}
