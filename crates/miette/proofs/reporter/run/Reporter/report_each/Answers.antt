@@ -9,21 +9,11 @@ loop-report-init g c = λ new rest. rest
 pub loop-report-preserved : goal.loop-report-preserved
 loop-report-preserved g c =
     let l = c.loop-report in
-    let one = c.report.ensures in
     reported_more (behaving g.T.ReportHandler.gives g.T.ReportHandler.asks g.T.ReportHandler.refuses
     g.T.ReportHandler.keeps g.W.Write.contents)
     (tree_of g.D.Diagnostic.meaning g.S.SourceCode.source) c.args.reports.now l.report-index c.report-item.result
     c.report.result c.args.self.now l.self c.report.new.self c.loop-report-test.true c.report-item.is l.invariant
-    (record {
-      written = one.written;
-      asks = one.asks;
-      unwritten = one.unwritten;
-      stopped = one.stopped;
-      silent = one.silent;
-      refused = one.refused;
-      settings = one.settings;
-      state = one.state;
-    })
+    c.report.ensures.reported
 
 pub returns : goal.returns
 returns g c =
