@@ -50,6 +50,7 @@ impl SourceText {
     where
         Report<D, S>: UsualBoxes,
         ensures name { IfOk result (λ it. it.name ≡ Some (shown_name word.now)) }
+        ensures language { IfOk result (λ it. it.language ≡ option_copied language.entry) }
         ensures err { IfErr result (λ r. GivesNoText (shown_name word.now) (tree_of D.meaning S.source r)) }
     {
         let text = read_text(rt, word)?;
