@@ -71,7 +71,7 @@ impl SourceText {
         ensures { IfOk result (λ it. it
             ≡ named_source (plain_source (string_bytes text)) name.now (option_copied language.entry)) }
     {
-        let source = OwnedSource::named_indexed(alloc, name, language, text.into_bytes())?;
+        let source = OwnedSource::named(alloc, name, language, text.into_bytes())?;
         Ok(SourceText { source })
     }
 
