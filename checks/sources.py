@@ -237,10 +237,17 @@ def owner_of(text, function):
     return owner[1], without_first_brackets(owner[2].strip()).split("{")[0].split(" where ")[0]
 
 
+def parameters_of_owner(text, function):
+    """The names of the generic parameters of a method's block."""
+    owner = [it for it in OWNER.finditer(text) if it.start() < function.start][-1]
+    words = owner[2].strip()
+    listed = words[1 : len(words) - len(without_first_brackets(words))] if words.startswith("<") else ""
+    return [re.match(r"\w*", it)[0] for it in at_top(listed, ",") if it]
+
+
 def has_parameters(text, function):
     """Whether a method's block has generic parameters."""
-    owner = [it for it in OWNER.finditer(text) if it.start() < function.start][-1]
-    return owner[2].strip().startswith("<")
+    return bool(parameters_of_owner(text, function))
 
 
 def name_of(file, text, number):
@@ -253,7 +260,11 @@ def name_of(file, text, number):
     if kind == "trait":
         return f"{word_of(head.split(':')[0])}::{its.name}"
     first, _, last = head.partition(" for ")
-    return f"{word_of(last)}{word_of(first)}::{its.name}" if last else f"{word_of(head)}::{its.name}"
+    if not last:
+        return f"{word_of(head)}::{its.name}"
+    # of `impl<T: Bound> Trait for T`
+    owner = "Any" if last.strip() in parameters_of_owner(text, its) else word_of(last)
+    return f"{owner}{word_of(first)}::{its.name}"
 
 
 def path_of(file, text, number):

@@ -5,3 +5,4 @@ pub mod Wrapping
 pub mod FixSteps
 pub mod RowSteps
 pub mod NamedRows
+pub mod LogSteps

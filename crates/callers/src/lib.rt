@@ -20,5 +20,6 @@ pub mod pictures;
 pub mod positions;
 pub mod printing;
 pub mod protocol;
+pub mod several;
 pub mod text;
 pub mod tree;

@@ -83,11 +83,14 @@ pub static CALLS: [(&str, Call); 141] = [
     ),
     ("NamedSource::clone", Call::Source(Source::NamedClones)),
     ("OwnedSource::new", Call::Source(Source::Owned)),
-    ("OwnedSource::indexed", Call::Source(Source::OwnedIndexed)),
+    (
+        "OwnedSource::unindexed",
+        Call::Source(Source::OwnedUnindexed),
+    ),
     ("OwnedSource::named", Call::Source(Source::OwnedNamed)),
     (
-        "OwnedSource::named_indexed",
-        Call::Source(Source::OwnedNamedIndexed),
+        "OwnedSource::named_unindexed",
+        Call::Source(Source::OwnedNamedUnindexed),
     ),
     (
         "ThemeCharacters::unicode",

@@ -14,9 +14,9 @@ pub enum Call {
     NamedWithLanguage,
     NamedClones,
     Owned,
-    OwnedIndexed,
+    OwnedUnindexed,
     OwnedNamed,
-    OwnedNamedIndexed,
+    OwnedNamedUnindexed,
 }
 
 /// Three lines, the last without a line feed.
@@ -32,14 +32,14 @@ pub fn make(alloc: Global, call: Call, row: &mut Rows) -> Called {
         Call::Indexed => read(row, IndexedSource::new(alloc, bytes)),
         Call::Named => read(row, NamedSource::new(alloc, "bad_file.rs", bytes)),
         Call::Owned => read(row, OwnedSource::new(alloc, bytes)),
-        Call::OwnedIndexed => read(row, OwnedSource::indexed(alloc, bytes)),
+        Call::OwnedUnindexed => read(row, OwnedSource::unindexed(alloc, bytes)),
         Call::OwnedNamed => read(
             row,
             OwnedSource::named(alloc, "bad_file.rs", Some("rust"), bytes),
         ),
-        Call::OwnedNamedIndexed => read(
+        Call::OwnedNamedUnindexed => read(
             row,
-            OwnedSource::named_indexed(alloc, "bad_file.rs", Some("rust"), bytes),
+            OwnedSource::named_unindexed(alloc, "bad_file.rs", Some("rust"), bytes),
         ),
         Call::NamedWithLanguage => return with_language(alloc, row, bytes),
         Call::NamedClones => return clones(alloc, row, bytes),

@@ -7,7 +7,6 @@ mod words;
 use crate::minilisp::syntax::{Slip, slips_of};
 use crate::minilisp::words::{Words, words_of};
 use miette::prelude::*;
-use miette_tree::miette;
 use std::alloc::Global;
 use std::env::Args;
 use std::fs::Files;

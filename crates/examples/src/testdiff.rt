@@ -5,7 +5,6 @@ mod lines;
 use crate::reading::text_of;
 use crate::testdiff::lines::differences;
 use miette::prelude::*;
-use miette_tree::miette;
 use std::alloc::Global;
 use std::env::Args;
 use std::fs::Files;

@@ -2,7 +2,6 @@
 
 use crate::reading::text_of;
 use miette::prelude::*;
-use miette_tree::miette;
 use std::alloc::{AllocError, Global};
 use std::env::Args;
 use std::fs::Files;

@@ -1,4 +1,4 @@
 pub mod Footers
 pub mod Inputs
 pub mod Texts
-pub mod Counted
+pub mod Reported

@@ -1,6 +1,6 @@
 -- Sources that are texts.
 use Rattle.std.proofs.Common.{◌≡◌, ◌∙◌, ◌<◌, ℕ, List, length, refl, subst, sym, true, false}
-use Rattle.std.specs.Prelude.{IsUtf8, Result, Ok, Err, is_err}
+use Rattle.std.specs.Prelude.{IsUtf8, Option, Some, None, Result, Ok, Err, if◌then◌else◌, is_err, is_some}
 use Rattle.miette_protocol.specs.rules.Outcome.{Answers, Refuses}
 use Rattle.miette_protocol.specs.rules.Reading.{Contents, Source, Span, contents_of}
 use Rattle.miette_protocol.specs.declared.error.MietteError.{MietteError}
@@ -13,6 +13,11 @@ text_made source bytes e reads text = record {
   utf8 = subst IsUtf8 (sym e) text;
   reads = reads;
 }
+
+-- where no language is given, a text has none
+pub language_given : (given : Option (List ℕ)) → (if is_some given then given else None) ≡ given
+language_given None = refl
+language_given (Some language) = refl
 
 -- the largest number of context lines reaches the end
 abbrev pub most : ℕ

@@ -6,6 +6,7 @@ pub mod Printing
 pub mod Counting
 pub mod Forms
 pub mod Run
+pub mod Reported
 pub mod Inputs
 pub mod Pieces
 pub mod Texts

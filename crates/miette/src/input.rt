@@ -98,7 +98,7 @@ fn not_text<D: Diagnostic, S: SourceCode>(
     ensures { IfOk result (λ r. tree_of D.meaning S.source r ≡ no_text name.now bytes.items) }
 {
     let diagnostic = stop_diagnostic(alloc, name, stop)?;
-    let source = OwnedSource::named(alloc, name, None, bytes)?;
+    let source = OwnedSource::named_unindexed(alloc, name, None, bytes)?;
     Ok(Report::built(diagnostic).with_owned_source(source))
 }
 

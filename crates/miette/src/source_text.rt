@@ -50,6 +50,7 @@ impl SourceText {
     where
         Report<D, S>: UsualBoxes,
         ensures name { IfOk result (λ it. it.name ≡ Some (shown_name word.now)) }
+        ensures language { IfOk result (λ it. it.language ≡ option_copied language.entry) }
         ensures err { IfErr result (λ r. GivesNoText (shown_name word.now) (tree_of D.meaning S.source r)) }
     {
         let text = read_text(rt, word)?;
@@ -70,7 +71,7 @@ impl SourceText {
         ensures { IfOk result (λ it. it
             ≡ named_source (plain_source (string_bytes text)) name.now (option_copied language.entry)) }
     {
-        let source = OwnedSource::named_indexed(alloc, name, language, text.into_bytes())?;
+        let source = OwnedSource::named(alloc, name, language, text.into_bytes())?;
         Ok(SourceText { source })
     }
 

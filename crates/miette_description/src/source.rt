@@ -73,9 +73,9 @@ fn nameless(alloc: Global, bytes: Vec<u8>, often: bool) -> Result<OwnedSource, A
     ensures { IfOk result (λ it. owned_source it ≡ plain_source bytes.items) }
 {
     if often {
-        return OwnedSource::indexed(alloc, bytes);
+        return OwnedSource::new(alloc, bytes);
     }
-    OwnedSource::new(alloc, bytes)
+    OwnedSource::unindexed(alloc, bytes)
 }
 
 /// Bytes with a name as a source.
@@ -90,9 +90,9 @@ fn named(
         ≡ named_source (plain_source bytes.items) name.now (option_copied language.entry)) }
 {
     if often {
-        return OwnedSource::named_indexed(alloc, name, language, bytes);
+        return OwnedSource::named(alloc, name, language, bytes);
     }
-    OwnedSource::named(alloc, name, language, bytes)
+    OwnedSource::named_unindexed(alloc, name, language, bytes)
 }
 
 /// A source from its description. It has an index of its lines where it is read `often`.

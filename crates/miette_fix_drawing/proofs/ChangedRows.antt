@@ -201,7 +201,7 @@ near_readable (Some other) (Some near) h readable = (near_within other near h re
 
 both_near : (other near : Option MadeChangedLine) → AreBothNear other near
     → AreNear (option_map changed_line_of other) (option_map changed_line_of near)
-both_near None None h = unit
+both_near None None h = tt
 both_near None (Some near) h = absurd h
 both_near (Some other) None h = absurd h
 both_near (Some other) (Some near) h = (h.is, h.on other.text.now)

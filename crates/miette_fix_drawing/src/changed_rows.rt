@@ -229,7 +229,7 @@ pub(crate) fn push_changed_rows<O: Canvas>(
     requires within { line.now.start + length line.now.text.now < 2 ^ 64 }
     requires other { IfSome other IsReadable }
     ensures { OnOk result (page.new ≡ page.old ⊕ rows_tokens (changed_rows (settings_of frame.now.settings)
-        frame.now.number_width (changed_line_of line.now) (option_map changed_line_of other))) }
+        frame.now.number_width (changed_line_of line.now) (option_map changed_line_of other.entry))) }
 {
     let near = near_line(line);
     let beside = near_other(&other);

@@ -102,7 +102,7 @@ fn away_behind(kind: Kind, away: usize, size: usize) -> Result<usize, AllocError
 
 // Where they stand behind one of them, if there is one.
 fn away_past(kind: Kind, away: usize, other: Option<&[u8]>) -> Result<usize, AllocError>
-    ensures { IfOk result (λ next. next ≡ away_past kind away (option_copied other)) }
+    ensures { IfOk result (λ next. next ≡ away_past kind away (option_copied other.entry)) }
 {
     match other {
         Some(text) => away_behind(kind, away, text.len()),
@@ -112,7 +112,7 @@ fn away_past(kind: Kind, away: usize, other: Option<&[u8]>) -> Result<usize, All
 
 // A line that goes with another, and where it stands.
 fn other_text(other: Option<&[u8]>, away: usize) -> Option<OtherText<'_>>
-    ensures { option_map other_of result ≡ option_map (λ text. other_line text away) (option_copied other) }
+    ensures { option_map other_of result ≡ option_map (λ text. other_line text away) (option_copied other.entry) }
 {
     match other {
         Some(text) => Some(OtherText { text, away }),
@@ -215,8 +215,8 @@ fn added_beside<'a>(
     other: Option<OtherText<'a>>,
 ) -> Result<Option<ChangedLine<'a>>, AllocError>
     requires { AreApart drawing.now.inserted.now }
-    ensures lines { IfOk result (λ line. option_map changed_line_of line
-        ≡ option_map (added_beside (context_with drawing.now) (standing_of at.now)) (option_map other_of other)) }
+    ensures lines { IfOk result (λ line. option_map changed_line_of line ≡ option_map
+        (added_beside (context_with drawing.now) (standing_of at.now)) (option_map other_of other.entry)) }
     ensures readable { IfOk result (λ line. IfSome line IsReadable) }
 {
     let Some(other) = other else {
@@ -235,8 +235,8 @@ fn removed_beside<'a>(
     other: Option<OtherText<'a>>,
 ) -> Result<Option<ChangedLine<'a>>, AllocError>
     requires { AreApart drawing.now.deleted.now }
-    ensures lines { IfOk result (λ line. option_map changed_line_of line
-        ≡ option_map (removed_beside (context_with drawing.now) (standing_of at.now)) (option_map other_of other)) }
+    ensures lines { IfOk result (λ line. option_map changed_line_of line ≡ option_map
+        (removed_beside (context_with drawing.now) (standing_of at.now)) (option_map other_of other.entry)) }
     ensures readable { IfOk result (λ line. IfSome line IsReadable) }
 {
     let Some(other) = other else {

@@ -58,7 +58,7 @@ same_end from len offset = elim (cases_lt from offset) [
 ]
 
 -- what it lends tells whether the source ends there
-pub told_there : (source : Source) (offset before len : ℕ) (lent : Contents) → offset ≤ length source.bytes
+told_there : (source : Source) (offset before len : ℕ) (lent : Contents) → offset ≤ length source.bytes
     → lent ≡ contents 1 source (record { offset = offset; len = 0 }) → before ≡ offset - lent.span.offset
     → len ≡ lent.span.len → TellsEnd source offset (ltb 0 before && eqb before len)
 told_there source offset before len lent le is from much = record {
@@ -69,6 +69,23 @@ told_there source offset before len lent le is from much = record {
       ∙ tells 1 source (record { offset = offset; len = 0 }) le
       ∙ ap (λ b. ltb 0 (length source.bytes) && b) (and_true (eqb offset (length source.bytes)));
 }
+
+-- it lends bytes before it
+pub told_behind : (source : Source) (offset before len : ℕ) (lent : Contents) → offset ≤ length source.bytes
+    → lent ≡ contents 1 source (record { offset = offset; len = 0 }) → before ≡ offset - lent.span.offset
+    → len ≡ lent.span.len → 0 < before → TellsEnd source offset (eqb before len)
+told_behind source offset before len lent le is from much some =
+    subst (λ (b : Bool). TellsEnd source offset b) (ap (λ b. b && eqb before len) (lt-ltb 0 before some))
+    (told_there source offset before len lent le is from much)
+
+-- it lends none before it
+pub told_first : (source : Source) (offset before : ℕ) (lent : Contents) → offset ≤ length source.bytes
+    → lent ≡ contents 1 source (record { offset = offset; len = 0 }) → before ≡ offset - lent.span.offset
+    → before ≤ 0 → TellsEnd source offset (ltb 0 before)
+told_first source offset before lent le is from none =
+    let first : ltb 0 before ≡ false = le-ltb 0 before none in
+    subst (λ (b : Bool). TellsEnd source offset b) (and_left _ (eqb before lent.span.len) first ∙ sym first)
+    (told_there source offset before lent.span.len lent le is from refl)
 
 -- a read that fails tells of no end
 pub told_nothing : (source : Source) (offset : ℕ) → source.always_reads ≡ false → TellsEnd source offset false
@@ -177,26 +194,26 @@ both_told source labels last ends at h =
 -- the source isn't known to end at the greatest offset
 pub none_told : (source : Source) (labels : List Label) (last : ℕ) (ends : Bool) → last ≡ last_offset labels
     → TellsEnd source last ends → ends ≡ false → AsksForEnd source labels false
-none_told source labels last ends at h no =
-    subst (λ (b : Bool). AsksForEnd source labels b) (and_left ends (list_any (asks_at last) labels) no)
+none_told source labels last ends at h isnt =
+    subst (λ (b : Bool). AsksForEnd source labels b) (and_left ends (list_any (asks_at last) labels) isnt)
     (both_told source labels last ends at h)
 
 -- it ends there
 pub asks_told : (source : Source) (labels : List Label) (last : ℕ) (ends asks : Bool) → last ≡ last_offset labels
     → TellsEnd source last ends → ends ≡ true → asks ≡ list_any (asks_at last) labels → AsksForEnd source labels asks
-asks_told source labels last ends asks at h yes is =
+asks_told source labels last ends asks at h does is =
     subst (λ (b : Bool). AsksForEnd source labels b)
-    (ap (λ b. b && list_any (asks_at last) labels) yes ∙ sym is) (both_told source labels last ends at h)
+    (ap (λ b. b && list_any (asks_at last) labels) does ∙ sym is) (both_told source labels last ends at h)
 
 -- ---- the lines of context
 
 pub lines_unwanted : (layout : LayoutOptions) (source : Source) (labels : List Label) → layout.end_labels ≡ false
     → AreEndLines layout source labels layout.context_lines
-lines_unwanted layout source labels no = record {
+lines_unwanted layout source labels unset = record {
   fails = false;
   always = λ a. refl;
   is = sym (ap (λ b. cond b (max 1 layout.context_lines) layout.context_lines) (and_left layout.end_labels
-      (not false && asks_for_end (length source.bytes) labels) no));
+      (not false && asks_for_end (length source.bytes) labels) unset));
 }
 
 same_lines : (asks : Bool) (context : ℕ) → 0 < context → context ≡ cond asks (max 1 context) context

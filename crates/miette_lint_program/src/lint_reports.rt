@@ -71,7 +71,7 @@ pub(crate) fn reports_over<D: Diagnostic, S: SourceCode>(
         return Ok(reports);
     }
     let first = reports.remove(0);
-    let source = OwnedSource::named_indexed(alloc, name, None, input)?;
+    let source = OwnedSource::named(alloc, name, None, input)?;
     let mut list = Vec::with_capacity(alloc, 1)?;
     list.push(first.with_related(reports).with_owned_source(source))?;
     Ok(list)

@@ -37,7 +37,7 @@ pub fn report<D: Diagnostic, S: SourceCode>(
     ensures { IfOk result (λ it. tree_of D.meaning S.source it
         ≡ over_input name.now (meaning_of diagnostic) input.items) }
 {
-    let source = OwnedSource::named_indexed(alloc, name, None, input)?;
+    let source = OwnedSource::named(alloc, name, None, input)?;
     Ok(Report::built(diagnostic).with_owned_source(source))
 }
 

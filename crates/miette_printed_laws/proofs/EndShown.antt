@@ -1,6 +1,6 @@
 -- Where labels at the end of a source are drawn and one of them is there, its last line is shown and they are drawn
 -- behind it, with whatever lines of context.
-use Rattle.std.proofs.Common.{ℕ, ◌+◌, ◌-◌, ◌<◌, ◌≤◌, ◌≡◌, inl, inr, max, Bool, true, false, cond, eqb, ltb, not, ◌&&◌}
+use Rattle.std.proofs.Common.{ℕ, ◌-◌, ◌<◌, ◌≤◌, ◌≡◌, inl, inr, max, Bool, true, false, cond, ltb, not, ◌&&◌}
 use Rattle.std.proofs.Common.{Option, Some, None, List, [], ◌∷◌, length, refl, sym, ap, ◌∙◌, arith}
 use Rattle.std.specs.Prelude.{unwrap_or}
 use Rattle.std.specs.List.{list_any}
@@ -20,10 +20,9 @@ use Rattle.miette_label_rules.specs.rules.Labels.{is_at_end, shows_end, some_sho
 use Rattle.miette_snippet_rules.specs.rules.SnippetLayout.{asks_for_end}
 use Rattle.miette_snippet_rules.specs.rules.Snippets.{is_in_context, is_shown}
 use Rattle.miette_labels.proofs.SourceEnd.{shows_around}
-use Rattle.miette_row_laws.specs.laws.Ends.{asks_ends, draws_ends}
+use Rattle.miette_row_laws.specs.laws.Ends.{draws_ends}
 use Rattle.miette_row_laws.proofs.EndLabels.{shows_ordered}
 use Rattle.miette_picture_rules.specs.rules.Settings.{Settings}
-use Rattle.miette_picture_rules.specs.rules.Snippets.{snippet_settings}
 use Rattle.miette_printed_laws.specs.laws.Headline.{EndIsShown, EndsBehind, context_of, group_settings}
 
 -- ---- one label, with more lines or fewer
@@ -88,7 +87,7 @@ none_fewer n context labels h =
     any_more (λ l. shows_end n (lines_around context labels l) l) (λ l. shows_end n (lines_around 1 labels l) l)
     (λ l. same_end n (lines_around context labels l) (lines_around 1 labels l) l
     (around_fewer context (has_own labels) l.context)) labels t in
-    let no : true ≡ false = sym one ∙ h in cc)
+    let never : true ≡ false = sym one ∙ h in cc)
     (λ f. f)
 
 -- ---- the last line is in the context of a label at the end

@@ -27,7 +27,7 @@ pub enum LogForm {
 }
 
 /// Which log is asked for.
-#[derive(Clone, Copy)]
+#[derive(Drop)]
 pub struct Logging<'w> {
     /// Its form.
     pub form: LogForm,

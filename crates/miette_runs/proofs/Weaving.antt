@@ -3,7 +3,7 @@ use Rattle.std.proofs.Common.{◌≡◌, true, false, if◌then◌else◌, nat_l
 use Rattle.std.proofs.Common.{◌++◌, map, length, length-drop, min, take, drop, drop-drop, get_or, refl, sym, ap, ap₂}
 use Rattle.std.proofs.Common.{◌∙◌, arith, append_assoc, append-nil, leb-true}
 use Rattle.std.proofs.lemmas.Bool.Decides.{nat_tests}
-use Rattle.std.proofs.lemmas.List.{drop_more, drop_all, take_all, take_rest}
+use Rattle.std.proofs.lemmas.List.{drop_more, drop_all, take_all}
 use Rattle.std.specs.List.{concat}
 use Rattle.miette_runs.specs.steps.Cells.{plain_cell, plain_cells}
 use Rattle.miette_runs.specs.rules.Cells.{tags_text, piece_text, Cell}
@@ -201,22 +201,27 @@ text-step o o1 o2 p s n k cs ms m h i e l f g =
 
 -- where the next tag stands behind the last character
 pub text-rest : (p s n k : ℕ) (cs : List ℕ) (ms : List Tag) (m : Tag) → n < length ms → m ≡ get_or ms n m → k ≡ m.at - p
-    → length (take (length cs - s) (drop s cs)) ≤ k → take (length cs - s) (drop s cs)
-    ≡ piece_text (cells_at p (drop s cs) (drop n ms))
-text-rest p s n k cs ms m h i e r =
-    let l : length (drop s cs) ≤ k = omega (arith, ap length (take_rest cs s)) in
-    take_rest cs s
-    ∙ sym (text-last p k (drop s cs) m (drop (n + 1) ms) e l)
+    → length (drop s cs) ≤ k → drop s cs ≡ piece_text (cells_at p (drop s cs) (drop n ms))
+text-rest p s n k cs ms m h i e l =
+    sym (text-last p k (drop s cs) m (drop (n + 1) ms) e l)
     ∙ ap (λ vs. piece_text (cells_at p (drop s cs) vs)) (sym (tags-next ms n m h i))
 
 pub left-rest : (p s n k : ℕ) (cs : List ℕ) (ms : List Tag) (m : Tag) → n < length ms → m ≡ get_or ms n m → k ≡ m.at - p
-    → length (take (length cs - s) (drop s cs)) ≤ k → drop n ms ≡ left_at p (drop s cs) (drop n ms)
-left-rest p s n k cs ms m h i e r =
-    let l : length (drop s cs) ≤ k = omega (arith, ap length (take_rest cs s)) in
+    → length (drop s cs) ≤ k → drop n ms ≡ left_at p (drop s cs) (drop n ms)
+left-rest p s n k cs ms m h i e l =
     let next = tags-next ms n m h i in
     next
     ∙ sym (left-last p k (drop s cs) m (drop (n + 1) ms) e l)
     ∙ ap (λ vs. left_at p (drop s cs) vs) (sym next)
+
+-- without characters
+pub text-empty : (cs : List ℕ) (ms : List Tag) (at : ℕ) (o : List ℕ) → length cs ≡ 0 → o ≡ o ++ piece_text (cells_at at cs ms)
+text-empty [] ms at o e = sym (append-nil o)
+text-empty (c ∷ cs) ms at o e = absurd (omega arith)
+
+pub left-empty : (cs : List ℕ) (ms : List Tag) (at : ℕ) → length cs ≡ 0 → ms ≡ left_at at cs ms
+left-empty [] ms at e = refl
+left-empty (c ∷ cs) ms at e = absurd (omega arith)
 
 pub left-step : (p s n k : ℕ) (cs : List ℕ) (ms : List Tag) (m : Tag) → n < length ms → m ≡ get_or ms n m → k ≡ m.at - p
     → k < length (drop s cs) →

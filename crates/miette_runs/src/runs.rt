@@ -8,6 +8,7 @@ ghost use Rattle.miette_runs.specs.rules.Sequences.{Character, Sequence, Token, 
 ghost use Rattle.miette_runs.specs.views.Interleaving.{sign_text, interleaving};
 
 pub mod cells;
+pub mod codes;
 pub mod columns;
 mod cut;
 pub mod cutting;

@@ -10,21 +10,21 @@ use Rattle.miette_sarif_reader.specs.views.Begins.{IsNoneBefore, begins_by}
 
 module _ (test : ℕ → Bool) where
   differ : (x b : ℕ) (t : Bool) (rest : Bool) → nat_eq x b ≡ t → test x ≡ true → test b ≡ false → (t && rest) ≡ false
-  differ x b false rest e yes no = refl
-  differ x b true rest e yes no = let same : test x ≡ test b = ap test (eqb-true x b e) in cc
+  differ x b false rest e hit miss = refl
+  differ x b true rest e hit miss = let same : test x ≡ test b = ap test (eqb-true x b e) in cc
 
   not_here : (s : List ℕ) (b : ℕ) (bs : List ℕ) → begins_by test s ≡ true → test b ≡ false
       → stands_in (b ∷ bs) s ≡ false
-  not_here [] b bs yes no = cc
-  not_here (x ∷ xs) b bs yes no = differ x b (nat_eq x b) _ refl yes no
+  not_here [] b bs hit miss = cc
+  not_here (x ∷ xs) b bs hit miss = differ x b (nat_eq x b) _ refl hit miss
 
   none_here : (ss : List (List ℕ)) (b : ℕ) (bs : List ℕ) → list_all (begins_by test) ss ≡ true → test b ≡ false
       → find (stands_in (b ∷ bs)) ss ≡ None
-  none_here [] b bs all no = refl
-  none_here (s ∷ ss) b bs all no =
+  none_here [] b bs all miss = refl
+  none_here (s ∷ ss) b bs all miss =
       let parts = and_parts _ _ all in
-      ap (λ t. if t then Some s else find (stands_in (b ∷ bs)) ss) (not_here s b bs parts.0 no)
-      ∙ none_here ss b bs parts.1 no
+      ap (λ t. if t then Some s else find (stands_in (b ∷ bs)) ss) (not_here s b bs parts.0 miss)
+      ∙ none_here ss b bs parts.1 miss
 
   module _ (newlines : List (List ℕ)) (all : list_all (begins_by test) newlines ≡ true) where
     pub text_skips : (k : ℕ) (bytes : List ℕ) → k ≤ length bytes → IsNoneBefore test bytes k

@@ -18,6 +18,13 @@ no_item look [] i h = refl
 no_item look (y ∷ ys) zero h = absurd (omega (arith, h))
 no_item look (y ∷ ys) (suc i) h = no_item look ys i (omega (arith, h))
 
+-- an item is the one of its index, whatever stands for none
+pub item_is : {V : Type 0} (xs : List V) (i : ℕ) (none : V) → i < length xs
+    → get_or xs i none ≡ get_or xs i (get_or xs i none)
+item_is [] i none h = absurd (omega (arith, h))
+item_is (y ∷ ys) zero none h = refl
+item_is (y ∷ ys) (suc i) none h = item_is ys i none (omega (arith, h))
+
 differ : {W : Type 0} (v : W) → Some v ≡ None → ⊥
 differ v e = cc
 

@@ -40,11 +40,11 @@ step bytes at feed back f b none =
       | inl lf ↦ (let one : feed ≡ 1 = f ∙ ap (λ t. cond t 1 0) (eq-eqb byte 10 lf) in
           let more : line_of bytes (at + 1) ≡ line_of bytes at + 1 = line_of_yes bytes at (feed_ends byte next lf) in
           omega (arith, one, more))
-      | inr no ↦ (let zero : feed ≡ 0 = f ∙ ap (λ t. cond t 1 0) (ne_eqb byte 10 no) in
+      | inr nf ↦ (let zero : feed ≡ 0 = f ∙ ap (λ t. cond t 1 0) (ne_eqb byte 10 nf) in
           let text : byte ≢ 13 = λ cr.
           let one : back ≡ 1 = b ∙ ap (λ t. cond t 1 0) (eq-eqb byte 13 cr) in absurd (omega (arith, one, none)) in
           let same : line_of bytes (at + 1) ≡ line_of bytes at =
-          line_of_no bytes at (text_ends byte next no text) in
+          line_of_no bytes at (text_ends byte next nf text) in
           omega (arith, zero, same))
     ]
 

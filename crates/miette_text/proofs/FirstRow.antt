@@ -4,7 +4,7 @@ use Rattle.std.proofs.Common.{◌++◌, map, length, take, drop, get_or, refl, s
 use Rattle.std.proofs.Common.{drop-drop, length-drop, zero-add, eqb-true}
 use Rattle.std.proofs.Math.Seq.{take-add}
 use Rattle.std.proofs.lemmas.Bool.Decides.{nat_tests}
-use Rattle.std.proofs.lemmas.List.{take-map, take_rest, length-map}
+use Rattle.std.proofs.lemmas.List.{take-map, length-map}
 use Rattle.std.proofs.lemmas.List.Sums.{sum_by-cons}
 use Rattle.unicode_width.specs.Width.{char_width}
 use Rattle.miette_text.specs.rules.Wrapping.{Cuts, Word, columns, rows, is_space}
@@ -77,15 +77,9 @@ spaces-columns end n m cells codes e q =
     ∙ q
 
 -- what is said of the codes from a place on
-pub part-here : (left behind : List Cell → List Word) (s n m : ℕ) (cs : List ℕ) →
-    IsPart left behind (take (length cs - s) (drop s cs)) n m → IsPart left behind (drop s cs) n m
-part-here left behind s n m cs part = λ cells e. part cells (e ∙ sym (take_rest cs s))
-
-pub columns-here : (s n used columns wide : ℕ) (cs : List ℕ) → columns ≡ code_columns
-    (take n (take (length cs - s) (drop s cs))) → wide ≡ used + columns → wide
-    ≡ used + code_columns (take n (drop s cs))
-columns-here s n used columns wide cs h w =
-    w ∙ ap (λ k. used + k) (h ∙ ap (λ xs. code_columns (take n xs)) (take_rest cs s))
+pub part-here : (left behind : List Cell → List Word) (s n m : ℕ) (cs rest : List ℕ) → rest ≡ drop s cs →
+    IsPart left behind rest n m → IsPart left behind (drop s cs) n m
+part-here left behind s n m cs rest is part = λ cells e. part cells (e ∙ sym is)
 
 -- The part at the front, where words end at spaces.
 pub spaced-part : (cuts : Cuts) (before n m last : ℕ) (codes : List ℕ) → 0 < length codes → n

@@ -30,6 +30,8 @@ pub mod BareRows
 pub mod Filling
 pub mod TrimmedIndents
 pub mod PassedFronts
+pub mod PrintableBlocks
+pub mod SeenEnds
 pub mod FeedBlocks
 pub mod PassedLines
 pub mod WholeLines
@@ -37,3 +39,6 @@ pub mod SingleRows
 pub mod Fitting
 pub mod Feeds
 pub mod FittingRows
+pub mod Counts
+pub mod PlainTexts
+pub mod PartSteps

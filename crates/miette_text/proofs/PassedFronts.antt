@@ -147,7 +147,7 @@ front_passed b bs n u p w e =
 
 -- ---- what is seen at the front
 
-visible : (c : ℕ) (b : Bool) (bs : List ℕ) → 33 ≤ c → c ≤ 126 → are_passed b (tokens (c ∷ bs)) ≡ false
+pub visible : (c : ℕ) (b : Bool) (bs : List ℕ) → 33 ≤ c → c ≤ 126 → are_passed b (tokens (c ∷ bs)) ≡ false
 visible c b bs h k =
     let own : is_escape c ≡ false = grind (arith, nat_tests) in
     let ink : is_whitespace c ≡ false = grind (arith, nat_tests) in

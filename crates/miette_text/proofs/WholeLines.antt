@@ -1,17 +1,19 @@
 -- Lines that are not wrapped, each under its indent.
-use Rattle.std.proofs.Common.{◌≡◌, ℕ, suc, ◌+◌, ◌<◌, ◌≤◌, Bool, true, false, ◌&&◌, Option, Some, None, List, [], ◌∷◌}
+use Rattle.std.proofs.Common.{◌≡◌, ℕ, suc, ◌+◌, ◌<◌, ◌≤◌, Bool, true, false, ◌&&◌, List, [], ◌∷◌}
 use Rattle.std.proofs.Common.{◌++◌, length, refl, sym, ap, ap₂, subst, ◌∙◌, append_assoc, arith, if◌then◌else◌}
-use Rattle.std.proofs.Common.{cond, drop, get_or, length-append, lit<, ltb-true, take, take-append-drop}
-use Rattle.std.specs.Prelude.{chars, encode_utf8, encode_utf8_all, nat_lt, IsUtf8}
+use Rattle.std.proofs.Common.{cond, drop, get_or, length-append, lit<, ltb-false, ltb-true, take, take-append-drop}
+use Rattle.std.specs.Prelude.{chars, encode_utf8, encode_utf8_all, nat_lt, IsAscii, IsUtf8}
 use Rattle.std.specs.Char.{is_whitespace}
 use Rattle.std.specs.List.{prefix_len}
+use Rattle.std.specs.Str.{IsCharBoundary}
 use Rattle.std.proofs.Math.Bool.{and-true, and_assoc}
 use Rattle.std.proofs.Math.Seq.{take-append_seam}
 use Rattle.std.proofs.lemmas.Bool.Decides.{nat_tests}
-use Rattle.std.proofs.lemmas.List.{drop_at, drop_more, get_or-append-add, take_all}
-use Rattle.std.proofs.lemmas.List.Sums.{prefix_len_stops}
-use Rattle.std.proofs.lemmas.Str.{chars-append, chars_past_char, encode_ascii, encodes-chars, IsUtf8-drop}
-use Rattle.std.proofs.lemmas.Str.{IsUtf8-take, IsCharBoundary-before_ascii}
+use Rattle.std.proofs.lemmas.List.{drop_at, drop_more, get_or-append-add, take_all, take_more}
+use Rattle.std.proofs.lemmas.List.Sums.{prefix_len-le-length, prefix_len_stops}
+use Rattle.std.proofs.lemmas.Str.{chars-append, chars-IsAscii, chars_past_char, encode_ascii, encodes-chars}
+use Rattle.std.proofs.lemmas.Str.{IsUtf8-drop, IsUtf8-take, IsCharBoundary-before_ascii, IsCharBoundary-end}
+use Rattle.std.proofs.lemmas.Str.Ascii.{IsAscii-cons, IsAscii-nil}
 use Rattle.miette_basics.specs.rules.Lists.{is_nil}
 use Rattle.miette_runs.specs.rules.Sequences.{Token, Character, Sequence, spell, tokens}
 use Rattle.miette_runs.proofs.Appending.{spell-append}
@@ -19,7 +21,8 @@ use Rattle.miette_runs.proofs.Tokens.{spell-tokens}
 use Rattle.miette_text.specs.laws.FittingRows.{is_row}
 use Rattle.miette_text.specs.rules.Wrapping.{TextLine, all_white, indented_row, last_indented, line_feed, text_line_tokens}
 use Rattle.miette_text.specs.rules.Wrapping.{trimmed_row, whole_lines, with_tag}
-use Rattle.miette_text.specs.steps.WholeText.{IsFirstLine, are_passed, is_in_row, last_under, line_indent, line_under}
+use Rattle.miette_text.specs.steps.WholeText.{IsFirstLine, are_passed, indent_before, is_in_row, last_under}
+use Rattle.miette_text.specs.steps.WholeText.{line_indent, line_under}
 use Rattle.miette_text.proofs.Feeds.{lines, lines-fed}
 use Rattle.miette_text.proofs.Fitting.{high-byte}
 use Rattle.miette_text.proofs.FittingRows.{line-tokens, line_of, row-line, row_line}
@@ -95,24 +98,21 @@ whole-next indent further row rest h =
 
 -- ---- by the first line of a text, and what is behind it
 
-pub last-printed : (indent further : List Token) (text line : List ℕ) (behind : Option (List ℕ)) → behind ≡ None
-    → IsFirstLine text line behind → last_under indent line ≡ whole_text indent further text
-last-printed indent further text line behind e told =
-    let is = subst (IsFirstLine text line) e told in
-    sym (ap (whole_text indent further) is.1 ∙ whole-end indent further line is.0)
-
 -- a line is printed, and its line feed
-pub line-printed : (indent further : List Token) (text line rest : List ℕ) (behind : Option (List ℕ))
-    (o p q : List ℕ) → behind ≡ Some rest → IsFirstLine text line behind → p ≡ o ++ line_under indent line
-    → q ≡ p ++ 10 ∷ [] → q ++ whole_text further further (chars rest) ≡ o ++ whole_text indent further text
-line-printed indent further text line rest behind o p q e told h k =
-    let is = subst (IsFirstLine text line) e told in
-    let own = line_under indent line in
-    let later = whole_text further further (chars rest) in
-    ap (λ us. us ++ later) (k ∙ ap (λ us. us ++ 10 ∷ []) h)
-    ∙ append_assoc (o ++ own) (10 ∷ []) later
-    ∙ append_assoc o own (10 ∷ later)
-    ∙ ap (λ us. o ++ us) (sym (ap (whole_text indent further) is.1 ∙ whole-next indent further line (chars rest) is.0))
+pub line-printed : (indent further : List Token) (text line rest fed : List ℕ) (white : Bool) (o p q : List ℕ)
+    → IsFirstLine text line rest → white ≡ are_passed true (tokens line) → fed ≡ line ++ 10 ∷ []
+    → p ≡ o ++ spell (indent_before white indent) → q ≡ p ++ fed
+    → q ++ whole_text further further rest ≡ o ++ whole_text indent further text
+line-printed indent further text line rest fed white o p q is w f h k =
+    let own = spell (line_indent indent line) in
+    let later = whole_text further further rest in
+    let put : p ≡ o ++ own = h ∙ ap (λ b. o ++ spell (indent_before b indent)) w in
+    ap (λ us. us ++ later) (k ∙ ap₂ (λ us vs. us ++ vs) put f)
+    ∙ append_assoc (o ++ own) (line ++ 10 ∷ []) later
+    ∙ append_assoc o own ((line ++ 10 ∷ []) ++ later)
+    ∙ ap (λ us. o ++ (own ++ us)) (append_assoc line (10 ∷ []) later)
+    ∙ ap (λ us. o ++ us) (sym (append_assoc own line (10 ∷ later)))
+    ∙ ap (λ us. o ++ us) (sym (ap (whole_text indent further) is.1 ∙ whole-next indent further line rest is.0))
 
 -- ---- a text is parted at its first line feed
 
@@ -183,24 +183,72 @@ module _ (a b : List ℕ) (u : IsUtf8 (a ++ 10 ∷ b)) where
   parted = chars-append a (10 ∷ b) front-utf8 ∙ ap (λ cs. chars a ++ cs) (chars_past_char (10 ∷ b) b 10 feed-utf8
       (ap (λ bs. bs ++ b) (sym (encode_ascii 10 (lit< tt)))))
 
-pub no-feed : (text : List ℕ) (n : ℕ) → IsUtf8 text → n ≡ prefix_len is_in_row text → n ≡ length text
-    → IsFirstLine (chars text) (chars text) None
+no-feed : (text : List ℕ) (n : ℕ) → IsUtf8 text → n ≡ prefix_len is_in_row text → n ≡ length text
+    → is_row (chars text) ≡ true
 no-feed text n u e h =
     let all : prefix_len is_in_row text ≡ length text = sym e ∙ h in
     let whole : take (prefix_len is_in_row text) text ≡ text = ap (λ k. take k text) all ∙ take_all (length text) text
     (omega arith) in
-    (sym (row-text text u) ∙ sym (ap is_row whole) ∙ row-front text, refl)
+    sym (row-text text u) ∙ sym (ap is_row whole) ∙ row-front text
 
-pub first-feed : (text : List ℕ) (n : ℕ) → IsUtf8 text → n ≡ prefix_len is_in_row text → n < length text
-    → IsFirstLine (chars text) (chars (take n text)) (Some (drop (n + 1) text))
-first-feed text n u e h =
+-- what has no line feed is the last line
+pub last-printed : (indent further : List Token) (text : List ℕ) (n : ℕ) → IsUtf8 text → n ≡ prefix_len is_in_row text
+    → n ≡ length text → last_under indent (chars text) ≡ whole_text indent further (chars text)
+last-printed indent further text n u e h = sym (whole-end indent further (chars text) (no-feed text n u e h))
+
+-- a text cut behind its first line feed
+pub record IsCut (text line fed rest : List ℕ) : Type 0 where
+  pub ending : chars fed ≡ chars line ++ 10 ∷ []
+  pub is_first : IsFirstLine (chars text) (chars line) (chars rest)
+
+feed_ascii : IsAscii (10 ∷ [])
+feed_ascii = IsAscii-cons 10 [] (omega arith) IsAscii-nil
+
+pub first-feed : (text fed rest : List ℕ) (n : ℕ) → IsUtf8 text → n ≡ prefix_len is_in_row text → n < length text
+    → fed ≡ take (n + 1) text → rest ≡ drop (n + 1) text → IsCut text (take n text) fed rest
+first-feed text fed rest n u e h a b =
     let front = take n text in
-    let rest = drop (n + 1) text in
+    let behind = drop (n + 1) text in
     let here = at-feed text n e h in
-    let parts : text ≡ front ++ 10 ∷ rest = sym (take-append-drop n text)
-    ∙ ap (λ l. front ++ l) (drop_more text n 0 h ∙ ap (λ x. x ∷ rest) here) in
-    let whole : IsUtf8 (front ++ 10 ∷ rest) = subst IsUtf8 parts u in
-    let row : is_row front ≡ true = ap (λ k. is_row (take k text)) e ∙ row-front text in (
-      sym (row-text front (front-utf8 front rest whole)) ∙ row,
-      ap chars parts ∙ parted front rest whole,
-    )
+    let parts : text ≡ front ++ 10 ∷ behind = sym (take-append-drop n text)
+    ∙ ap (λ l. front ++ l) (drop_more text n 0 h ∙ ap (λ x. x ∷ behind) here) in
+    let whole : IsUtf8 (front ++ 10 ∷ behind) = subst IsUtf8 parts u in
+    let own : IsUtf8 front = front-utf8 front behind whole in
+    let row : is_row front ≡ true = ap (λ k. is_row (take k text)) e ∙ row-front text in
+    let feed : take (n + 1) text ≡ front ++ 10 ∷ [] = take_more text n 0 h ∙ ap (λ x. front ++ x ∷ []) here in
+    record {
+      ending = ap chars (a ∙ feed) ∙ chars-append front (10 ∷ []) own ∙ ap (λ cs. chars front ++ cs)
+          (chars-IsAscii (10 ∷ []) feed_ascii);
+      is_first = (
+        sym (row-text front own) ∙ row,
+        ap chars parts ∙ parted front behind whole ∙ ap (λ cs. chars front ++ 10 ∷ chars cs) (sym b),
+      );
+    }
+
+-- ---- how long the first line is
+
+-- so many bytes, behind which a text may be cut
+pub record IsLine (text : List ℕ) (n : ℕ) : Type 0 where
+  pub len : n ≡ prefix_len is_in_row text
+  pub inside : n ≤ length text
+  pub boundary : IsCharBoundary text n
+
+row-boundary : (text : List ℕ) (n : ℕ) → n ≡ prefix_len is_in_row text → IsCharBoundary text n
+row-boundary text n e = elim (nat_lt n (length text)) as (λ b. nat_lt n (length text) ≡ b → IsCharBoundary text n) [
+  | true ↦ λ l.
+      let within : n < length text = ltb-true _ _ l in
+      IsCharBoundary-before_ascii text n within (omega (arith, at-feed text n e within))
+  | false ↦ λ l.
+      let past : length text ≤ n = ltb-false _ _ l in
+      let end : length text ≡ n = omega (arith, e, past, prefix_len-le-length is_in_row text) in
+      subst (IsCharBoundary text) end (IsCharBoundary-end text)
+] refl
+
+pub line-of : (text bytes : List ℕ) (n : ℕ) → bytes ≡ text → n ≡ prefix_len is_in_row bytes → IsLine text n
+line-of text bytes n is e =
+    let len : n ≡ prefix_len is_in_row text = e ∙ ap (prefix_len is_in_row) is in
+    record {
+      len = len;
+      inside = omega (arith, len, prefix_len-le-length is_in_row text);
+      boundary = row-boundary text n len;
+    }

@@ -8,7 +8,8 @@
 //!
 //! | Stage | Function |
 //! |---|---|
-//! | a text is read as runs, its escape sequences as signs | `read_text`, `reread` (`reading.rt` of `miette_runs`) |
+//! | a text is read where it stands, if it is ASCII without an escape | `Ascii` (`codes.rt` of `miette_runs`) |
+//! | or as runs, its escape sequences as signs | `read_text`, `reread` (`reading.rt` of `miette_runs`) |
 //! | lines are parted at line feeds | `line_len` (`lines.rt`) |
 //! | the part at the front, with the spaces behind it: of words that end at spaces | `Spaced` (`ends.rt`) |
 //! | of words that lie between the places at which a line may be broken | `Broken` (`breaks.rt`) |
@@ -16,14 +17,18 @@
 //! | how many characters a row takes: parts, each with the spaces behind it | `row_len` (`ends.rt`) |
 //! | rows are printed with the signs that stand in them | `push_filled` (`lines.rt`) |
 //! | lines of a text that aren't wrapped are printed whole, and not read | `push_whole` (`whole.rt`) |
-//! | of a line in which nothing is seen the indent is shorter | `is_passed` (`white.rt`) |
+//! | of a line in which nothing is seen the indent is shorter | `first_line` (`white.rt`) |
 //!
 //! `fill` wraps a text, `wrap_text` a text under runs, `wrap` runs. Where a text stands in one row as it is,
 //! `push_fitting` (`fitting.rt`) appends it without any of these stages, for callers that try it first. `cutting` cuts
 //! line feeds at an end.
 
-ghost use Rattle.std.specs.Prelude.{◌≡◌, ◌++◌, IfOk, OnErr, OnOk, chars, encode_utf8_all, string_bytes, true};
+ghost use Rattle.std.specs.Prelude.{◌≡◌, ◌++◌, [], IfOk, MatchOption, OnErr, OnOk, chars, encode_utf8_all};
+ghost use Rattle.std.specs.Prelude.{string_bytes, true};
+ghost use Rattle.std.specs.Str.{IsNotAscii};
+ghost use Rattle.miette_style.specs.rules.Escapes.{no_escape};
 ghost use Rattle.miette_runs.specs.rules.Sequences.{erase, spell, tokens};
+ghost use Rattle.miette_runs.specs.views.Interleaving.{interleaving};
 ghost use Rattle.miette_text.specs.rules.ColouredTexts.{AppendsErasing, AreColoured, colourless};
 ghost use Rattle.miette_text.specs.rules.Wrapping.{filled_text, wrapped_text, wrapped_tokens};
 ghost use Rattle.miette_text.specs.views.Plans.{cuts_hyphens, options_plan, printed_plan, runs_plan};
@@ -34,15 +39,18 @@ mod feeds;
 pub mod fitting;
 pub mod laws;
 mod lines;
+mod printable;
 mod white;
 mod whole;
 
 use crate::wrap::breaks::Broken;
 use crate::wrap::ends::{Cuts, Spaced};
-use crate::wrap::lines::{Under, push_filled};
+use crate::wrap::lines::{Lined, Signed, Under, push_filled};
 use crate::wrap::whole::push_whole;
+use memchr::memchr;
 use miette_runs::runs::Runs;
 use miette_runs::runs::cells::push_all;
+use miette_runs::runs::codes::{Ascii, Characters};
 use miette_runs::runs::columns::token_columns;
 pub use miette_runs::runs::cutting;
 use miette_runs::runs::output::Output;
@@ -106,9 +114,13 @@ pub struct Plan<'a> {
     pub further: &'a Runs,
 }
 
-fn push_filled_under<S: Sink>(out: &mut S, plan: Plan<'_>, text: &Runs) -> Result<(), AllocError>
-    ensures { OnOk result (S.written out.new ≡ S.written out.old
-        ++ spell (filled_text (runs_plan plan.entry) text.now)) }
+fn push_filled_under<S: Sink, C: Lined>(
+    out: &mut S,
+    plan: Plan<'_>,
+    text: Signed<'_, C>,
+) -> Result<(), AllocError>
+    ensures { OnOk result (S.written out.new ≡ S.written out.old ++ spell (filled_text (runs_plan plan.entry)
+        (interleaving 0 (C.codes text.entry.codes) text.entry.tags.now))) }
 {
     let first = plan.first.parts();
     let further = plan.further.parts();
@@ -129,14 +141,42 @@ fn push_filled_under<S: Sink>(out: &mut S, plan: Plan<'_>, text: &Runs) -> Resul
     };
     push_all(out, first)?;
     match plan.separator {
-        WordSeparator::AsciiSpace => push_filled::<S, Spaced>(out, cuts, under, text.parts()),
+        WordSeparator::AsciiSpace => push_filled::<S, Spaced, C>(out, cuts, under, text),
         WordSeparator::UnicodeBreakProperties => {
-            push_filled::<S, Broken>(out, cuts, under, text.parts())
+            push_filled::<S, Broken, C>(out, cuts, under, text)
         }
     }
 }
 
-// A text, wrapped, each sign of the indents as it is.
+// Runs, wrapped, each sign of the indents as it is.
+fn push_filled_runs<S: Sink>(out: &mut S, plan: Plan<'_>, text: &Runs) -> Result<(), AllocError>
+    ensures { OnOk result (S.written out.new ≡ S.written out.old
+        ++ spell (filled_text (runs_plan plan.entry) text.now)) }
+{
+    let parts = text.parts();
+    let codes = Characters { list: parts.codes };
+    let tags = parts.tags;
+    push_filled_under(out, plan, Signed { codes, tags })
+}
+
+fn has_no_escape(bytes: &[u8]) -> bool
+    ensures { result ≡ no_escape bytes.now }
+{
+    memchr(b'\x1B', bytes).is_none()
+}
+
+// A text where it is ASCII without an escape: its characters are all that it is read as.
+fn plain(text: &str) -> Option<Ascii<'_>>
+    ensures { MatchOption result (no_escape text.now ≡ true → IsNotAscii text.now)
+        (λ it. interleaving 0 it.text.now [] ≡ tokens (chars text.now)) }
+{
+    if !has_no_escape(text.as_bytes()) {
+        return None;
+    }
+    Ascii::of(text)
+}
+
+// A text, wrapped, each sign of the indents as it is. One of ASCII without an escape is read where it stands.
 fn push_wrapped<S: Sink>(
     alloc: Global,
     out: &mut S,
@@ -149,8 +189,13 @@ fn push_wrapped<S: Sink>(
     if !plan.wraps {
         return push_whole(alloc, out, plan.first.parts(), plan.further.parts(), text);
     }
+    if let Some(codes) = plain(text) {
+        // the indents of most texts are less than a fourth of them
+        out.reserve(' ', text.len() + text.len() / 4)?;
+        return push_filled_under(out, plan, Signed { codes, tags: &[] });
+    }
     let read = read_text(alloc, text)?;
-    push_filled_under(out, plan, &read)
+    push_filled_runs(out, plan, &read)
 }
 
 // Whether what the indents print is cut into the very same characters and signs.
@@ -196,7 +241,7 @@ pub fn wrap(alloc: Global, plan: Plan<'_>, text: &Runs, out: &mut Output) -> Res
     ensures { OnOk result (out.new ≡ out.old ++ wrapped_text (printed_plan plan.entry) (spell text.now)) }
 {
     if plan.wraps && are_settled(plan) && is_settled(text.parts()) {
-        return push_filled_under(out, plan, text);
+        return push_filled_runs(out, plan, text);
     }
     let text = print(alloc, text)?;
     wrap_text(alloc, plan, text.as_str(), out)

@@ -51,10 +51,10 @@ enum Held {
 }
 
 /// A source that owns its bytes. What it keeps lies in a place of its own, so that a report that holds it, or none, is
-/// small, and that reports over one file can share it. It always reads. Without an index it counts lines for each read:
-/// the labels of one report by one pass up to the last of them, where each goes through its own lines. An index
-/// (`indexed`) is one pass over all bytes, and finds any line: it pays where several reports lie over a source, or one
-/// has fixes or many labels.
+/// small, and that reports over one file can share it. It always reads. An index is one pass over all bytes, and finds
+/// any line: it pays where several reports lie over a source, or one has fixes or many labels. A source without one
+/// (`unindexed`, `named_unindexed`) counts lines for each read: the labels of one report by one pass up to the last of
+/// them, where each goes through its own lines. That pays for a single report with a few labels.
 #[derive(Drop)]
 pub struct OwnedSource {
     held: Rc<Held>,
@@ -91,38 +91,25 @@ impl OwnedSource {
         OwnedSource::of_held(alloc, Held::Named(source))
     }
 
-    /// These bytes, with no name and no language. `AllocError` where there is no memory for the place of what it keeps;
-    /// the bytes are then dropped.
+    /// These bytes, with no name and no language. `AllocError` where there is no memory for the place of what it keeps,
+    /// or for the index; the bytes are then dropped.
     pub fn new(alloc: Global, bytes: Vec<u8>) -> Result<OwnedSource, AllocError>
-        ensures { IfOk result (λ it. owned_source it ≡ plain_source bytes.items) }
-    {
-        OwnedSource::of_held(alloc, Held::Plain(Bytes::Bare(bytes)))
-    }
-
-    /// The same, with an index of their lines. `AllocError` also where there is no memory for the index.
-    pub fn indexed(alloc: Global, bytes: Vec<u8>) -> Result<OwnedSource, AllocError>
         ensures { IfOk result (λ it. owned_source it ≡ plain_source bytes.items) }
     {
         let source = IndexedSource::new(alloc, bytes)?;
         OwnedSource::of_held(alloc, Held::Plain(Bytes::Indexed(source)))
     }
 
-    /// These bytes, with a name, and with a language where one is given. `AllocError` where there is no memory
-    /// for the place of what it keeps, the name or the language; the bytes are then dropped.
-    pub fn named(
-        alloc: Global,
-        name: &str,
-        language: Option<&str>,
-        bytes: Vec<u8>,
-    ) -> Result<OwnedSource, AllocError>
-        ensures { IfOk result (λ it. owned_source it
-            ≡ named_source (plain_source bytes.items) name.now (option_copied language.entry)) }
+    /// The same, without an index of their lines.
+    pub fn unindexed(alloc: Global, bytes: Vec<u8>) -> Result<OwnedSource, AllocError>
+        ensures { IfOk result (λ it. owned_source it ≡ plain_source bytes.items) }
     {
-        OwnedSource::with_name(alloc, name, language, Bytes::Bare(bytes))
+        OwnedSource::of_held(alloc, Held::Plain(Bytes::Bare(bytes)))
     }
 
-    /// The same, with an index of their lines. `AllocError` also where there is no memory for the index.
-    pub fn named_indexed(
+    /// These bytes, with a name, and with a language where one is given. `AllocError` where there is no memory
+    /// for the place of what it keeps, the index, the name or the language; the bytes are then dropped.
+    pub fn named(
         alloc: Global,
         name: &str,
         language: Option<&str>,
@@ -133,6 +120,19 @@ impl OwnedSource {
     {
         let source = IndexedSource::new(alloc, bytes)?;
         OwnedSource::with_name(alloc, name, language, Bytes::Indexed(source))
+    }
+
+    /// The same, without an index of their lines.
+    pub fn named_unindexed(
+        alloc: Global,
+        name: &str,
+        language: Option<&str>,
+        bytes: Vec<u8>,
+    ) -> Result<OwnedSource, AllocError>
+        ensures { IfOk result (λ it. owned_source it
+            ≡ named_source (plain_source bytes.items) name.now (option_copied language.entry)) }
+    {
+        OwnedSource::with_name(alloc, name, language, Bytes::Bare(bytes))
     }
 
     /// The same source once more. Bytes and index are shared, and stay as long as one of the sources does. It takes no

@@ -1,9 +1,11 @@
-//! All reports of a run at once.
+//! Several reports of a run at once.
 
 ghost use Rattle.std.specs.Prelude.{◌≡◌, Option, map};
 ghost use Rattle.std.specs.Process.{exit_status};
+ghost use Rattle.miette_tree.specs.views.Report.{tree_of};
 ghost use Rattle.miette.specs.declared.print.PrintError.{PrintError};
 ghost use Rattle.miette.specs.rules.Counting.{with_all};
+ghost use Rattle.miette.specs.rules.Reported.{AreReported, behaving};
 ghost use Rattle.miette.specs.rules.Run.{run_status};
 ghost use Rattle.miette.specs.views.Severities.{severity_of};
 
@@ -15,16 +17,27 @@ use miette_tree::report::Report;
 use std::io::Write;
 use std::process::ExitCode;
 
-impl<T: ReportHandler + Drop, W: Write + Drop, F: Write + Drop> Reporter<T, W, F> {
-    /// Reports these, as `report` does, also behind one that can't be told, and ends the run, as `finish` does. The
-    /// status is 0 where no error was reported and all was written, else 1.
-    pub fn report_all<D: Diagnostic, S: SourceCode>(mut self, reports: &[Report<D, S>]) -> ExitCode
-        ensures { (failure : Option PrintError) × (exit_status result ≡ run_status (with_all self.counts
-            (map (severity_of D.meaning S.source) reports.now)) failure) }
+impl<T: ReportHandler, W: Write, F: Write> Reporter<T, W, F> {
+    /// Reports these one after another, each as `report` does, also behind one that can't be told. `failure` says why
+    /// one couldn't, of the last that couldn't.
+    pub fn report_each<D: Diagnostic, S: SourceCode>(&mut self, reports: &[Report<D, S>])
+        ensures { AreReported (behaving T.gives T.asks T.refuses T.keeps W.contents) self.old
+            (map (tree_of D.meaning S.source) reports.now) self.new }
     {
         for report in reports {
             let _ = self.report(report);
         }
+    }
+}
+
+impl<T: ReportHandler + Drop, W: Write + Drop, F: Write + Drop> Reporter<T, W, F> {
+    /// Reports these, as `report_each` does, and ends the run, as `finish` does. The status is 0 where no error was
+    /// reported and all was written, else 1.
+    pub fn report_all<D: Diagnostic, S: SourceCode>(mut self, reports: &[Report<D, S>]) -> ExitCode
+        ensures { (failure : Option PrintError) × (exit_status result ≡ run_status (with_all self.counts
+            (map (severity_of D.meaning S.source) reports.now)) failure) }
+    {
+        self.report_each(reports);
         self.finish()
     }
 }

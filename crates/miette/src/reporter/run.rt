@@ -12,6 +12,7 @@ ghost use Rattle.miette.specs.declared.print.PrintError.TheVariants.{Memory, Ref
 ghost use Rattle.miette.specs.rules.Counting.{with_one};
 ghost use Rattle.miette.specs.rules.Forms.{IsNext, IsNextBy, ending};
 ghost use Rattle.miette.specs.rules.Printing.{WritesOne, unprinted_row};
+ghost use Rattle.miette.specs.rules.Reported.{IsReported, behaving};
 ghost use Rattle.miette.specs.rules.Run.{EndsBy, new_run, run_status};
 
 use crate::print::{Outputs, PrintError, tell};
@@ -146,6 +147,9 @@ impl<T: ReportHandler, W: Write, F: Write> Reporter<T, W, F> {
           is_begun = is_ok result || self.old.is_begun;
           failure = option_or (result_err result) self.old.failure;
         } }
+        // all of these as one relation, which `report_each` follows
+        ensures reported { IsReported (behaving T.gives T.asks T.refuses T.keeps W.contents) result self.old
+            (tree_of D.meaning S.source report.now) self.new }
     {
         self.counts = self.counts.with_one(report.severity());
         match self.write_next(report) {

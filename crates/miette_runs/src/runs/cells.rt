@@ -6,6 +6,7 @@ ghost use Rattle.miette_runs.specs.rules.Sequences.{spell};
 ghost use Rattle.miette_runs.specs.views.Interleaving.{beyond, cells_at, left_at, tags_spelled, upto, interleaving};
 
 use crate::runs::RunsSlice;
+use crate::runs::codes::{Characters, Codes};
 use crate::runs::sign::Tag;
 use crate::runs::sink::Sink;
 use crate::runs::tags::upto_len;
@@ -15,35 +16,37 @@ use std::alloc::AllocError;
 ///
 /// # Errors
 /// `AllocError` where memory is refused.
-pub fn push_cells<S: Sink>(
+pub fn push_cells<S: Sink, C: Codes>(
     out: &mut S,
     at: usize,
-    codes: &[char],
+    codes: C,
     tags: &[Tag],
 ) -> Result<usize, AllocError>
     ensures text { OnOk result (S.written out.new
-        ≡ S.written out.old ++ piece_text (cells_at at codes.now tags.now)) }
-    ensures left { IfOk result (λ n. drop n tags.now ≡ left_at at codes.now tags.now) }
+        ≡ S.written out.old ++ piece_text (cells_at at (C.codes codes) tags.now)) }
+    ensures left { IfOk result (λ n. drop n tags.now ≡ left_at at (C.codes codes) tags.now) }
     ensures within { IfOk result (λ n. n ≤ length tags.now) }
 {
-    if codes.is_empty() {
+    let many = codes.count();
+    if many == 0 {
         return Ok(0);
     }
     let mut place = at;
     let mut start: usize = 0;
     for (n, tag) in tags.iter().enumerate() {
         let gap = tag.at.saturating_sub(place);
-        let rest = &codes[start..];
-        if rest.len() <= gap {
-            out.push_chars(rest)?;
+        let rest = codes.from(start);
+        let left = rest.count();
+        if left <= gap {
+            rest.push_to(out)?;
             return Ok(n);
         }
-        out.push_chars(&rest[..gap])?;
+        rest.front(gap).push_to(out)?;
         out.push_sign(&tag.sign)?;
         start += gap;
         place += gap;
     }
-    out.push_chars(&codes[start..])?;
+    codes.from(start).push_to(out)?;
     Ok(tags.len())
 }
 
@@ -82,6 +85,7 @@ pub fn push_all<S: Sink>(out: &mut S, runs: RunsSlice<'_>) -> Result<(), AllocEr
     ensures { OnOk result (S.written out.new ≡ S.written out.old
         ++ spell (interleaving 0 runs.entry.codes.now runs.entry.tags.now)) }
 {
-    let n = push_cells(out, 0, runs.codes, runs.tags)?;
+    let characters = Characters { list: runs.codes };
+    let n = push_cells(out, 0, characters, runs.tags)?;
     push_tags(out, &runs.tags[n..])
 }

@@ -1,5 +1,5 @@
 -- What the code asks of a text that is to stand in one row as it is.
-use Rattle.std.specs.Prelude.{ℕ, Bool, true, ◌&&◌, nat_le, List, [], ◌∷◌}
+use Rattle.std.specs.Prelude.{ℕ, Bool, true, ◌&&◌, ◌||◌, nat_le, nat_lt, List, [], ◌∷◌}
 use Rattle.miette_text.specs.rules.Fitting.{ends_bare, has_ink, is_line}
 use Rattle.miette_runs.specs.steps.Cells.{code_columns}
 
@@ -10,6 +10,10 @@ fits_row room cs = is_line cs && (ends_bare true cs && nat_le (code_columns cs) 
 -- A line with a character that isn't white.
 abbrev pub is_shown : List ℕ → Bool
 is_shown cs = is_line cs && has_ink cs
+
+-- none from the space to the tilde
+abbrev pub is_other : ℕ → Bool
+is_other c = nat_lt c 32 || nat_lt 126 c
 
 -- characters from the space to the tilde alone
 abbrev pub all_printable : List ℕ → Bool

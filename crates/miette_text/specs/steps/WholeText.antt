@@ -1,9 +1,10 @@
 -- Text under indents that is not wrapped, in the steps of the code.
 use Rattle.std.specs.Prelude.{◌≡◌, ℕ, zero, suc, Bool, true, false, ◌&&◌, Option, None, Some, List, [], ◌∷◌, ◌++◌, chars}
-use Rattle.std.specs.Prelude.{if◌then◌else◌, not}
+use Rattle.std.specs.Prelude.{◌==◌, if◌then◌else◌, nat_le, not}
 use Rattle.std.specs.Char.{is_whitespace}
 use Rattle.miette_runs.specs.rules.Sequences.{Token, Character, Sequence, after_escape_len, begins, colour_len}
-use Rattle.miette_runs.specs.rules.Sequences.{command_len, control_len, is_line_feed, spell, tokens, tokens_behind}
+use Rattle.miette_runs.specs.rules.Sequences.{command_len, control_len, is_final, is_line_feed, spell, tokens}
+use Rattle.miette_runs.specs.rules.Sequences.{tokens_behind}
 use Rattle.miette_text.specs.declared.wrap.white.Place.{Place}
 use Rattle.miette_text.specs.declared.wrap.white.Place.TheVariants.{Outside, Escape, Control, Command, CommandEscape}
 use Rattle.miette_text.specs.laws.FittingRows.{is_row}
@@ -15,10 +16,9 @@ use Rattle.miette_text.specs.rules.Wrapping.{trimmed_row}
 abbrev pub is_in_row : ℕ → Bool
 is_in_row c = not (is_line_feed c)
 
--- its characters, and the bytes of what stands behind the line feed after it, if there is one
-abbrev pub IsFirstLine : List ℕ → List ℕ → Option (List ℕ) → Type 0
-IsFirstLine text line None = (is_row line ≡ true) × (text ≡ line)
-IsFirstLine text line (Some rest) = (is_row line ≡ true) × (text ≡ line ++ 10 ∷ chars rest)
+-- what stands before the first line feed, and behind it
+abbrev pub IsFirstLine : List ℕ → List ℕ → List ℕ → Type 0
+IsFirstLine text line rest = (is_row line ≡ true) × (text ≡ line ++ 10 ∷ rest)
 
 -- ---- lines in which nothing is seen
 
@@ -51,10 +51,30 @@ passed_through (Some place) blanks cs = passed_from place blanks cs
 abbrev pub front_len : Bool → List ℕ → ℕ
 front_len blanks bytes = if blanks && begins 32 bytes then 1 else colour_len bytes
 
+-- from `!` to `~`
+abbrev pub is_visible : ℕ → Bool
+is_visible c = nat_le 33 c && nat_le c 126
+
+-- from `!` to `?`: it ends no sequence
+abbrev pub is_low : ℕ → Bool
+is_low c = nat_le 33 c && nat_le c 63
+
+-- it would end a sequence that begins with `ESC [`, but for the `[` of the next one
+abbrev pub closes : ℕ → Bool
+closes c = is_final c && not (c == 91)
+
 -- ---- a line under its indent
 
+-- without its last spaces where nothing is seen of the line
+abbrev pub indent_before : Bool → List Token → List Token
+indent_before is_white indent = if is_white then trimmed_row indent else indent
+
+-- an indent as it is printed, and as it is without its last spaces
+abbrev pub ArePrinted : List ℕ → List ℕ → List Token → Type 0
+ArePrinted whole bare indent = (chars whole ≡ spell indent) × (chars bare ≡ spell (trimmed_row indent))
+
 abbrev pub line_indent : List Token → List ℕ → List Token
-line_indent indent line = if are_passed true (tokens line) then trimmed_row indent else indent
+line_indent indent line = indent_before (are_passed true (tokens line)) indent
 
 abbrev pub line_under : List Token → List ℕ → List ℕ
 line_under indent line = spell (line_indent indent line) ++ line

@@ -17,6 +17,7 @@ use crate::wrap::ends::{
 };
 use miette_line_breaks::breaks::State;
 use miette_line_breaks::printable::{Printable, Step};
+use miette_runs::runs::codes::Codes;
 use std::alloc::AllocError;
 
 /// The rest of a word: its letters, the code before them, and the spaces behind them; and what stands before the next.
@@ -36,12 +37,12 @@ fn is_hyphen(code: char) -> bool
 
 // How many codes are passed at once: letters of ASCII behind a letter, with no hyphen before them. The state stays.
 #[inline(always)]
-fn passed_len(state: State, is_joined: bool, codes: &[char]) -> usize
-    ensures value { result ≡ passed_len state is_joined codes.now }
-    ensures len { piece_len state is_joined codes.now
-        ≡ result + piece_len state is_joined (drop result codes.now) }
-    ensures state { state_at state result codes.now ≡ state }
-    ensures within { result ≤ length codes.now }
+fn passed_len<C: Codes>(state: State, is_joined: bool, codes: C) -> usize
+    ensures value { result ≡ passed_len state is_joined (C.codes codes) }
+    ensures len { piece_len state is_joined (C.codes codes)
+        ≡ result + piece_len state is_joined (drop result (C.codes codes)) }
+    ensures state { state_at state result (C.codes codes) ≡ state }
+    ensures within { result ≤ length (C.codes codes) }
 {
     if is_joined || !state.is_in_word() {
         return 0;
@@ -51,16 +52,17 @@ fn passed_len(state: State, is_joined: bool, codes: &[char]) -> usize
 
 // How many codes are left of the first word and its spaces, and what stands before the next; its first code begins no
 // word where that is said.
-fn rest_len(start: State, joined: bool, codes: &[char]) -> (usize, State)
-    ensures len { result.0 ≡ piece_len start joined codes.now }
-    ensures state { result.1 ≡ state_at start result.0 codes.now }
-    ensures within { result.0 ≤ length codes.now }
+fn rest_len<C: Codes>(start: State, joined: bool, codes: C) -> (usize, State)
+    ensures len { result.0 ≡ piece_len start joined (C.codes codes) }
+    ensures state { result.1 ≡ state_at start result.0 (C.codes codes) }
+    ensures within { result.0 ≤ length (C.codes codes) }
 {
     let mut state = start;
     let mut is_joined = joined;
+    let n = codes.count();
     let mut i: usize = 0;
-    'rest: while i < codes.len() {
-        let code = codes[i];
+    'rest: while i < n {
+        let code = codes.at(i);
         let (found, behind) = state.step(code);
         if !is_joined && found.is_some() {
             return (i, state);
@@ -68,44 +70,47 @@ fn rest_len(start: State, joined: bool, codes: &[char]) -> (usize, State)
         is_joined = is_hyphen(code);
         state = behind;
         let next = i + 1;
-        i = next + passed_len(state, is_joined, &codes[next..]);
+        i = next + passed_len(state, is_joined, codes.from(next));
     }
     (i, state)
 }
 
 // How many codes the first word and its spaces have, what stands before the next, and whether all of them are seen to be
 // printable ASCII without a hyphen.
-fn word_len(start: State, codes: &[char]) -> (usize, State, bool)
-    ensures len { result.0 ≡ piece_len start true codes.now }
-    ensures state { result.1 ≡ state_at start result.0 codes.now }
-    ensures printed { result.2 ≡ true → all_printed (take result.0 codes.now) ≡ true }
-    ensures within { result.0 ≤ length codes.now }
+fn word_len<C: Codes>(start: State, codes: C) -> (usize, State, bool)
+    ensures len { result.0 ≡ piece_len start true (C.codes codes) }
+    ensures state { result.1 ≡ state_at start result.0 (C.codes codes) }
+    ensures printed { result.2 ≡ true → all_printed (take result.0 (C.codes codes)) ≡ true }
+    ensures within { result.0 ≤ length (C.codes codes) }
 {
-    let [first, ..] = codes else {
+    let n = codes.count();
+    if n == 0 {
         return (0, start, true);
-    };
-    let Some(mut place) = Printable::behind(start, *first) else {
+    }
+    let first = codes.at(0);
+    let Some(mut place) = Printable::behind(start, first) else {
         let (len, state) = rest_len(start, true, codes);
         return (len, state, false);
     };
-    let mut is_printed = *first != '-';
+    let mut is_printed = first != '-';
     let mut i = 1;
-    'rest: while i < codes.len() {
-        match place.step(codes[i]) {
+    'rest: while i < n {
+        match place.step(codes.at(i)) {
             Step::Within(next) => place = next,
             Step::Hyphen(next) => {
                 place = next;
                 is_printed = false;
             }
             Step::Broken(next) => {
-                if !is_hyphen(codes[i - 1]) {
+                if !is_hyphen(codes.at(i - 1)) {
                     return (i, place.state(), is_printed);
                 }
                 place = next;
                 is_printed = false;
             }
             Step::Other => {
-                let (len, state) = rest_len(place.state(), is_hyphen(codes[i - 1]), &codes[i..]);
+                let joined = is_hyphen(codes.at(i - 1));
+                let (len, state) = rest_len(place.state(), joined, codes.from(i));
                 return (i + len, state, false);
             }
         }
@@ -115,16 +120,16 @@ fn word_len(start: State, codes: &[char]) -> (usize, State, bool)
 }
 
 // The first of the words, and whether its letters are seen to be printable ASCII without a hyphen.
-fn first_word(start: State, codes: &[char]) -> (Broken, bool)
-    requires { 0 < length codes.now }
-    ensures left { (cuts : rules.Cuts) (cells : List Cell) → codes_of cells ≡ codes.now →
+fn first_word<C: Codes>(start: State, codes: C) -> (Broken, bool)
+    requires { 0 < length (C.codes codes) }
+    ensures left { (cuts : rules.Cuts) (cells : List Cell) → codes_of cells ≡ C.codes codes →
         left_in result.0 cuts cells ≡ flat_map (parts cuts) (words_in start cells) }
-    ensures fits { fits_in result.0 codes.now }
+    ensures fits { fits_in result.0 (C.codes codes) }
     ensures some { is_done result.0 ≡ false }
-    ensures printed { result.1 ≡ true → all_printed (take result.0.letters codes.now) ≡ true }
+    ensures printed { result.1 ≡ true → all_printed (take result.0.letters (C.codes codes)) ≡ true }
 {
     let (len, state, is_printed) = word_len(start, codes);
-    let letters = bare_len(&codes[..len]);
+    let letters = bare_len(codes.front(len));
     let word = Broken {
         before: '\0',
         letters,
@@ -137,18 +142,18 @@ fn first_word(start: State, codes: &[char]) -> (Broken, bool)
 // The letters of the part at the front of the rest of a word. Where they are printable ASCII without a hyphen, and have
 // room, they are all that is left.
 #[inline(always)]
-fn part_letters(
+fn part_letters<C: Codes>(
     word: Broken,
     is_printed: bool,
     cuts: Cuts,
-    codes: &[char],
+    codes: C,
 ) -> Result<Letters, AllocError>
-    requires fits { word.letters ≤ length codes.now }
-    requires printed { is_printed ≡ true → all_printed (take word.letters codes.now) ≡ true }
-    ensures len { IfOk result (λ p.
-        p.len ≡ part_len never (word_cuts UnicodeBreakProperties cuts) word.before 0 (take word.letters codes.now)) }
-    ensures columns { IfOk result (λ p. p.columns ≡ code_columns (take p.len (take word.letters codes.now))) }
-    ensures within { IfOk result (λ p. p.len ≤ length (take word.letters codes.now)) }
+    requires fits { word.letters ≤ length (C.codes codes) }
+    requires printed { is_printed ≡ true → all_printed (take word.letters (C.codes codes)) ≡ true }
+    ensures len { IfOk result (λ p. p.len ≡ part_len never (word_cuts UnicodeBreakProperties cuts) word.before 0
+        (take word.letters (C.codes codes))) }
+    ensures columns { IfOk result (λ p. p.columns ≡ code_columns (take p.len (take word.letters (C.codes codes)))) }
+    ensures within { IfOk result (λ p. p.len ≤ length (take word.letters (C.codes codes))) }
 {
     if is_printed && word.letters <= cuts.narrow {
         return Ok(Letters {
@@ -156,28 +161,29 @@ fn part_letters(
             columns: word.letters,
         });
     }
-    first_part::<Broken>(cuts, word.before, &codes[..word.letters])
+    first_part::<Broken, C>(cuts, word.before, codes.front(word.letters))
 }
 
 // The part at the front of the rest of a word.
 #[inline(always)]
-fn word_part(
+fn word_part<C: Codes>(
     word: Broken,
     is_printed: bool,
     cuts: Cuts,
-    codes: &[char],
+    codes: C,
 ) -> Result<(Part, Broken), AllocError>
-    requires fits { fits_in word codes.now }
+    requires fits { fits_in word (C.codes codes) }
     requires some { is_done word ≡ false }
-    requires printed { is_printed ≡ true → all_printed (take word.letters codes.now) ≡ true }
+    requires printed { is_printed ≡ true → all_printed (take word.letters (C.codes codes)) ≡ true }
     ensures is { IfOk result (λ (p, behind). IsPart (left_in word (word_cuts UnicodeBreakProperties cuts))
-        (left_in behind (word_cuts UnicodeBreakProperties cuts)) codes.now p.letters.len p.spaces) }
-    ensures columns { IfOk result (λ (p, behind). p.letters.columns ≡ code_columns (take p.letters.len codes.now)) }
-    ensures gap { IfOk result (λ (p, behind). code_columns (take p.spaces (drop p.letters.len codes.now))
+        (left_in behind (word_cuts UnicodeBreakProperties cuts)) (C.codes codes) p.letters.len p.spaces) }
+    ensures columns { IfOk result (λ (p, behind). p.letters.columns
+        ≡ code_columns (take p.letters.len (C.codes codes))) }
+    ensures gap { IfOk result (λ (p, behind). code_columns (take p.spaces (drop p.letters.len (C.codes codes)))
         ≡ p.spaces) }
     ensures some { IfOk result (λ (p, behind). 0 < p.letters.len + p.spaces) }
-    ensures within { IfOk result (λ (p, behind). p.letters.len + p.spaces ≤ length codes.now) }
-    ensures fits { IfOk result (λ (p, behind). fits_in behind (drop (p.letters.len + p.spaces) codes.now)) }
+    ensures within { IfOk result (λ (p, behind). p.letters.len + p.spaces ≤ length (C.codes codes)) }
+    ensures fits { IfOk result (λ (p, behind). fits_in behind (drop (p.letters.len + p.spaces) (C.codes codes))) }
 {
     let letters = part_letters(word, is_printed, cuts, codes)?;
     if letters.len == word.letters {
@@ -194,7 +200,7 @@ fn word_part(
     }
     let part = Part { letters, spaces: 0 };
     let behind = Broken {
-        before: codes[letters.len - 1],
+        before: codes.at(letters.len - 1),
         letters: word.letters - letters.len,
         ..word
     };
@@ -229,7 +235,7 @@ impl Words for Broken {
         }
     }
 
-    fn part(self, cuts: Cuts, codes: &[char]) -> Result<(Part, Broken), AllocError> {
+    fn part<C: Codes>(self, cuts: Cuts, codes: C) -> Result<(Part, Broken), AllocError> {
         if self.letters == 0 && self.spaces == 0 {
             let (word, is_printed) = first_word(self.state, codes);
             return word_part(word, is_printed, cuts, codes);

@@ -3,7 +3,7 @@
 ghost use Rattle.std.proofs.Common.{arith};
 ghost use Rattle.std.proofs.lemmas.Bool.Decides.{nat_tests};
 ghost use Rattle.std.specs.Prelude.{◌≡◌, ◌≤◌, ◌<◌, ◌+◌, ◌==◌, ◌&&◌, ℕ, Bool, true, false, List, []};
-ghost use Rattle.std.specs.Prelude.{IfOk, drop, length, min, refl, take};
+ghost use Rattle.std.specs.Prelude.{◌^◌, IfOk, drop, length, nat_lt, refl, take};
 ghost use Rattle.miette_text.specs.declared.wrap.WordSeparator.{WordSeparator};
 ghost use Rattle.miette_text.specs.declared.wrap.WordSeparator.TheVariants.{AsciiSpace};
 ghost use Rattle.miette_text.specs.steps.Ends.{IsFirstRow, IsPart, bare_len, begins_word, gap_len};
@@ -16,6 +16,7 @@ ghost use Rattle.miette_text.specs.rules.Wrapping as rules;
 ghost use Rattle.miette_text.specs.rules.Wrapping.{Word, cut_words, is_alphanumeric, is_space};
 
 use miette_basics::sums::sum;
+use miette_runs::runs::codes::Codes;
 use miette_runs::runs::columns::char_columns;
 use std::alloc::AllocError;
 
@@ -70,18 +71,18 @@ pub(crate) trait Words: Copy {
         ensures fits { (codes : List ℕ) → fits result codes };
 
     /// The part at the front, and the words behind it.
-    fn part(self, cuts: Cuts, codes: &[char]) -> Result<(Part, Self), AllocError>
-        requires fits { fits self codes.now }
-        requires some { 0 < length codes.now }
+    fn part<C: Codes>(self, cuts: Cuts, codes: C) -> Result<(Part, Self), AllocError>
+        requires fits { fits self (C.codes codes) }
+        requires some { 0 < length (C.codes codes) }
         ensures is { IfOk result (λ (p, behind). IsPart (left self (word_cuts separator cuts))
-            (left behind (word_cuts separator cuts)) codes.now p.letters.len p.spaces) }
+            (left behind (word_cuts separator cuts)) (C.codes codes) p.letters.len p.spaces) }
         ensures columns { IfOk result (λ (p, behind). p.letters.columns
-            ≡ code_columns (take p.letters.len codes.now)) }
-        ensures gap { IfOk result (λ (p, behind). code_columns (take p.spaces (drop p.letters.len codes.now))
+            ≡ code_columns (take p.letters.len (C.codes codes))) }
+        ensures gap { IfOk result (λ (p, behind). code_columns (take p.spaces (drop p.letters.len (C.codes codes)))
             ≡ p.spaces) }
         ensures some { IfOk result (λ (p, behind). 0 < p.letters.len + p.spaces) }
-        ensures within { IfOk result (λ (p, behind). p.letters.len + p.spaces ≤ length codes.now) }
-        ensures fits { IfOk result (λ (p, behind). fits behind (drop (p.letters.len + p.spaces) codes.now)) };
+        ensures within { IfOk result (λ (p, behind). p.letters.len + p.spaces ≤ length (C.codes codes)) }
+        ensures fits { IfOk result (λ (p, behind). fits behind (drop (p.letters.len + p.spaces) (C.codes codes))) };
 
     /// Where nothing is left, it has no part.
     ghost nothing: { (it : Self) (cuts : rules.Cuts) → left it cuts [] ≡ [] };
@@ -93,29 +94,39 @@ fn is_alphanumeric(c: char) -> bool
     ('0' <= c && c <= '9') || ('A' <= c && c <= 'Z') || ('a' <= c && c <= 'z')
 }
 
-// Whether a word is cut behind a code, with another code before it and others behind it.
-fn is_cut(hyphens: bool, before: char, code: char, codes: &[char]) -> bool
-    ensures { result ≡ (hyphens && ((code == 45) && is_alphanumeric before && begins_word codes.now)) }
+// Whether a letter or a digit stands at the front.
+fn begins_word<C: Codes>(codes: C) -> bool
+    ensures { result ≡ begins_word (C.codes codes) }
 {
-    match codes {
-        [] => false,
-        [next, ..] => {
-            hyphens && code == '-' && is_alphanumeric(before) && is_alphanumeric(*next)
-        }
+    let n = codes.count();
+    if n == 0 {
+        return false;
     }
+    is_alphanumeric(codes.at(0))
+}
+
+// Whether a word is cut behind a code, with another code before it and others behind it.
+fn is_cut<C: Codes>(hyphens: bool, before: char, code: char, behind: C) -> bool
+    ensures { result ≡ (hyphens && ((code == 45) && is_alphanumeric before && begins_word (C.codes behind))) }
+{
+    hyphens && code == '-' && is_alphanumeric(before) && begins_word(behind)
 }
 
 /// How many letters of ASCII there are at the front.
-pub(crate) fn letters_len(codes: &[char]) -> usize
-    ensures value { result ≡ letters_len codes.now }
-    ensures within { result ≤ length codes.now }
+pub(crate) fn letters_len<C: Codes>(codes: C) -> usize
+    ensures value { result ≡ letters_len (C.codes codes) }
+    ensures within { result ≤ length (C.codes codes) }
 {
-    for (i, code) in codes.iter().enumerate() {
+    let n = codes.count();
+    let mut i: usize = 0;
+    'rest: while i < n {
+        let code = codes.at(i);
         if !code.is_ascii_alphabetic() {
             return i;
         }
+        i += 1;
     }
-    codes.len()
+    i
 }
 
 // Whether it is one from `.` to `~`: it has a column, and no word ends at it or is cut behind it.
@@ -128,71 +139,73 @@ fn is_solid(code: char) -> bool
 
 // How many such codes there are at the front.
 #[inline(always)]
-fn solid_len(codes: &[char]) -> usize
-    ensures value { result ≡ solid_len codes.now }
-    ensures within { result ≤ length codes.now }
+fn solid_len<C: Codes>(codes: C) -> usize
+    ensures value { result ≡ solid_len (C.codes codes) }
+    ensures within { result ≤ length (C.codes codes) }
 {
-    for (i, code) in codes.iter().enumerate() {
-        if !is_solid(*code) {
+    let n = codes.count();
+    let mut i: usize = 0;
+    'rest: while i < n {
+        let code = codes.at(i);
+        if !is_solid(code) {
             return i;
         }
+        i += 1;
     }
-    codes.len()
-}
-
-// The same, up to so many: the codes behind these aren't looked at.
-#[inline(always)]
-fn solid_within(codes: &[char], most: usize) -> usize
-    ensures value { result ≡ min (solid_len codes.now) most }
-    ensures within { result ≤ length codes.now }
-{
-    solid_len(&codes[..codes.len().min(most)])
+    i
 }
 
 /// The letters of the part at the front, behind a code. Solid ones that have room are passed at once.
-pub(crate) fn first_part<T: Stop>(
+pub(crate) fn first_part<T: Stop, C: Codes>(
     cuts: Cuts,
     first: char,
-    codes: &[char],
+    codes: C,
 ) -> Result<Letters, AllocError>
     ensures len { IfOk result (λ p. (separator : WordSeparator) →
-        p.len ≡ part_len T.stop (word_cuts separator cuts) first 0 codes.now) }
-    ensures columns { IfOk result (λ p. p.columns ≡ code_columns (take p.len codes.now)) }
-    ensures within { IfOk result (λ p. p.len ≤ length codes.now) }
+        p.len ≡ part_len T.stop (word_cuts separator cuts) first 0 (C.codes codes)) }
+    ensures columns { IfOk result (λ p. p.columns ≡ code_columns (take p.len (C.codes codes))) }
+    ensures within { IfOk result (λ p. p.len ≤ length (C.codes codes)) }
+    ensures counted { length (C.codes codes) < 2 ^ 64 }
 {
-    let n = solid_within(codes, cuts.narrow);
+    let most = codes.count().min(cuts.narrow);
+    let n = solid_len(codes.front(most));
     if n == 0 {
-        return part_behind::<T>(cuts, first, 0, codes);
+        return part_behind::<T, C>(cuts, first, 0, codes);
     }
-    let rest = part_behind::<T>(cuts, codes[n - 1], n, &codes[n..])?;
+    let last = codes.at(n - 1);
+    let rest = part_behind::<T, C>(cuts, last, n, codes.from(n))?;
     Ok(Letters {
         len: n + rest.len,
         columns: rest.columns,
     })
 }
 
+// Whether a word is cut before what takes it from so many columns to so many.
+fn is_wide(cuts: Cuts, used: usize, both: usize) -> bool
+    ensures { result ≡ (cuts.breaks && (nat_lt 0 used && nat_lt cuts.narrow both)) }
+{
+    cuts.breaks && 0 < used && cuts.narrow < both
+}
+
 // The same of what is left of it, behind a code and with so many columns in use.
 #[inline(always)]
-fn part_behind<T: Stop>(
+fn part_behind<T: Stop, C: Codes>(
     cuts: Cuts,
     first: char,
     columns: usize,
-    codes: &[char],
+    codes: C,
 ) -> Result<Letters, AllocError>
     ensures len { IfOk result (λ p. (separator : WordSeparator) →
-        p.len ≡ part_len T.stop (word_cuts separator cuts) first columns codes.now) }
-    ensures columns { IfOk result (λ p. p.columns ≡ columns + code_columns (take p.len codes.now)) }
-    ensures within { IfOk result (λ p. p.len ≤ length codes.now) }
+        p.len ≡ part_len T.stop (word_cuts separator cuts) first columns (C.codes codes)) }
+    ensures columns { IfOk result (λ p. p.columns ≡ columns + code_columns (take p.len (C.codes codes))) }
+    ensures within { IfOk result (λ p. p.len ≤ length (C.codes codes)) }
 {
-    let Cuts {
-        hyphens,
-        breaks,
-        narrow,
-    } = cuts;
     let mut used = columns;
     let mut before = first;
-    for (i, code) in codes.iter().enumerate() {
-        let code = *code;
+    let n = codes.count();
+    let mut i: usize = 0;
+    'rest: while i < n {
+        let code = codes.at(i);
         if T::is_stop(code) {
             return Ok(Letters {
                 len: i,
@@ -200,48 +213,61 @@ fn part_behind<T: Stop>(
             });
         }
         let both = sum(used, char_columns(code))?;
-        if breaks && 0 < used && narrow < both {
+        if is_wide(cuts, used, both) {
             return Ok(Letters {
                 len: i,
                 columns: used,
             });
         }
         used = both;
-        if is_cut(hyphens, before, code, &codes[i + 1..]) {
+        let next = i + 1;
+        if is_cut(cuts.hyphens, before, code, codes.from(next)) {
             return Ok(Letters {
-                len: i + 1,
+                len: next,
                 columns: used,
             });
         }
         before = code;
+        i = next;
     }
     Ok(Letters {
-        len: codes.len(),
+        len: i,
         columns: used,
     })
 }
 
-/// How many spaces there are at the front.
-pub(crate) fn gap_len(codes: &[char]) -> usize
-    ensures value { result ≡ gap_len codes.now }
-    ensures within { result ≤ length codes.now }
+fn is_space(code: char) -> bool
+    ensures { result ≡ is_space code }
 {
-    for (i, code) in codes.iter().enumerate() {
-        if *code != ' ' {
+    code == ' '
+}
+
+/// How many spaces there are at the front.
+pub(crate) fn gap_len<C: Codes>(codes: C) -> usize
+    ensures value { result ≡ gap_len (C.codes codes) }
+    ensures within { result ≤ length (C.codes codes) }
+{
+    let n = codes.count();
+    let mut i: usize = 0;
+    'rest: while i < n {
+        let code = codes.at(i);
+        if !is_space(code) {
             return i;
         }
+        i += 1;
     }
-    codes.len()
+    i
 }
 
 /// How many codes there are without the last spaces.
-pub(crate) fn bare_len(row: &[char]) -> usize
-    ensures value { result ≡ bare_len (plain_cells row.now) }
-    ensures within { result ≤ length row.now }
+pub(crate) fn bare_len<C: Codes>(row: C) -> usize
+    ensures value { result ≡ bare_len (plain_cells (C.codes row)) }
+    ensures within { result ≤ length (C.codes row) }
 {
-    let mut n = row.len();
+    let mut n = row.count();
     'rest: while 0 < n {
-        if row[n - 1] != ' ' {
+        let last = row.at(n - 1);
+        if last != ' ' {
             return n;
         }
         n -= 1;
@@ -278,33 +304,34 @@ impl Words for Spaced {
         Spaced { before: '\0' }
     }
 
-    fn part(self, cuts: Cuts, codes: &[char]) -> Result<(Part, Spaced), AllocError> {
-        let letters = first_part::<Spaced>(cuts, self.before, codes)?;
-        let spaces = gap_len(&codes[letters.len..]);
-        let before = codes[letters.len + spaces - 1];
+    fn part<C: Codes>(self, cuts: Cuts, codes: C) -> Result<(Part, Spaced), AllocError> {
+        let letters = first_part::<Spaced, C>(cuts, self.before, codes)?;
+        let spaces = gap_len(codes.from(letters.len));
+        let before = codes.at(letters.len + spaces - 1);
         Ok((Part { letters, spaces }, Spaced { before }))
     }
 }
 
 /// How many codes the first row has, of those that are left of a line, and what is left behind it.
-pub(crate) fn row_len<W: Words>(
+pub(crate) fn row_len<W: Words, C: Codes>(
     cuts: Cuts,
     room: usize,
     first: W,
-    codes: &[char],
+    codes: C,
 ) -> Result<(usize, W), AllocError>
-    requires { W.fits first codes.now }
+    requires { W.fits first (C.codes codes) }
     ensures value { IfOk result (λ (n, behind). IsFirstRow (W.left first (word_cuts W.separator cuts))
-        (W.left behind (word_cuts W.separator cuts)) room codes.now n) }
-    ensures some { IfOk result (λ (n, behind). 0 < length codes.now → 0 < n) }
-    ensures within { IfOk result (λ (n, behind). n ≤ length codes.now) }
-    ensures fits { IfOk result (λ (n, behind). W.fits behind (drop n codes.now)) }
+        (W.left behind (word_cuts W.separator cuts)) room (C.codes codes) n) }
+    ensures some { IfOk result (λ (n, behind). 0 < length (C.codes codes) → 0 < n) }
+    ensures within { IfOk result (λ (n, behind). n ≤ length (C.codes codes)) }
+    ensures fits { IfOk result (λ (n, behind). W.fits behind (drop n (C.codes codes))) }
 {
+    let n = codes.count();
     let mut end: usize = 0;
     let mut used = 0;
     let mut words = first;
-    'rest: while end < codes.len() {
-        let (part, behind) = words.part(cuts, &codes[end..])?;
+    'rest: while end < n {
+        let (part, behind) = words.part(cuts, codes.from(end))?;
         let wide = sum(used, part.letters.columns)?;
         if 0 < end && room < wide {
             return Ok((end, words));

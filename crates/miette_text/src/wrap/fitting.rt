@@ -4,8 +4,9 @@ ghost use Rattle.std.specs.Prelude.{◌≡◌, ◌++◌, ℕ, List, IfOk, chars,
 ghost use Rattle.miette_runs.specs.rules.Sequences.{spell};
 ghost use Rattle.miette_text.specs.rules.Fitting.{fits, has_ink, is_line};
 ghost use Rattle.miette_text.specs.rules.Wrapping.{Plan, wrapped_text};
-ghost use Rattle.miette_text.specs.steps.Fitting.{all_printable, fits_row, is_shown};
+ghost use Rattle.miette_text.specs.steps.Fitting.{fits_row, is_shown};
 
+use crate::wrap::printable::is_printable;
 use memchr::memchr2;
 use miette_runs::runs::Runs;
 use miette_runs::runs::cells::push_all;
@@ -13,18 +14,6 @@ use miette_runs::runs::columns::{char_columns, token_columns};
 use miette_runs::runs::output::Output;
 use miette_runs::runs::reading::is_settled;
 use std::alloc::AllocError;
-
-// Whether all bytes are ASCII characters from the space to the tilde: each is a character of one column.
-fn is_printable(bytes: &[u8]) -> bool
-    ensures { result ≡ all_printable bytes.now }
-{
-    for byte in bytes {
-        if *byte < b' ' || b'~' < *byte {
-            return false;
-        }
-    }
-    true
-}
 
 // Whether a text is a line without sequences that has room, and ends with no space: character by character.
 fn walk_fits(room: usize, text: &str) -> bool
@@ -43,10 +32,25 @@ fn walk_fits(room: usize, text: &str) -> bool
     bare
 }
 
-// The same; the columns of printable ASCII are its bytes. A text with more bytes than columns is left soon.
+// Whether a text begins with more printable ASCII than there is room for.
+fn is_wider(room: usize, text: &str) -> bool
+    ensures { result ≡ true → fits_row room (chars text.now) ≡ false }
+{
+    let bytes = text.as_bytes();
+    if bytes.len() <= room {
+        return false;
+    }
+    is_printable(&bytes[..room + 1])
+}
+
+// The same as of the walk; the columns of printable ASCII are its bytes. Another text with more bytes than columns is
+// left soon.
 fn fits_row(room: usize, text: &str) -> bool
     ensures { result ≡ fits_row room (chars text.now) }
 {
+    if is_wider(room, text) {
+        return false;
+    }
     let bytes = text.as_bytes();
     if room < bytes.len() || !is_printable(bytes) {
         return walk_fits(room, text);

@@ -10,8 +10,11 @@ ghost use Rattle.miette_text.specs.rules.Wrapping.{cell_tokens, joined_rows, tex
 ghost use Rattle.miette_text.specs.rules.Wrapping.{trimmed_row};
 
 use crate::wrap::ends::{Cuts, Words, bare_len, row_len};
+use crate::wrap::feeds;
 use miette_runs::runs::RunsSlice;
 use miette_runs::runs::cells::{push_all, push_cells, push_signs, push_tags};
+use miette_runs::runs::codes::{Ascii, Characters, Codes};
+use miette_runs::runs::sign::Tag;
 use miette_runs::runs::sink::Sink;
 use std::alloc::AllocError;
 
@@ -21,6 +24,13 @@ pub(crate) struct Under<'a> {
     pub(crate) room: usize,
     pub(crate) further: RunsSlice<'a>,
     pub(crate) further_room: usize,
+}
+
+/// Characters, and the signs between them.
+#[derive(Clone, Copy)]
+pub(crate) struct Signed<'a, C> {
+    pub(crate) codes: C,
+    pub(crate) tags: &'a [Tag],
 }
 
 // ---- rows
@@ -35,55 +45,62 @@ fn push_break<S: Sink>(out: &mut S, further: RunsSlice<'_>) -> Result<(), AllocE
 }
 
 // A row, from a place in the text up to the end of what is given, without its last spaces. How many tags are used.
-fn push_row<S: Sink>(out: &mut S, start: usize, row: RunsSlice<'_>) -> Result<usize, AllocError>
-    requires { start ≤ length row.codes.now }
+fn push_row<S: Sink, C: Codes>(
+    out: &mut S,
+    start: usize,
+    row: Signed<'_, C>,
+) -> Result<usize, AllocError>
+    requires { start ≤ length (C.codes row.codes) }
     ensures text { OnOk result (S.written out.new ≡ S.written out.old ++ spell (trimmed_row
-        (flat_map cell_tokens (cells_at start (drop start row.entry.codes.now) row.entry.tags.now)))) }
+        (flat_map cell_tokens (cells_at start (drop start (C.codes row.entry.codes)) row.entry.tags.now)))) }
     ensures left { IfOk result (λ n. drop n row.entry.tags.now
-        ≡ left_at start (drop start row.entry.codes.now) row.entry.tags.now) }
+        ≡ left_at start (drop start (C.codes row.entry.codes)) row.entry.tags.now) }
     ensures within { IfOk result (λ n. n ≤ length row.entry.tags.now) }
 {
-    let codes = &row.codes[start..];
+    let all = row.codes.count();
+    let codes = row.codes.from(start);
     let bare = bare_len(codes);
-    let used = push_cells(out, start, &codes[..bare], row.tags)?;
-    if bare == codes.len() {
+    let used = push_cells(out, start, codes.front(bare), row.tags)?;
+    let end = start + bare;
+    if end == all {
         return Ok(used);
     }
-    let dropped = push_signs(out, row.codes.len() - 1, &row.tags[used..])?;
+    let dropped = push_signs(out, all - 1, &row.tags[used..])?;
     Ok(used + dropped)
 }
 
 // The rows of a line, from a place in the text up to the end of what is given. How many tags are used.
-fn push_rows<S: Sink, W: Words>(
+fn push_rows<S: Sink, W: Words, C: Codes>(
     out: &mut S,
     cuts: Cuts,
     under: Under<'_>,
     first: usize,
-    line: RunsSlice<'_>,
+    line: Signed<'_, C>,
 ) -> Result<usize, AllocError>
-    requires { first ≤ length line.codes.now }
+    requires { first ≤ length (C.codes line.codes) }
     ensures text { OnOk result (S.written out.new ≡ S.written out.old ++ spell (joined_rows []
         (interleaving 0 under.entry.further.codes.now under.entry.further.tags.now)
         (text_line_rows (word_cuts W.separator cuts) under.entry.room under.entry.further_room
-        (record { cells = cells_at first (drop first line.entry.codes.now) line.entry.tags.now; rest = [] })))) }
+        (record { cells = cells_at first (drop first (C.codes line.entry.codes)) line.entry.tags.now; rest = [] })))) }
     ensures left { IfOk result (λ n. drop n line.entry.tags.now
-        ≡ left_at first (drop first line.entry.codes.now) line.entry.tags.now) }
+        ≡ left_at first (drop first (C.codes line.entry.codes)) line.entry.tags.now) }
     ensures within { IfOk result (λ n. n ≤ length line.entry.tags.now) }
 {
+    let all = line.codes.count();
     let mut start = first;
     let mut used: usize = 0;
     let mut words = W::start();
     let mut room = under.room;
     'rest: loop {
-        let (n, behind) = row_len(cuts, room, words, &line.codes[start..])?;
+        let (n, behind) = row_len(cuts, room, words, line.codes.from(start))?;
         let end = start + n;
-        let row = RunsSlice {
-            codes: &line.codes[..end],
+        let row = Signed {
+            codes: line.codes.front(end),
             tags: &line.tags[used..],
         };
         let more = push_row(out, start, row)?;
         used += more;
-        if end == line.codes.len() {
+        if end == all {
             return Ok(used);
         }
         push_break(out, under.further)?;
@@ -95,45 +112,58 @@ fn push_rows<S: Sink, W: Words>(
 
 // ---- lines
 
-/// How many codes there are up to the first line feed, or to the end.
-pub(crate) fn line_len(codes: &[char]) -> usize
-    ensures value { result ≡ line_len codes.now }
-    ensures within { result ≤ length codes.now }
-{
-    for (i, code) in codes.iter().enumerate() {
-        if *code == '\n' {
-            return i;
+/// Characters whose line feeds are looked for.
+pub(crate) trait Lined: Codes {
+    /// How many there are up to the first line feed, or to the end.
+    fn line_len(self) -> usize
+        ensures value { result ≡ line_len (Self.codes self) }
+        ensures within { result ≤ length (Self.codes self) };
+}
+
+impl<'a> Lined for Characters<'a> {
+    fn line_len(self) -> usize {
+        for (i, code) in self.list.iter().enumerate() {
+            if *code == '\n' {
+                return i;
+            }
         }
+        self.list.len()
     }
-    codes.len()
+}
+
+impl<'a> Lined for Ascii<'a> {
+    fn line_len(self) -> usize {
+        feeds::row_len(self.text.as_bytes())
+    }
 }
 
 /// A text, wrapped by words that are told apart so, its first row under an indent of its own.
-pub(crate) fn push_filled<S: Sink, W: Words>(
+pub(crate) fn push_filled<S: Sink, W: Words, C: Lined>(
     out: &mut S,
     cuts: Cuts,
     under: Under<'_>,
-    text: RunsSlice<'_>,
+    text: Signed<'_, C>,
 ) -> Result<(), AllocError>
     ensures { OnOk result (S.written out.new ≡ S.written out.old ++ spell (joined_rows []
         (interleaving 0 under.entry.further.codes.now under.entry.further.tags.now)
         (text_rows (word_cuts W.separator cuts) under.entry.room under.entry.further_room
-        (text_lines (interleaving 0 text.entry.codes.now text.entry.tags.now))))) }
+        (text_lines (interleaving 0 (C.codes text.entry.codes) text.entry.tags.now))))) }
 {
+    let all = text.codes.count();
     let mut start: usize = 0;
     let mut used: usize = 0;
     let mut room = under.room;
     'rest: loop {
-        let n = line_len(&text.codes[start..]);
+        let n = text.codes.from(start).line_len();
         let end = start + n;
         let place = Under { room, ..under };
-        let line = RunsSlice {
-            codes: &text.codes[..end],
+        let line = Signed {
+            codes: text.codes.front(end),
             tags: &text.tags[used..],
         };
-        let inside = push_rows::<S, W>(out, cuts, place, start, line)?;
+        let inside = push_rows::<S, W, C>(out, cuts, place, start, line)?;
         used += inside;
-        if end == text.codes.len() {
+        if end == all {
             push_tags(out, &text.tags[used..])?;
             return Ok(());
         }

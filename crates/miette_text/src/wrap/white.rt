@@ -1,9 +1,14 @@
 //! Lines in which nothing is seen.
 
-ghost use Rattle.std.specs.Prelude.{◌≡◌, ◌≤◌, ◌∷◌, ℕ, Bool, List, chars, false, length, true};
+ghost use Rattle.std.specs.Prelude.{◌≡◌, ◌≤◌, ◌⊎◌, ◌∷◌, [], ℕ, Bool, List, chars, drop, false, length, take, true};
+ghost use Rattle.std.specs.List.{prefix_len};
 ghost use Rattle.miette_runs.specs.rules.Sequences.{colour_end_len, colour_len, is_parameter, tokens};
+ghost use Rattle.miette_style.specs.rules.Codes.{colour_stop};
 ghost use Rattle.miette_text.specs.declared.wrap.white.Place.TheVariants.{Outside, Escape, Control, Command};
-ghost use Rattle.miette_text.specs.steps.WholeText.{are_passed, front_len, passed_from, passed_through};
+ghost use Rattle.miette_text.specs.steps.WholeText.{are_passed, closes, front_len, is_in_row, is_low};
+ghost use Rattle.miette_text.specs.steps.WholeText.{is_visible, passed_from, passed_through};
+
+use crate::wrap::feeds::row_len;
 
 // ---- colours and spaces at the front, byte by byte
 
@@ -66,6 +71,13 @@ fn behind_front(text: &str, blanks: bool) -> &str
     }
 }
 
+// Whether it is one from `!` to `~`.
+fn is_visible(byte: u8) -> bool
+    ensures { result ≡ is_visible byte }
+{
+    b'!' <= byte && byte <= b'~'
+}
+
 // Whether a text begins with a character from `!` to `~`, which is in no sequence and isn't white.
 fn begins_seen(text: &str) -> bool
     ensures { result ≡ true → (blanks : Bool) → are_passed blanks (tokens (chars text.now)) ≡ false }
@@ -74,6 +86,64 @@ fn begins_seen(text: &str) -> bool
         [byte, ..] => b'!' <= *byte && *byte <= b'~',
         [] => false,
     }
+}
+
+// ---- the end of a line
+
+// Whether a byte would end a sequence that begins with `ESC [`, but for the `[` of the next one.
+fn closes(byte: u8) -> bool
+    ensures { result ≡ closes byte }
+{
+    b'@' <= byte && byte <= b'~' && byte != b'['
+}
+
+// Whether bytes are the code that ends a style.
+fn ends_style(code: &[u8]) -> bool
+    ensures { result ≡ true → code.now ≡ colour_stop }
+{
+    match code {
+        [a, b, c, d] => *a == b'\x1B' && *b == b'[' && *c == b'0' && *d == b'm',
+        _ => false,
+    }
+}
+
+// How many bytes a line has before the code that ends a style, where it ends with that, or at all.
+fn styled_len(line: &[u8]) -> usize
+    ensures tail { (drop result line.now ≡ []) ⊎ (drop result line.now ≡ colour_stop) }
+    ensures within { result ≤ length line.now }
+{
+    let all = line.len();
+    if all < 4 {
+        return all;
+    }
+    let len = all - 4;
+    if ends_style(&line[len..]) {
+        return len;
+    }
+    all
+}
+
+// Whether it is one from `!` to `?`, which ends no sequence.
+fn is_low(byte: u8) -> bool
+    ensures { result ≡ is_low byte }
+{
+    b'!' <= byte && byte <= b'?'
+}
+
+// Whether the last characters of a line show that something is seen: before the code that ends a style, one from `!` to
+// `~` behind one that would end a sequence, or at the very end one that ends none.
+fn ends_seen(line: &str) -> bool
+    ensures { result ≡ true → (blanks : Bool) → are_passed blanks (tokens (chars line.now)) ≡ false }
+{
+    let bytes = line.as_bytes();
+    let len = styled_len(bytes);
+    if len < 2 {
+        return false;
+    }
+    if closes(bytes[len - 2]) {
+        return is_visible(bytes[len - 1]);
+    }
+    is_low(bytes[bytes.len() - 1])
 }
 
 // ---- all that is passed, character by character
@@ -186,4 +256,32 @@ pub(crate) fn is_passed(text: &str, blanks: bool) -> bool
 {
     let rest = behind_front(text, blanks);
     !begins_seen(rest) && walk_passes(rest, blanks)
+}
+
+// ---- the first line of a text
+
+// Whether a text holds nothing but whole sequences and white characters; most have a character that is seen at their
+// front or at their end.
+fn is_white(line: &str) -> bool
+    ensures { result ≡ are_passed true (tokens (chars line.now)) }
+{
+    !begins_seen(line) && !ends_seen(line) && is_passed(line, true)
+}
+
+/// How many bytes a text's first line has, and whether nothing is seen in it.
+#[derive(Clone, Copy)]
+pub(crate) struct FirstLine {
+    pub(crate) len: usize,
+    pub(crate) is_white: bool,
+}
+
+/// The first line of a text, up to its line feed.
+pub(crate) fn first_line(text: &str) -> FirstLine
+    ensures len { result.len ≡ prefix_len is_in_row text.now }
+    ensures within { result.len ≤ length text.now }
+    ensures white { result.is_white ≡ are_passed true (tokens (chars (take result.len text.now))) }
+{
+    let len = row_len(text.as_bytes());
+    let is_white = is_white(&text[..len]);
+    FirstLine { len, is_white }
 }

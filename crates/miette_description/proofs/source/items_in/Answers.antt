@@ -9,7 +9,7 @@ counted [] = refl
 counted (v ∷ vs) = omega (arith, counted vs)
 
 pub returns-in-Some : goal.returns-in-Some
-returns-in-Some c = c.len.ensures ∙ counted c.in-Some.list.now ∙ ap items_in c.in-Some.ensures
+returns-in-Some c = counted c.in-Some.list.now ∙ ap items_in c.in-Some.ensures
 
 pub returns-in-None : goal.returns-in-None
 returns-in-None c = ap items_in c.in-None.ensures

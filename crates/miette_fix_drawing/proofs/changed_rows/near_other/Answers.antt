@@ -6,4 +6,4 @@ pub returns-in-Some : goal.returns-in-Some
 returns-in-Some c = subst (λ o. AreBothNear o (Some c.near_line.result)) (sym c.in-Some.is) c.near_line.ensures
 
 pub returns-in-None : goal.returns-in-None
-returns-in-None c = subst (λ o. AreBothNear o None) (sym c.in-None.is) unit
+returns-in-None c = subst (λ o. AreBothNear o None) (sym c.in-None.is) tt

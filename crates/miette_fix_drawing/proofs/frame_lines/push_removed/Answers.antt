@@ -7,7 +7,7 @@ pub loop-change-preserved : goal.loop-change-preserved
 loop-change-preserved c =
     let away = c.loop-change.away in
     removed_more c.loop-change.list.items c.push.new.self.items _ c.args.changes.now c.loop-change.change-index
-    c.change-item.result.now away c.in_ok-away.away _ c.loop-change-test.true c.change-item.is
+    c.change-item.result away c.in_ok-away.away _ c.loop-change-test.true c.change-item.is
     c.in_ok-push.ensures.items
     (ap₂ (λ ls os. removed_with away ls os) c.removed.ensures.lines c.added-others.ensures)
     (c.in_ok-away.ensures ∙ ap (λ n. away + n) (texts_size c.added-others.result.now _ c.added-others.ensures))

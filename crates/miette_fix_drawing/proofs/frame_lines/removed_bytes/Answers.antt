@@ -5,7 +5,7 @@ use Rattle.miette_fix_drawing.proofs.frame_lines.removed_bytes.Goals as goal
 pub loop-change-preserved : goal.loop-change-preserved
 loop-change-preserved c =
     bytes_more c.args.changes.now c.loop-change.change-index c.loop-change.size c.in_ok-size.size _
-    c.change-item.result.now c.loop-change-test.true c.change-item.is
+    c.change-item.result c.loop-change-test.true c.change-item.is
     (c.in_ok-size.ensures
     ∙ ap (λ n. c.loop-change.size + n) (texts_size c.removed.result.now _ c.removed.ensures.lines))
     c.loop-change.invariant

@@ -1,5 +1,3 @@
-use Rattle.std.proofs.Common.{Bool, ℕ, false, refl, subst, true}
-use Rattle.miette_layout.specs.views.SourceEnds.{TellsEnd, last_offset}
 use Rattle.miette_layout.proofs.AskedEnds.{asks_told, none_told}
 use Rattle.miette_layout.proofs.ends.asks_for_end.Goals as goal
 

@@ -1,4 +1,4 @@
-use Rattle.std.proofs.Common.{length, arith, ap, sym, ◌∙◌}
+use Rattle.std.proofs.Common.{arith}
 use Rattle.std.proofs.lemmas.List.{at_drop_all}
 use Rattle.miette_layout.specs.views.SourceEnds.{last_offset}
 use Rattle.miette_layout.proofs.ends.last_offset.Goals as goal

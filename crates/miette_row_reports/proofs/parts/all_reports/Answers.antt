@@ -24,12 +24,16 @@ abbrev items_of : Vec ℕ Global → List ℕ
 items_of part = part.items
 
 pub loop-part-init : goal.loop-part-init
-loop-part-init g c = record {
-  sound = c.requires.sound;
-  reads = All-nil _;
-  gathering = logging.begin c.args.held.now.from (g.F.Files.found c.args.files.now) [] _ 1 c.none-verdict.result refl
-      refl c.none-verdict.ensures;
-}
+loop-part-init g c =
+    let tree = tree_of meaning_of (λ (it : Source). it) in
+    let empty : map tree c.new-list.result.items ≡ [] = ap (map tree) c.new-list.ensures.items in
+    record {
+      sound = c.requires.sound;
+      reads = subst (All AlwaysReads) (sym empty) (All-nil AlwaysReads);
+      gathering = logging.begin c.args.held.now.from (g.F.Files.found c.args.files.now)
+          (map tree c.new-list.result.items) (g.E.Write.contents c.args.faults.now.inner) 1 c.none-verdict.result empty
+          refl c.none-verdict.ensures;
+    }
 
 pub loop-part-preserved : goal.loop-part-preserved
 loop-part-preserved g c =

@@ -1,29 +1,34 @@
-use Rattle.std.proofs.Common.{◌≡◌, ℕ, List, Bor, ap, false, sym, true, ◌∙◌, rules}
+use Rattle.std.proofs.Common.{◌≡◌, ℕ, List, [], Bor, ap, false, slice_index_or, sym, true, ◌∙◌, rules}
 use Rattle.std.proofs.lemmas.List.{take_all}
 use Rattle.std.specs.List.{list_all}
 use Rattle.memchr.specs.Find.{is_byte3}
 use Rattle.miette_readers.specs.views.Values.{texts}
 use Rattle.miette_sarif_reader.specs.views.Begins.{begins_by}
 use Rattle.miette_readers.proofs.Steps.{all_more, not_all}
+use Rattle.miette_sarif_reader.proofs.Finding.{item_is}
 use Rattle.miette_sarif_reader.proofs.begins.all_begin.Goals as goal
+
+abbrev none : Bor (List ℕ)
+none = record { ref_ptr = (0, 0); now = [] }
 
 pub returns-then-not-begins_by : goal.returns-then-not-begins_by
 returns-then-not-begins_by c =
     let l = c.loop-sequence in
-    let x = c.sequence-item.result in
+    let newlines = c.args.newlines.now in
     let test = begins_by (is_byte3 c.args.one c.args.two c.args.three) in
-    let no : test x.now ≡ false = search rules in
-    sym (not_all (λ (v : Bor (List ℕ)). v.now) test c.args.newlines.now l.sequence-index x
-    c.loop-sequence-test.true c.sequence-item.is no)
+    let miss : test (slice_index_or newlines l.sequence-index none).now ≡ false = search rules in
+    sym (not_all (λ (v : Bor (List ℕ)). v.now) test newlines l.sequence-index
+    (slice_index_or newlines l.sequence-index none) c.loop-sequence-test.true
+    (item_is newlines l.sequence-index none c.loop-sequence-test.true) miss)
 
 pub loop-sequence-preserved : goal.loop-sequence-preserved
 loop-sequence-preserved c =
     let l = c.loop-sequence in
-    let x = c.sequence-item.result in
+    let newlines = c.args.newlines.now in
     let test = begins_by (is_byte3 c.args.one c.args.two c.args.three) in
-    let yes : test x.now ≡ true = search rules in
-    all_more (λ (v : Bor (List ℕ)). v.now) c.args.newlines.now l.sequence-index x c.loop-sequence-test.true
-    c.sequence-item.is test l.invariant yes
+    let hit : test (slice_index_or newlines l.sequence-index none).now ≡ true = search rules in
+    all_more (λ (v : Bor (List ℕ)). v.now) newlines l.sequence-index (slice_index_or newlines l.sequence-index none)
+    c.loop-sequence-test.true (item_is newlines l.sequence-index none c.loop-sequence-test.true) test l.invariant hit
 
 pub returns : goal.returns
 returns c =

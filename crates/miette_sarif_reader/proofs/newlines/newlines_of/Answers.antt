@@ -14,8 +14,8 @@ returns-then-is_empty c =
     (none_listed listed _ (c.in_ok-listed.ensures ∙ ap (filter_map sequence_in) c.listed_in.ensures) none)
     c.usual_newlines.ensures
 
-pub returns-else-is_empty : goal.returns-else-is_empty
-returns-else-is_empty c =
+pub returns : goal.returns
+returns c =
     let listed = c.in_ok-listed.listed.items in
     let some : 0 < length listed = search rules in
     some_listed listed _ (c.in_ok-listed.ensures ∙ ap (filter_map sequence_in) c.listed_in.ensures) some

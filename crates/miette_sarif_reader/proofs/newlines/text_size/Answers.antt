@@ -1,17 +1,17 @@
-use Rattle.std.proofs.Common.{◌≡◌, ◌<◌, ◌+◌, ◌∙◌, ap, arith, drop, subst, sym}
+use Rattle.std.proofs.Common.{◌≡◌, ◌<◌, ◌∙◌, ap, arith, drop, subst, sym}
 use Rattle.std.proofs.lemmas.List.{drop_all}
 use Rattle.miette_readers.specs.views.Values.{texts}
 use Rattle.miette_sarif_reader.specs.rules.Newlines.{end_size, text_size}
 use Rattle.miette_sarif_reader.proofs.NewlineSteps.{text_goes_on, text_stops}
 use Rattle.miette_sarif_reader.proofs.newlines.text_size.Goals as goal
 
-pub returns-then-next-len-clause-value : goal.returns-then-next-len-clause-value
-returns-then-next-len-clause-value c =
+pub returns-then-next-bytes-clause-value : goal.returns-then-next-bytes-clause-value
+returns-then-next-bytes-clause-value c =
     let l = c.loop-at in
     let newlines = texts c.args.newlines.now in
     let next = c.next_begin-next in
     let none : text_size newlines (drop next.result c.args.bytes.now) ≡ 0 =
-    ap (text_size newlines) (drop_all next.result c.args.bytes.now (omega (arith, c.if-next-len.true)))
+    ap (text_size newlines) (drop_all next.result c.args.bytes.now (omega (arith, c.if-next-bytes.true)))
     in
     omega (arith, l.invariant.same, next.ensures.value, next.ensures.order, none)
 
@@ -34,9 +34,9 @@ loop-at-preserved c =
     let none : end_size newlines (drop next.result c.args.bytes.now) ≡ 0 =
     sym (c.end_size-end.ensures.value ∙ ap (end_size newlines) c.rest_from.ensures) ∙ c.if-end-eq0.true
     in
-    let more = text_goes_on newlines c.args.bytes.now next.result (omega (arith, c.if-next-len.false)) none in
+    let more = text_goes_on newlines c.args.bytes.now next.result (omega (arith, c.if-next-bytes.false)) none in
     record {
-      within = omega (arith, c.if-next-len.false);
+      within = omega (arith, c.if-next-bytes.false);
       same = omega (arith, l.invariant.same, next.ensures.value, next.ensures.order, more);
     }
 

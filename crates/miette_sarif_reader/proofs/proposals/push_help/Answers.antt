@@ -1,6 +1,7 @@
-use Rattle.std.proofs.Common.{◌≡◌, ◌<◌, ◌∙◌, None, false, length, map, string_bytes, sym, rules}
+use Rattle.std.proofs.Common.{◌≡◌, ◌<◌, ◌∙◌, None, ap, false, length, map, string_bytes, rules}
 use Rattle.std.specs.Prelude.{is_none}
 use Rattle.std.proofs.lemmas.Result.{on_ok_weaker}
+use Rattle.miette_readers.specs.rules.Settling.{with_row}
 use Rattle.miette_sarif_reader.specs.rules.Proposals.{help_row, offer_of}
 use Rattle.miette_sarif_reader.proofs.HelpSteps.{helped, offered, silent}
 use Rattle.miette_sarif_reader.proofs.proposals.push_help.Goals as goal
@@ -26,4 +27,7 @@ returns g c =
     let offer = offer_of (g.F.Files.found c.args.files.now) draft in
     let some : 0 < length draft.words = search rules in
     let none : offer ≡ None = search rules in
-    on_ok_weaker c.push_row.result (λ made. made ∙ helped offer rows draft.words some none) c.push_row.ensures
+    let words : c.as_str.result.now ≡ draft.words = search rules in
+    on_ok_weaker c.push_row.result
+    (λ made. made ∙ ap (with_row rows) words ∙ helped offer rows draft.words some none)
+    c.push_row.ensures

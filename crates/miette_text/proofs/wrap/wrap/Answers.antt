@@ -1,10 +1,9 @@
-use Rattle.std.proofs.Common.{◌≡◌, ◌∙◌, ◌++◌, ap, sym, true}
+use Rattle.std.proofs.Common.{◌∙◌, ◌++◌, ap, sym}
 use Rattle.std.proofs.lemmas.Result.{on_ok_weaker}
 use Rattle.std.proofs.lemmas.Str.{chars_from_encodes}
-use Rattle.miette_runs.specs.rules.Sequences.{spell, tokens}
+use Rattle.miette_runs.specs.rules.Sequences.{spell}
 use Rattle.miette_text.specs.rules.Wrapping.{wrapped_text}
-use Rattle.miette_text.specs.views.Plans.{printed_plan, runs_plan}
-use Rattle.miette_text.proofs.Simple.{wrapped-filled, wrapped-read}
+use Rattle.miette_text.specs.views.Plans.{printed_plan}
 use Rattle.miette_text.proofs.wrap.wrap.Goals as goal
 
 pub returns : goal.returns

@@ -1,4 +1,4 @@
-use Rattle.std.proofs.Common.{◌≡◌, ◌∙◌, ◌++◌, ap, chars, refl, sym}
+use Rattle.std.proofs.Common.{◌∙◌, ◌++◌, ap, chars, refl, sym}
 use Rattle.std.proofs.lemmas.Result.{on_ok_weaker}
 use Rattle.miette_runs.specs.rules.Sequences.{tokens}
 use Rattle.miette_text.specs.views.Plans.{printed_plan}

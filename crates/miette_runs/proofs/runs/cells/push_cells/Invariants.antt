@@ -4,9 +4,10 @@ use Rattle.miette_runs.specs.views.Interleaving.{cells_at, left_at}
 use Rattle.miette_runs.proofs.runs.cells.push_cells.Given as goal
 
 abbrev pub invariant-loop-n : goal.invariant-loop-n
-invariant-loop-n g l = record {
-  printed : g.S.Canvas.written l.out ++ piece_text (cells_at l.place (drop l.start l.codes) (drop l.n l.tags))
-      ≡ g.S.Canvas.written l.fn.out ++ piece_text (cells_at l.at l.codes l.tags);
-  left : left_at l.place (drop l.start l.codes) (drop l.n l.tags) ≡ left_at l.at l.codes l.tags;
-  inside : l.start < length l.codes;
-}
+invariant-loop-n g l =
+    let cs = g.C.Codes.codes l.codes in record {
+      printed : g.S.Canvas.written l.out ++ piece_text (cells_at l.place (drop l.start cs) (drop l.n l.tags))
+          ≡ g.S.Canvas.written l.fn.out ++ piece_text (cells_at l.at cs l.tags);
+      left : left_at l.place (drop l.start cs) (drop l.n l.tags) ≡ left_at l.at cs l.tags;
+      inside : l.start < length cs;
+    }

@@ -5,12 +5,13 @@ use Rattle.miette_text.proofs.BreakParts.{Walked}
 use Rattle.miette_text.proofs.wrap.breaks.word_len.Given as goal
 
 abbrev pub invariant-rest : goal.invariant-rest
-invariant-rest l = record {
-  walked : Walked l.fn.start (state_in l.place) l.i l.codes;
-  printed : l.is_printed ≡ true → all_printed (take l.i l.codes) ≡ true;
-  some : 0 < l.i;
-  within : l.i ≤ length l.codes;
-}
+invariant-rest g l =
+    let cs = g.C.Codes.codes l.codes in record {
+      walked : Walked l.fn.start (state_in l.place) l.i cs;
+      printed : l.is_printed ≡ true → all_printed (take l.i cs) ≡ true;
+      some : 0 < l.i;
+      within : l.i ≤ length cs;
+    }
 
 abbrev pub decreases-rest : goal.decreases-rest
-decreases-rest l = length l.codes - l.i
+decreases-rest g l = length (g.C.Codes.codes l.codes) - l.i

@@ -4,10 +4,11 @@ use Rattle.miette_runs.specs.steps.Cells.{plain_cells}
 use Rattle.miette_text.proofs.wrap.ends.bare_len.Given as goal
 
 abbrev pub invariant-rest : goal.invariant-rest
-invariant-rest l = record {
-  same : bare_len (plain_cells (take l.n l.row)) ≡ bare_len (plain_cells l.row);
-  within : l.n ≤ length l.row;
-}
+invariant-rest g l =
+    let cs = g.C.Codes.codes l.row in record {
+      same : bare_len (plain_cells (take l.n cs)) ≡ bare_len (plain_cells cs);
+      within : l.n ≤ length cs;
+    }
 
 abbrev pub decreases-rest : goal.decreases-rest
-decreases-rest l = l.n
+decreases-rest g l = l.n

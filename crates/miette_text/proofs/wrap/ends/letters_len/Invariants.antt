@@ -1,6 +1,13 @@
-use Rattle.std.proofs.Common.{◌≡◌, ◌+◌, drop}
+use Rattle.std.proofs.Common.{◌≡◌, ◌+◌, ◌-◌, ◌≤◌, drop, length}
 use Rattle.miette_text.specs.steps.Ends.{letters_len}
 use Rattle.miette_text.proofs.wrap.ends.letters_len.Given as goal
 
-abbrev pub invariant-loop-i : goal.invariant-loop-i
-invariant-loop-i l = letters_len l.codes ≡ l.i + letters_len (drop l.i l.codes)
+abbrev pub invariant-rest : goal.invariant-rest
+invariant-rest g l =
+    let cs = g.C.Codes.codes l.codes in record {
+      told : letters_len cs ≡ l.i + letters_len (drop l.i cs);
+      within : l.i ≤ length cs;
+    }
+
+abbrev pub decreases-rest : goal.decreases-rest
+decreases-rest g l = length (g.C.Codes.codes l.codes) - l.i

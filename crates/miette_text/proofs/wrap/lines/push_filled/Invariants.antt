@@ -9,13 +9,13 @@ abbrev pub invariant-rest : goal.invariant-rest
 invariant-rest g l = record {
   printed : g.S.Canvas.written l.out ++ text_of (word_cuts g.W.Words.separator l.cuts)
       (spell (interleaving 0 l.under.further.codes.now l.under.further.tags.now)) l.room l.under.further_room
-      (interleaving l.start (drop l.start l.text.codes.now) (drop l.used l.text.tags.now))
+      (interleaving l.start (drop l.start (g.C.Codes.codes l.text.codes)) (drop l.used l.text.tags.now))
       ≡ g.S.Canvas.written l.fn.out ++ text_of (word_cuts g.W.Words.separator l.cuts)
       (spell (interleaving 0 l.under.further.codes.now l.under.further.tags.now)) l.under.room l.under.further_room
-      (interleaving 0 l.text.codes.now l.text.tags.now);
-  within : l.start ≤ length l.text.codes.now;
+      (interleaving 0 (g.C.Codes.codes l.text.codes) l.text.tags.now);
+  within : l.start ≤ length (g.C.Codes.codes l.text.codes);
   marked : l.used ≤ length l.text.tags.now;
 }
 
 abbrev pub decreases-rest : goal.decreases-rest
-decreases-rest g l = length l.text.codes.now - l.start
+decreases-rest g l = length (g.C.Codes.codes l.text.codes) - l.start

@@ -11,15 +11,15 @@ invariant-rest g l =
     let cuts = word_cuts g.W.Words.separator l.cuts in
     let further = spell (interleaving 0 l.under.further.codes.now l.under.further.tags.now) in record {
       printed : g.S.Canvas.written l.out ++ rows_text (g.W.Words.left l.words cuts) further l.room
-          l.under.further_room l.start (drop l.start l.line.codes.now) (drop l.used l.line.tags.now)
+          l.under.further_room l.start (drop l.start (g.C.Codes.codes l.line.codes)) (drop l.used l.line.tags.now)
           ≡ g.S.Canvas.written l.fn.out ++ rows_text (cut_words cuts) further l.under.room l.under.further_room
-          l.first (drop l.first l.line.codes.now) l.line.tags.now;
-      left : left_at l.start (drop l.start l.line.codes.now) (drop l.used l.line.tags.now)
-          ≡ left_at l.first (drop l.first l.line.codes.now) l.line.tags.now;
-      fits : g.W.Words.fits l.words (drop l.start l.line.codes.now);
-      within : l.start ≤ length l.line.codes.now;
+          l.first (drop l.first (g.C.Codes.codes l.line.codes)) l.line.tags.now;
+      left : left_at l.start (drop l.start (g.C.Codes.codes l.line.codes)) (drop l.used l.line.tags.now)
+          ≡ left_at l.first (drop l.first (g.C.Codes.codes l.line.codes)) l.line.tags.now;
+      fits : g.W.Words.fits l.words (drop l.start (g.C.Codes.codes l.line.codes));
+      within : l.start ≤ length (g.C.Codes.codes l.line.codes);
       marked : l.used ≤ length l.line.tags.now;
     }
 
 abbrev pub decreases-rest : goal.decreases-rest
-decreases-rest g l = length l.line.codes.now - l.start
+decreases-rest g l = length (g.C.Codes.codes l.line.codes) - l.start

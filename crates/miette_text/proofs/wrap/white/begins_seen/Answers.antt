@@ -1,4 +1,4 @@
-use Rattle.std.proofs.Common.{◌≡◌, ◌∙◌, IsUtf8, ap, arith, chars, drop, get_or, subst, sym}
+use Rattle.std.proofs.Common.{◌∙◌, IsUtf8, ap, arith, chars, drop, get_or, subst, sym}
 use Rattle.std.proofs.lemmas.Bool.{leb-true}
 use Rattle.std.proofs.lemmas.List.{drop_more}
 use Rattle.miette_runs.specs.rules.Sequences.{tokens}

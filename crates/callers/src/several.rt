@@ -1,0 +1,28 @@
+//! Several reports in one log.
+
+ghost use Rattle.std.specs.Prelude.{◌≡◌, None, IfOk};
+ghost use Rattle.callers.specs.Logged.{both_rows};
+
+use miette::handlers::BriefReportHandler;
+use miette::print::Outputs;
+use miette::report::Report;
+use miette::reporter::{Form, Reporter};
+use miette_brief::laws::a_read_report_has_one_text;
+use std::alloc::{AllocError, Global};
+
+/// A run whose reports stand in a log, in rows as compilers write them.
+pub type Log = Reporter<BriefReportHandler, Vec<u8>, Vec<u8>>;
+
+/// A log of two reports: their rows, one behind the other, and nothing else, unless the run says
+/// why one isn't there.
+pub fn failed_twice(alloc: Global) -> Result<Log, AllocError>
+    ensures { IfOk result (λ log. log.failure ≡ None → log.outputs.writer.items ≡ both_rows) }
+{
+    a_read_report_has_one_text();
+    let full: Report = Report::msg(alloc, "the disk is full")?;
+    let host: Report = Report::msg(alloc, "no such host")?;
+    let outputs = Outputs::new(Vec::new(alloc), Vec::new(alloc));
+    let mut log = Reporter::with_handler(alloc, BriefReportHandler::new(), Form::Brief, outputs);
+    log.report_each(&[full, host]);
+    Ok(log)
+}
