@@ -22,7 +22,7 @@ use Rattle.miette_picture_rules.specs.rules.Snippets.{whole_drawing}
 use Rattle.miette_picture_rules.specs.rules.Text.{report_text}
 use Rattle.miette_picture_rules.specs.views.Handling.{Handling, draws_plain, without_highlighter}
 use Rattle.miette_runs.specs.rules.Sequences.{erase}
-use Rattle.miette_text.specs.rules.ColouredTexts.{AppendsErasing}
+use Rattle.miette_wrap_rules.specs.rules.ColouredTexts.{AppendsErasing}
 use Rattle.callers.specs.Known.{HasOwnMark, ShowsBothLines, TextHangs, in_colours, plain, warning_tree}
 use Rattle.miette_cells.specs.rules.Widths.{width_of}
 

@@ -9,7 +9,7 @@ use Rattle.miette_highlight.specs.rules.HighlighterCalls.{AnsweredBy, Call}
 use Rattle.miette_highlight.specs.rules.Pieces.{Piece, plain_pieces}
 use Rattle.miette_snippet_rules.specs.rules.Highlighting.{AreCallsOn, follows}
 use Rattle.miette_runs.specs.rules.Sequences.{erase}
-use Rattle.miette_text.specs.rules.ColouredTexts.{AppendsErasing}
+use Rattle.miette_wrap_rules.specs.rules.ColouredTexts.{AppendsErasing}
 use Rattle.miette_printed_laws.specs.laws.Clean.{AreCleanSettings, IsCleanTree}
 use Rattle.miette_printed_laws.specs.laws.Colourless.{IsColouredText, IsRestyledText, colourless}
 use Rattle.miette_printed_laws.specs.laws.Colourless.{unhighlighted_answers}

@@ -27,7 +27,7 @@ use Rattle.miette_picture_rules.specs.rules.Settings.{Settings}
 use Rattle.miette_picture_rules.specs.rules.Snippets.{whole_drawing, source_rows}
 use Rattle.miette_picture_rules.specs.rules.Sources.{LabelledSource}
 use Rattle.miette_picture_rules.specs.rules.Text.{report_text}
-use Rattle.miette_text.specs.laws.Tame.{IsTame}
+use Rattle.miette_wrap_rules.specs.laws.Tame.{IsTame}
 use Rattle.miette_picture_rules.specs.views.Handling.{Handling, draws_plain, without_highlighter}
 use Rattle.callers.specs.Sums.{CauseStands, CauseStays, EndStandsBehind, IsCut, IsLeftOut, RowsStand, narrow, sum_file}
 use Rattle.callers.specs.Sums.{sum_labels}

@@ -12,8 +12,8 @@ use Rattle.miette_snippet_rules.specs.rules.Settings.{SnippetSettings}
 use Rattle.miette_snippet_rules.specs.rules.SnippetLayout.{rows_of_labels}
 use Rattle.miette_style.specs.declared.theme.GraphicalTheme.{GraphicalTheme}
 use Rattle.miette_style.specs.rules.Themes.{theme_of}
-use Rattle.miette_text.specs.declared.wrap.WordSeparator.TheVariants.{AsciiSpace}
-use Rattle.miette_text.specs.rules.Wrapping.{Plan}
+use Rattle.miette_wrap_rules.specs.declared.options.WordSeparator.TheVariants.{AsciiSpace}
+use Rattle.miette_wrap_rules.specs.rules.Wrapping.{Plan}
 
 -- rows of this width, the first after `hint: `, the others below its text
 abbrev pub hint_plan : ℕ → Plan (List ℕ)

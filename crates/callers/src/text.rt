@@ -1,7 +1,7 @@
 //! A hint in rows.
 
 ghost use Rattle.std.specs.Prelude.{◌≡◌, ◌++◌, OnErr, OnOk, chars, encode_utf8_all, string_bytes};
-ghost use Rattle.miette_text.specs.rules.Wrapping.{wrapped_text};
+ghost use Rattle.miette_wrap_rules.specs.rules.Wrapping.{wrapped_text};
 ghost use Rattle.callers.specs.Rows.{hint_plan};
 
 use miette_text::wrap::{WordSeparator, WordSplitter, WrapOptions, fill};

@@ -13,7 +13,7 @@ use Rattle.miette_row_laws.specs.laws.Fading.{ArePlain}
 use Rattle.miette_style.specs.rules.Themes.{Styles}
 use Rattle.miette_printed_laws.specs.laws.Holding.{IsHoldingText}
 use Rattle.miette_runs.specs.rules.Sequences.{erase}
-use Rattle.miette_text.specs.rules.ColouredTexts.{AppendsErasing}
+use Rattle.miette_wrap_rules.specs.rules.ColouredTexts.{AppendsErasing}
 use Rattle.miette_tree.specs.rules.Tree.{Tree}
 use Rattle.miette_tree.specs.views.Handler.{AppendsOne}
 use Rattle.miette_printed_laws.proofs.Only.{only-text}

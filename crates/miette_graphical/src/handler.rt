@@ -11,7 +11,7 @@ mod rendering;
 use miette_highlight::highlight::Highlighter;
 use miette_picture_rules::settings::{Settings, UrlMode};
 use miette_style::theme::{GraphicalTheme, Terminal};
-use miette_text::wrap::{WordSeparator, WordSplitter};
+use miette_wrap_rules::options::{WordSeparator, WordSplitter};
 use std::alloc::{AllocError, Global};
 use std::marker::Model;
 

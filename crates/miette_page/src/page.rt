@@ -1,6 +1,7 @@
 //! Rows in the making, printed as they come.
 
-ghost use Rattle.std.specs.Prelude.{◌≡◌, ◌≤◌, ◌-◌, ◌∷◌, ◌++◌, [], chars, decimal, length, replicate, true, IfOk, IfSome};
+ghost use Rattle.std.specs.Prelude.{◌≡◌, ◌≤◌, ◌-◌, ◌∷◌, ◌++◌, [], chars, decimal, length, replicate, true, IfOk};
+ghost use Rattle.std.specs.Prelude.{IfSome};
 ghost use Rattle.std.specs.Prelude.{OnOk};
 ghost use Rattle.miette_page.specs.views.Printouts.{◌⊕◌, ended_text, printout_of, started_text};
 ghost use Rattle.miette_page.specs.views.Tokens.{begins, row_end, styled_tokens, text_tokens};

@@ -16,7 +16,7 @@ use crate::painter::Painter;
 use miette_picture_rules::settings::severity_style;
 use miette_protocol::protocol::{Diagnostic, Severity};
 use miette_protocol::source::SourceCode;
-use miette_text::runs::output::Output;
+use miette_runs::runs::output::Output;
 use miette_tree::parts::severity_title;
 use miette_tree::report::Report;
 use std::alloc::AllocError;

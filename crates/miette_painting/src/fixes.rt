@@ -21,7 +21,7 @@ use miette_layout::options::SnippetSettings;
 use miette_page::page::Page;
 use miette_protocol::protocol::{SourceOffset, SourceSpan};
 use miette_protocol::source::SourceCode;
-use miette_text::runs::output::Output;
+use miette_runs::runs::output::Output;
 use miette_tree::report::SourceRef;
 use std::alloc::AllocError;
 use std::mem;

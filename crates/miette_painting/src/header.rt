@@ -9,8 +9,8 @@ ghost use Rattle.miette_painting.specs.views.Painting.{PrintsOnly, settings_of};
 use crate::painter::Painter;
 use miette_page::page::PLAIN;
 use miette_picture_rules::settings::UrlMode;
+use miette_runs::runs::output::Output;
 use miette_style::style::Style;
-use miette_text::runs::output::Output;
 use std::alloc::AllocError;
 
 /// Ends the row, and leaves a blank one.

@@ -9,17 +9,18 @@ ghost use Rattle.miette_painting.specs.views.Painting.{PrintsOnly, settings_of};
 ghost use Rattle.miette_runs.specs.rules.Cells.{columns_of};
 ghost use Rattle.miette_runs.specs.rules.Runs.{Styled, print};
 ghost use Rattle.miette_runs.specs.rules.Sequences.{spell, tokens};
-ghost use Rattle.miette_text.specs.rules.Wrapping.{wrapped_text};
-ghost use Rattle.miette_text.specs.views.Plans.{cuts_hyphens, printed_plan};
+ghost use Rattle.miette_wrap_rules.specs.rules.Wrapping.{wrapped_text};
+ghost use Rattle.miette_wrap_rules.specs.views.Plans.{cuts_hyphens, printed_plan};
 
 use crate::painter::Painter;
 use miette_picture_rules::settings::{icon, severity_style};
 use miette_protocol::protocol::Severity;
-use miette_text::runs::Runs;
-use miette_text::runs::output::Output;
-use miette_text::runs::reading::columns_of;
-use miette_text::wrap::fitting::push_fitting;
-use miette_text::wrap::{Plan, cuts_hyphens, wrap, wrap_text};
+use miette_runs::runs::output::Output;
+use miette_runs::runs::reading::columns_of;
+use miette_runs::runs::Runs;
+use miette_wrap_rules::options::{Plan, cuts_hyphens};
+use miette_wrapping::wrap::fitting::push_fitting;
+use miette_wrapping::wrap::{wrap, wrap_text};
 use std::alloc::{AllocError, Global};
 
 /// How a cause or a nested report hangs under another one: in the style of that one's severity, and as the last one

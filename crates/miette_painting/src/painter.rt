@@ -1,7 +1,7 @@
 //! What prints the parts of a report.
 
 use miette_picture_rules::settings::Settings;
-use miette_text::runs::output::Output;
+use miette_runs::runs::output::Output;
 use std::alloc::Global;
 
 /// Prints the parts of a report, one after another. What stands under an arrow is printed by a painter of its own,

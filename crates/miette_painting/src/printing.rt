@@ -2,7 +2,7 @@
 
 ghost use Rattle.std.specs.Prelude.{◌≡◌, ◌++◌, OnErr, OnOk, encode_utf8_all, string_bytes};
 
-use miette_text::runs::output::Output;
+use miette_runs::runs::output::Output;
 use std::alloc::{AllocError, Global};
 
 // Appends a text, which takes the place of an empty one. An `Err` leaves the text before it as it was.

@@ -18,7 +18,7 @@ use miette_picture_rules::settings::Settings;
 use miette_protocol::error::RenderError;
 use miette_protocol::protocol::Diagnostic;
 use miette_protocol::source::SourceCode;
-use miette_text::runs::output::Output;
+use miette_runs::runs::output::Output;
 use miette_tree::report::Report;
 use std::alloc::Global;
 

@@ -10,7 +10,7 @@ use Rattle.miette_printed_laws.specs.laws.Holding.{Arrow, EndsRow, HoldsUnder, S
 use Rattle.miette_picture_rules.specs.rules.DiagnosticText.{line_feed, under_arrow}
 use Rattle.miette_picture_rules.specs.rules.Settings.{Settings}
 use Rattle.miette_picture_laws.proofs.Arrows.{inner-stand}
-use Rattle.miette_text.proofs.Feeds.{seen-behind, tokens-fed}
+use Rattle.miette_wrapping.proofs.Feeds.{seen-behind, tokens-fed}
 use Rattle.miette_printed_laws.proofs.Rows.{IsEnded, ended-rows, within-stands}
 
 -- ---- rows one after the other

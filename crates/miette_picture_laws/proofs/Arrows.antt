@@ -6,10 +6,10 @@ use Rattle.miette_runs.specs.rules.Cutting.{only_feeds, without_leading, without
 use Rattle.miette_runs.specs.rules.Runs.{Fragment, print}
 use Rattle.miette_runs.specs.rules.Sequences.{tokens}
 use Rattle.miette_picture_laws.specs.laws.FittingRows.{bare_row, fed_rows}
-use Rattle.miette_text.specs.rules.Wrapping.{Plan}
-use Rattle.miette_text.specs.views.Plans.{cuts_hyphens}
-use Rattle.miette_text.proofs.Feeds.{leading-kept, seen-behind, trailing-kept}
-use Rattle.miette_text.proofs.FittingRows.{first-wrapped, rows-wrapped}
+use Rattle.miette_wrap_rules.specs.rules.Wrapping.{Plan}
+use Rattle.miette_wrap_rules.specs.views.Plans.{cuts_hyphens}
+use Rattle.miette_wrapping.proofs.Feeds.{leading-kept, seen-behind, trailing-kept}
+use Rattle.miette_wrapping.proofs.FittingRows.{first-wrapped, rows-wrapped}
 use Rattle.miette_picture_rules.specs.rules.DiagnosticText.{line_feed, rows_text}
 use Rattle.miette_picture_rules.specs.rules.Indents.{arrow_indent, stem_indent}
 use Rattle.miette_picture_rules.specs.rules.Settings.{Settings}

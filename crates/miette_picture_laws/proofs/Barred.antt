@@ -15,12 +15,12 @@ use Rattle.miette_runs.specs.rules.Runs.{Styled, print, printed_run}
 use Rattle.miette_runs.specs.rules.Sequences.{Token, Character, Sequence, is_line_feed, spell, tokens}
 use Rattle.miette_runs.proofs.Parameters.{start_colour}
 use Rattle.miette_runs.proofs.Tokens.{nil_of, spell-tokens}
-use Rattle.miette_text.specs.laws.Tame.{Free, IsTame, state_behind}
-use Rattle.miette_text.specs.rules.Wrapping.{is_space, only_spaces, trimmed_row}
-use Rattle.miette_text.proofs.Erasing.{append-tame, tokens-append}
-use Rattle.miette_text.proofs.Parsing.{tokens-spell}
-use Rattle.miette_text.proofs.Printing.{print-tame}
-use Rattle.miette_text.proofs.TameResults.{alive, run-trimmed}
+use Rattle.miette_wrap_rules.specs.laws.Tame.{Free, IsTame, state_behind}
+use Rattle.miette_wrap_rules.specs.rules.Wrapping.{is_space, only_spaces, trimmed_row}
+use Rattle.miette_wrap_laws.proofs.Erasing.{append-tame, tokens-append}
+use Rattle.miette_wrap_laws.proofs.Parsing.{tokens-spell}
+use Rattle.miette_wrap_laws.proofs.Printing.{print-tame}
+use Rattle.miette_wrap_laws.proofs.TameResults.{alive, run-trimmed}
 use Rattle.miette_printed_laws.specs.laws.CharacterSets.{AreShipped}
 use Rattle.miette_picture_rules.specs.rules.Indents.{stem_indent}
 use Rattle.miette_picture_rules.specs.rules.Settings.{Settings, severity_style}

@@ -27,7 +27,7 @@ use Rattle.miette_picture_laws.specs.laws.Levels.{ends_related, settings_under}
 use Rattle.miette_picture_laws.proofs.ArrowRows.{IsSeen, fed-append, fed-ends, grouped, seen-above, seen-before}
 use Rattle.miette_picture_laws.proofs.ArrowRows.{seen-below}
 use Rattle.miette_picture_laws.proofs.Arrows.{arrow_plan, left-by, printed-rows}
-use Rattle.miette_text.proofs.FittingRows.{IsBehind, rows-wrapped}
+use Rattle.miette_wrapping.proofs.FittingRows.{IsBehind, rows-wrapped}
 use Rattle.miette_printed_laws.proofs.Rows.{bytes-stand, within-stands}
 
 -- ---- indents are to be seen, whatever stands behind them

@@ -49,7 +49,7 @@ ghost use Rattle.miette_cells.specs.rules.Widths.{width_of};
 
 use miette_highlight::highlight::Highlighter;
 use miette_printed_laws::laws::{colours_law, drawn_rows_law};
-use miette_text::wrap::laws::encoding_law;
+use miette_wrap_laws::laws::encoding_law;
 
 /// A text in plain styles is its own without colours: by the definition, where no line has a highlighter's pieces
 /// (`text`), and so each that a handler may print whose highlighter leaves lines plain (`printed`). The styles of the

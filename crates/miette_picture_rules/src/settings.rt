@@ -9,7 +9,7 @@ use miette_layout::options::LayoutOptions;
 use miette_protocol::protocol::Severity;
 use miette_style::style::Style;
 use miette_style::theme::GraphicalTheme;
-use miette_text::wrap::{WordSeparator, WordSplitter};
+use miette_wrap_rules::options::{WordSeparator, WordSplitter};
 
 /// What a url becomes.
 #[derive(Clone, Copy, Debug, PartialEq, Eq)]

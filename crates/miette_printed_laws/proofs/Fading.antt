@@ -1,12 +1,12 @@
 -- Texts that are tame, and the same texts without their colours.
 use Rattle.std.proofs.Common.{◌≡◌, ℕ, ◌-◌, Bool, true, false, List, [], ◌∷◌, ◌++◌, map, refl, sym, ap, ap₂, ◌∙◌}
 use Rattle.std.proofs.Common.{if◌then◌else◌}
-use Rattle.miette_text.specs.views.Plans.{cuts_hyphens}
+use Rattle.miette_wrap_rules.specs.views.Plans.{cuts_hyphens}
 use Rattle.miette_runs.specs.rules.Sequences.{tokens, erase}
-use Rattle.miette_text.specs.laws.Tame.{IsTame, AllTame}
+use Rattle.miette_wrap_rules.specs.laws.Tame.{IsTame, AllTame}
 use Rattle.miette_runs.specs.rules.Runs.{Fragment, HaveNoEscape, plain_run, print}
 use Rattle.miette_runs.specs.rules.Cutting.{without_leading, without_trailing}
-use Rattle.miette_text.specs.rules.Wrapping.{Plan, wrapped_text}
+use Rattle.miette_wrap_rules.specs.rules.Wrapping.{Plan, wrapped_text}
 use Rattle.miette_runs.specs.rules.Cells.{columns_of}
 use Rattle.miette_printed_laws.proofs.TextLaws.{TextLaws, plain-tame, plain-erase}
 use Rattle.miette_picture_rules.specs.rules.Settings.{Settings}

@@ -1,13 +1,13 @@
 -- What the layer of texts promises of deleting colours: the clauses of its laws, gathered.
 use Rattle.std.proofs.Common.{◌≡◌, ℕ, true, List, [], ◌∷◌, ◌++◌, map, refl, ap, ◌∙◌, sym, subst}
 use Rattle.miette_runs.specs.rules.Sequences.{tokens, erase}
-use Rattle.miette_text.specs.laws.Tame.{IsTame, AllTame}
+use Rattle.miette_wrap_rules.specs.laws.Tame.{IsTame, AllTame}
 use Rattle.miette_style.specs.rules.Escapes.{no_escape}
-use Rattle.miette_text.specs.rules.ColouredTexts as coloured
+use Rattle.miette_wrap_rules.specs.rules.ColouredTexts as coloured
 use Rattle.miette_runs.specs.rules.Runs.{Fragment, Styled, HaveNoEscape, plain_run, print}
 use Rattle.miette_style.specs.rules.Styles.{plain}
 use Rattle.miette_runs.specs.rules.Cutting.{without_leading, without_trailing}
-use Rattle.miette_text.specs.rules.Wrapping.{Plan, wrapped_text}
+use Rattle.miette_wrap_rules.specs.rules.Wrapping.{Plan, wrapped_text}
 use Rattle.miette_runs.specs.rules.Cells.{columns_of}
 
 pub record TextLaws : Type 0 where

@@ -22,7 +22,7 @@ ghost use Rattle.miette_picture_rules.specs.rules.Text.{report_text};
 ghost use Rattle.miette_tree.specs.rules.Tree.{Tree};
 ghost use Rattle.miette_style.specs.rules.Themes.{Styles};
 ghost use Rattle.miette_runs.specs.rules.Sequences.{erase};
-ghost use Rattle.miette_text.specs.laws.Tame.{IsTame};
+ghost use Rattle.miette_wrap_rules.specs.laws.Tame.{IsTame};
 
 use miette_diff_laws::laws::{
     a_diff_has_the_applied_text, a_diff_has_the_source, changes_are_trimmed, frames_stand_in_a_diff,
@@ -34,7 +34,7 @@ use miette_layout::laws::{
     marks_stand_on_their_characters, ranges_are_maximal, ranges_end_kept, rows_fade,
     rows_hold_no_escape, short_labels_stay, snippets_draw_ranges, texts_hang, wide_lines_are_cut,
 };
-use miette_text::wrap::laws::{
+use miette_wrap_laws::laws::{
     columns_law, cutting_law, encoding_law, joining_law, printing_law, wrapping_law,
 };
 

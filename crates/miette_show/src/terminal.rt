@@ -4,7 +4,8 @@ ghost use Rattle.std.specs.Prelude.{◌≡◌, ◌++◌, ◌∷◌, [], IfOk, On
 ghost use Rattle.miette.specs.declared.terminal.Variables.{Variables};
 ghost use Rattle.miette.specs.rules.Detection.{IsDetected, IsToldBy};
 ghost use Rattle.miette_style.specs.declared.theme.Terminal.{Terminal};
-ghost use Rattle.miette_show.specs.rules.TerminalWords.{answer, color_name, graphics_words, terminal_words, width_words};
+ghost use Rattle.miette_show.specs.rules.TerminalWords.{answer, color_name, graphics_words, terminal_words};
+ghost use Rattle.miette_show.specs.rules.TerminalWords.{width_words};
 
 use miette::terminal::{Lookup, Stream, Streams, detect};
 use miette::theme::Terminal;

@@ -21,10 +21,10 @@ use Rattle.miette_line_breaks.specs.steps.States.{break_in, state_behind, state_
 use Rattle.miette_line_breaks.proofs.AsciiClasses.{ascii-property, same_class}
 use Rattle.miette_line_breaks.proofs.States.{break-is, state-step}
 use Rattle.miette_runs.specs.rules.Cells.{Cell}
-use Rattle.miette_text.specs.declared.wrap.WordSeparator.TheVariants.{AsciiSpace, UnicodeBreakProperties}
+use Rattle.miette_wrap_rules.specs.declared.options.WordSeparator.TheVariants.{AsciiSpace, UnicodeBreakProperties}
 use Rattle.miette_word_laws.specs.laws.PlainWords.{is_plain, is_plain_text, is_point, plain_behind}
-use Rattle.miette_text.specs.rules.Wrapping.{ends_word, is_hyphen, is_space, pieces, starts_word, word_of, words}
-use Rattle.miette_text.specs.steps.Ends.{codes_of}
+use Rattle.miette_wrap_rules.specs.rules.Wrapping.{ends_word, is_hyphen, is_space, pieces, starts_word, word_of, words}
+use Rattle.miette_wrapping.specs.steps.Ends.{codes_of}
 
 -- ---- what such characters are to the rules
 

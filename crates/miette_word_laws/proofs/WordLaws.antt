@@ -15,8 +15,8 @@ use Rattle.miette_line_breaks.specs.rules.Classes.{is_line_feed, is_mark, is_non
 use Rattle.miette_line_breaks.specs.rules.Classes.{is_regional, is_space, is_word_joiner, is_zero_width_space}
 use Rattle.miette_line_breaks.specs.rules.Rules.{bases, between, ends_in_half_flag, ends_joined, keeps, keeps_beside}
 use Rattle.miette_line_breaks.specs.rules.Rules.{break_before, nearest_is, past_spaces, takes_marks}
-use Rattle.miette_text.specs.declared.wrap.WordSeparator.TheVariants.{UnicodeBreakProperties}
-use Rattle.miette_text.specs.rules.Wrapping.{is_hyphen, starts_word}
+use Rattle.miette_wrap_rules.specs.declared.options.WordSeparator.TheVariants.{UnicodeBreakProperties}
+use Rattle.miette_wrap_rules.specs.rules.Wrapping.{is_hyphen, starts_word}
 
 -- ---- what is decided between two characters
 

@@ -7,9 +7,10 @@ ghost use Rattle.miette_line_breaks.specs.rules.Classes.{is_zero_width_space};
 ghost use Rattle.miette_line_breaks.specs.rules.Rules.{bases, ends_in_half_flag, nearest_is, past_spaces};
 ghost use Rattle.miette_line_breaks.specs.rules.Rules.{takes_marks};
 ghost use Rattle.miette_word_laws.specs.laws.PlainWords.{is_plain_text};
-ghost use Rattle.miette_text.specs.declared.wrap.WordSeparator.TheVariants.{AsciiSpace, UnicodeBreakProperties};
-ghost use Rattle.miette_text.specs.rules.Wrapping.{starts_word, words};
-ghost use Rattle.miette_text.specs.steps.Ends.{codes_of};
+ghost use Rattle.miette_wrap_rules.specs.declared.options.WordSeparator.TheVariants.{AsciiSpace};
+ghost use Rattle.miette_wrap_rules.specs.declared.options.WordSeparator.TheVariants.{UnicodeBreakProperties};
+ghost use Rattle.miette_wrap_rules.specs.rules.Wrapping.{starts_word, words};
+ghost use Rattle.miette_wrapping.specs.steps.Ends.{codes_of};
 ghost use Rattle.miette_runs.specs.rules.Cells.{Cell};
 
 /// Where no word begins by the rules of Unicode: with a mark, but behind a space, a zero width space or what ends a

@@ -23,7 +23,7 @@ ghost use Rattle.miette_highlight.specs.rules.HighlighterCalls.{AnsweredBy, Call
 ghost use Rattle.miette_highlight.specs.rules.Pieces.{Piece};
 ghost use Rattle.miette_runs.specs.rules.Sequences.{erase};
 ghost use Rattle.miette_style.specs.rules.Themes.{Styles};
-ghost use Rattle.miette_text.specs.rules.ColouredTexts.{AppendsErasing};
+ghost use Rattle.miette_wrap_rules.specs.rules.ColouredTexts.{AppendsErasing};
 
 use crate::handler::GraphicalReportHandler;
 use miette_highlight::highlight::Highlighter;

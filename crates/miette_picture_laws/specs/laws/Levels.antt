@@ -5,8 +5,8 @@ use Rattle.miette_style.specs.rules.Escapes.{is_escape}
 use Rattle.miette_runs.specs.rules.Cutting.{only_feeds}
 use Rattle.miette_runs.specs.rules.Runs.{print}
 use Rattle.miette_runs.specs.rules.Sequences.{tokens}
-use Rattle.miette_text.specs.laws.Tame.{IsTame}
-use Rattle.miette_text.specs.rules.Wrapping.{only_spaces}
+use Rattle.miette_wrap_rules.specs.laws.Tame.{IsTame}
+use Rattle.miette_wrap_rules.specs.rules.Wrapping.{only_spaces}
 use Rattle.miette_tree.specs.rules.Tree.{Tree}
 use Rattle.miette_picture_rules.specs.rules.Answers.{Answers}
 use Rattle.miette_picture_rules.specs.rules.DiagnosticText.{Drawing}

@@ -1,10 +1,10 @@
 -- What stands in front of rows, in runs, and text that is wrapped under it.
 use Rattle.std.specs.Prelude.{ℕ, ◌-◌, Bool, true, false, List, [], ◌∷◌, ◌++◌, codes, replicate, Option}
-use Rattle.miette_text.specs.views.Plans.{cuts_hyphens}
+use Rattle.miette_wrap_rules.specs.views.Plans.{cuts_hyphens}
 use Rattle.miette_runs.specs.rules.Runs.{Fragment, Styled, print}
 use Rattle.miette_style.specs.rules.Styles.{plain}
 use Rattle.miette_runs.specs.rules.Sequences.{tokens}
-use Rattle.miette_text.specs.rules.Wrapping.{wrapped_text}
+use Rattle.miette_wrap_rules.specs.rules.Wrapping.{wrapped_text}
 use Rattle.miette_runs.specs.rules.Cells.{columns_of}
 use Rattle.miette_protocol.specs.declared.protocol.Severity.{Severity}
 use Rattle.miette_picture_rules.specs.rules.Settings.{Settings, icon, severity_style}

@@ -6,8 +6,8 @@ use Rattle.miette_snippet_rules.specs.declared.options.LayoutOptions.{LayoutOpti
 use Rattle.miette_snippet_rules.specs.rules.Defaults.{default_layout}
 use Rattle.miette_style.specs.rules.Themes.{Characters, Styles, Theme}
 use Rattle.miette_style.specs.declared.style.Style.{Style}
-use Rattle.miette_text.specs.declared.wrap.WordSeparator.TheVariants.{AsciiSpace}
-use Rattle.miette_text.specs.declared.wrap.WordSplitter.TheVariants.{HyphenSplitter}
+use Rattle.miette_wrap_rules.specs.declared.options.WordSeparator.TheVariants.{AsciiSpace}
+use Rattle.miette_wrap_rules.specs.declared.options.WordSplitter.TheVariants.{HyphenSplitter}
 use Rattle.miette_picture_rules.specs.declared.settings.UrlMode.{UrlMode}
 use Rattle.miette_picture_rules.specs.declared.settings.UrlMode.TheVariants.{Links, Text, Hidden}
 use Rattle.miette_picture_rules.specs.declared.settings.Wrapping.{Wrapping}

@@ -6,10 +6,10 @@ use Rattle.std.specs.Str.{all_ascii_digits}
 use Rattle.std.specs.Str.Parse.{digits_value}
 use Rattle.miette_style.specs.rules.Themes.{Theme, ansi_styles, ascii_characters, no_styles, unicode_characters}
 use Rattle.miette_style.specs.declared.theme.Terminal.{Terminal}
-use Rattle.miette_text.specs.declared.wrap.WordSeparator.{WordSeparator}
-use Rattle.miette_text.specs.declared.wrap.WordSeparator.TheVariants.{AsciiSpace, UnicodeBreakProperties}
-use Rattle.miette_text.specs.declared.wrap.WordSplitter.{WordSplitter}
-use Rattle.miette_text.specs.declared.wrap.WordSplitter.TheVariants.{HyphenSplitter, NoHyphenation}
+use Rattle.miette_wrap_rules.specs.declared.options.WordSeparator.{WordSeparator}
+use Rattle.miette_wrap_rules.specs.declared.options.WordSeparator.TheVariants.{AsciiSpace, UnicodeBreakProperties}
+use Rattle.miette_wrap_rules.specs.declared.options.WordSplitter.{WordSplitter}
+use Rattle.miette_wrap_rules.specs.declared.options.WordSplitter.TheVariants.{HyphenSplitter, NoHyphenation}
 use Rattle.miette.specs.rules.Options.{Options, no_options}
 use Rattle.miette_brief.specs.declared.form.Form.TheVariants.{Gcc, Github}
 use Rattle.miette.specs.declared.options.builder.RgbColors.{RgbColors}

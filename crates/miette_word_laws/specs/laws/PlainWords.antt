@@ -1,7 +1,7 @@
 -- Texts of which both separators give the same words.
 use Rattle.std.specs.Prelude.{ℕ, Bool, true, not, ◌&&◌, ◌||◌, ◌==◌, List, [], ◌∷◌}
 use Rattle.std.specs.List.{list_any}
-use Rattle.miette_text.specs.rules.Wrapping.{is_alphanumeric, is_space}
+use Rattle.miette_wrap_rules.specs.rules.Wrapping.{is_alphanumeric, is_space}
 
 -- `# & * < = > @ ^ _ ~ - " '` and the backquote
 abbrev pub signs : List ℕ

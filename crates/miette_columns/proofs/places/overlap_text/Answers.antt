@@ -3,11 +3,8 @@ use Rattle.std.specs.Prelude.{chars}
 use Rattle.std.proofs.lemmas.Str.{IsUtf8-string_bytes}
 use Rattle.miette_columns.specs.steps.Places.{overlap_text}
 use Rattle.miette_columns.proofs.Columning.{none_held_text, one_held_text, two_held_text}
-use Rattle.miette_columns.proofs.places.overlap_text.Goals.{
-  in-Nothing,
-  in-One+in_ok-push-in-One,
-  in-Selected+in_ok-push-in-Selected+in_ok-push-in-Selected-2,
-}
+use Rattle.miette_columns.proofs.places.overlap_text.Goals.{in-Nothing, in-One+in_ok-push-in-One}
+use Rattle.miette_columns.proofs.places.overlap_text.Goals.{in-Selected+in_ok-push-in-Selected+in_ok-push-in-Selected-2}
 use Rattle.miette_columns.proofs.places.overlap_text.Goals as goal
 
 pub returns : goal.returns

@@ -1,6 +1,6 @@
 use Rattle.std.proofs.Common.{rules, ◌≡◌, ◌++◌, ◌∷◌, [], ◌∙◌, ap, sym, refl, true, ◌-◌, append_assoc}
 use Rattle.std.specs.Prelude.{chars}
-use Rattle.miette_text.specs.views.Plans.{cuts_hyphens}
+use Rattle.miette_wrap_rules.specs.views.Plans.{cuts_hyphens}
 use Rattle.miette_runs.specs.rules.Sequences.{spell}
 use Rattle.miette_painting.specs.views.Painting.{settings_of}
 use Rattle.miette_picture_rules.specs.rules.Indents.{wrapped_behind}

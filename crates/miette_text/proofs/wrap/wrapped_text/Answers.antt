@@ -1,9 +1,9 @@
 use Rattle.std.proofs.Common.{◌∙◌, ◌++◌, Bool, List, ℕ, ap, chars, refl, string_bytes}
 use Rattle.miette_runs.specs.rules.Sequences.{tokens}
 use Rattle.miette_runs.proofs.Outputs.{printed-bytes}
-use Rattle.miette_text.specs.rules.Wrapping.{Plan, wrapped_text}
-use Rattle.miette_text.specs.views.Plans.{options_plan}
-use Rattle.miette_text.proofs.Simple.{wrapped-read}
+use Rattle.miette_wrap_rules.specs.rules.Wrapping.{Plan, wrapped_text}
+use Rattle.miette_wrap_rules.specs.views.Plans.{options_plan}
+use Rattle.miette_wrap_rules.proofs.Simple.{wrapped-read}
 use Rattle.miette_text.proofs.wrap.wrapped_text.Goals as goal
 
 pub returns : goal.returns

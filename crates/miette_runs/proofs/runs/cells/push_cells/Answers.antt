@@ -2,7 +2,8 @@ use Rattle.std.proofs.Common.{◌≡◌, ◌∙◌, ◌<◌, ◌≤◌, ◌++◌
 use Rattle.std.proofs.lemmas.List.{drop_all}
 use Rattle.miette_runs.specs.rules.Cells.{piece_text}
 use Rattle.miette_runs.specs.views.Interleaving.{cells_at, left_at}
-use Rattle.miette_runs.proofs.Weaving.{left-empty, left-none, left-rest, left-step, text-empty, text-none, text-rest, text-step}
+use Rattle.miette_runs.proofs.Weaving.{left-empty, left-none, left-rest, left-step, text-empty, text-none, text-rest}
+use Rattle.miette_runs.proofs.Weaving.{text-step}
 use Rattle.miette_runs.proofs.runs.cells.push_cells.Goals as goal
 
 pub returns-then-many-eq0-clause-text : goal.returns-then-many-eq0-clause-text

@@ -1,0 +1,10 @@
+pub mod ErasedTokens
+pub mod Parsing
+pub mod RowEnds
+pub mod TameResults
+pub mod Commuting
+pub mod Erasing
+pub mod Printing
+pub mod Cuts
+pub mod Encoding
+pub mod FilledColours

@@ -1,0 +1,4 @@
+//! What holds of the rules of wrapping.
+#![tactic(auto)]
+
+pub mod laws;

@@ -1,0 +1,4 @@
+pub mod Simple
+pub mod Unique
+pub mod ColouredTexts
+pub mod KeptCells

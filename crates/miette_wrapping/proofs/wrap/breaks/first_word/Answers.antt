@@ -1,0 +1,67 @@
+use Rattle.std.proofs.Common.{◌<◌, ◌≤◌, ◌-◌, ◌∙◌, ℕ, ap, arith, length}
+use Rattle.std.proofs.lemmas.List.{length-take}
+use Rattle.miette_runs.specs.steps.Cells.{plain_cells}
+use Rattle.miette_wrapping.specs.steps.Ends.{bare_len}
+use Rattle.miette_wrapping.proofs.BreakParts.{begun, first-left, first-spaces, not-done}
+use Rattle.miette_wrapping.proofs.BreakWords.{piece-some}
+use Rattle.miette_wrapping.proofs.PrintedRuns.{printed-fewer}
+use Rattle.miette_wrapping.proofs.wrap.breaks.first_word.Goals as goal
+
+pub returns-clause-left : goal.returns-clause-left
+returns-clause-left g c = λ cuts cells q.
+    let codes = g.C.Codes.codes c.args.codes in
+    let k = c.word_len-len.result.0 in
+    let b = c.bare_len-letters.result in
+    let some : 0 < k = omega (arith, c.word_len-len.ensures.len, piece-some c.args.start codes c.requires) in
+    let within : b ≤ k = omega (
+      arith,
+      c.bare_len-letters.ensures.within,
+      ap length c.front.ensures,
+      length-take {A = ℕ} k codes,
+    ) in
+    first-left cuts c.args.start c.word_len-len.result.1 k b cells codes q c.requires c.word_len-len.ensures.len some
+    within c.word_len-len.ensures.state
+    (c.bare_len-letters.ensures.value ∙ ap (λ xs. bare_len (plain_cells xs)) c.front.ensures)
+
+pub returns-clause-fits : goal.returns-clause-fits
+returns-clause-fits g c =
+    let codes = g.C.Codes.codes c.args.codes in
+    let k = c.word_len-len.result.0 in
+    let b = c.bare_len-letters.result in
+    let within : b ≤ k = omega (
+      arith,
+      c.bare_len-letters.ensures.within,
+      ap length c.front.ensures,
+      length-take {A = ℕ} k codes,
+    ) in (
+      omega (arith, c.word_len-len.ensures.within),
+      first-spaces k b codes c.word_len-len.ensures.within within
+          (c.bare_len-letters.ensures.value ∙ ap (λ xs. bare_len (plain_cells xs)) c.front.ensures),
+    )
+
+pub returns-clause-some : goal.returns-clause-some
+returns-clause-some g c =
+    let codes = g.C.Codes.codes c.args.codes in
+    let k = c.word_len-len.result.0 in
+    let b = c.bare_len-letters.result in
+    let some : 0 < k = omega (arith, c.word_len-len.ensures.len, piece-some c.args.start codes c.requires) in
+    let within : b ≤ k = omega (
+      arith,
+      c.bare_len-letters.ensures.within,
+      ap length c.front.ensures,
+      length-take {A = ℕ} k codes,
+    ) in
+    not-done (begun b (k - b) c.word_len-len.result.1) (omega arith)
+
+pub returns-clause-printed : goal.returns-clause-printed
+returns-clause-printed g c = λ h.
+    let codes = g.C.Codes.codes c.args.codes in
+    let k = c.word_len-len.result.0 in
+    let b = c.bare_len-letters.result in
+    let within : b ≤ k = omega (
+      arith,
+      c.bare_len-letters.ensures.within,
+      ap length c.front.ensures,
+      length-take {A = ℕ} k codes,
+    ) in
+    printed-fewer b k codes within (c.word_len-len.ensures.printed h)

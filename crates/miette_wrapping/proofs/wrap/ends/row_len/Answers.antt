@@ -1,0 +1,82 @@
+use Rattle.std.proofs.Common.{◌≡◌, ◌∙◌, ◌+◌, ◌&&◌, nat_lt, true, false, length, length-drop, drop, drop-drop}
+use Rattle.std.proofs.Common.{sym, ap, arith, subst, take}
+use Rattle.std.proofs.lemmas.Bool.Decides.{nat_tests}
+use Rattle.miette_runs.specs.steps.Cells.{code_columns}
+use Rattle.miette_wrapping.specs.views.Cutting.{word_cuts}
+use Rattle.miette_wrapping.proofs.FirstRow.{part-here, row-ends, row-fits, row-whole}
+use Rattle.miette_wrapping.proofs.wrap.ends.row_len.Goals as goal
+use Rattle.miette_wrapping.proofs.wrap.ends.row_len.Goals.{else-end-gt0-via-then-end-gt0+else-room-wide}
+use Rattle.miette_wrapping.proofs.wrap.ends.row_len.Goals.{else-end-gt0-via-else-end-gt0}
+
+pub part-requires-clause-fits : goal.part-requires-clause-fits
+part-requires-clause-fits g c = subst (λ xs. g.W.Words.fits c.rest.words xs) (sym c.from.ensures)
+    c.rest.invariant.fits
+
+pub part-requires-clause-some : goal.part-requires-clause-some
+part-requires-clause-some g c = omega (
+  arith,
+  ap length c.from.ensures,
+  length-drop c.rest.end (g.C.Codes.codes c.args.codes),
+  c.count-n.ensures,
+  c.rest-test.true,
+)
+
+pub returns-then-room-wide-clause-value : goal.returns-then-room-wide-clause-value
+returns-then-room-wide-clause-value g c = λ cells further e.
+    let cuts = word_cuts g.W.Words.separator c.args.cuts in
+    let cs = g.C.Codes.codes c.args.codes in
+    let s = c.rest.end in
+    let n = c.in_ok-part.part.letters.len in
+    let left = g.W.Words.left c.rest.words cuts in
+    let behind = g.W.Words.left c.in_ok-part.behind cuts in
+    let w : c.in_ok-wide.wide ≡ c.rest.used + code_columns (take n (drop s cs)) = c.in_ok-wide.ensures
+    ∙ ap (λ k. c.rest.used + k) (c.in_ok-part.ensures.columns
+    ∙ ap (λ xs. code_columns (take n xs)) c.from.ensures) in
+    let t : (nat_lt 0 s && nat_lt c.args.room c.in_ok-wide.wide) ≡ true =
+    (let a = c.if-end-gt0.true in let b = c.if-room-wide.true in grind (arith, nat_tests)) in
+    row-ends (g.W.Words.left c.args.first cuts) left behind c.args.room further s n c.in_ok-part.part.spaces
+    c.rest.used c.in_ok-wide.wide cells cs e (omega (arith, c.count-n.ensures, c.rest-test.true))
+    (part-here left behind s n c.in_ok-part.part.spaces cs (g.C.Codes.codes c.from.result) c.from.ensures
+    c.in_ok-part.ensures.is) w t
+    (c.rest.invariant.packed cells further e)
+
+pub rest-preserved : goal.rest-preserved
+rest-preserved g c =
+    let cuts = word_cuts g.W.Words.separator c.args.cuts in
+    let cs = g.C.Codes.codes c.args.codes in
+    let s = c.rest.end in
+    let n = c.in_ok-part.part.letters.len in
+    let m = c.in_ok-part.part.spaces in
+    let left = g.W.Words.left c.rest.words cuts in
+    let behind = g.W.Words.left c.in_ok-part.behind cuts in
+    let w : c.in_ok-wide.wide ≡ c.rest.used + code_columns (take n (drop s cs)) = c.in_ok-wide.ensures
+    ∙ ap (λ k. c.rest.used + k) (c.in_ok-part.ensures.columns
+    ∙ ap (λ xs. code_columns (take n xs)) c.from.ensures) in
+    let gap : code_columns (take m (drop n (drop s cs))) ≡ m =
+    ap (λ xs. code_columns (take m (drop n xs))) (sym c.from.ensures) ∙ c.in_ok-part.ensures.gap in
+    let t : (nat_lt 0 s && nat_lt c.args.room c.in_ok-wide.wide) ≡ false =
+    elim c.else-end-gt0.branch [
+      | else-end-gt0-via-then-end-gt0+else-room-wide v ↦
+          (let a = v.if-room-wide.false in grind (arith, nat_tests))
+      | else-end-gt0-via-else-end-gt0 v ↦
+          (let a = v.if-end-gt0.false in grind (arith, nat_tests))
+    ] in
+    record {
+      packed = λ cells further e.
+          c.rest.invariant.packed cells further e
+          ∙ row-fits left behind c.args.room further s n m c.rest.used c.in_ok-wide.wide c.in_ok-used.used cells cs e
+          (part-here left behind s n m cs (g.C.Codes.codes c.from.result) c.from.ensures c.in_ok-part.ensures.is)
+          gap w t c.in_ok-used.ensures c.in_ok-part.ensures.some;
+      fits = subst (λ xs. g.W.Words.fits c.in_ok-part.behind xs)
+          (ap (drop (n + m)) c.from.ensures ∙ drop-drop (n + m) s cs ∙ ap (λ k. drop k cs) (omega arith))
+          c.in_ok-part.ensures.fits;
+      within = omega (arith, c.in_ok-part.ensures.within, ap length c.from.ensures, length-drop s cs);
+    }
+
+pub returns-clause-value : goal.returns-clause-value
+returns-clause-value g c = λ cells further e.
+    let cuts = word_cuts g.W.Words.separator c.args.cuts in
+    row-whole (g.W.Words.left c.args.first cuts) (g.W.Words.left c.rest.words cuts) c.args.room further c.rest.end
+    c.rest.used cells (g.C.Codes.codes c.args.codes) (g.met.W.Words.nothing c.rest.words cuts) e
+    (omega (arith, c.count-n.ensures, c.rest-test.false))
+    (c.rest.invariant.packed cells further e)

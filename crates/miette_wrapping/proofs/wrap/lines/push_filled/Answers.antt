@@ -1,0 +1,115 @@
+use Rattle.std.proofs.Common.{◌≡◌, ◌∙◌, ◌+◌, ◌<◌, ◌++◌, ap, arith, drop, length, length-drop, length-take, sym}
+use Rattle.std.proofs.lemmas.List.{take_rest}
+use Rattle.miette_runs.specs.views.Interleaving.{interleaving, left_at}
+use Rattle.miette_wrapping.proofs.Filling.{codes_of_row, last-filled, line_rows, next-filled, tags_from}
+use Rattle.miette_wrapping.proofs.Joining.{text-printed}
+use Rattle.miette_wrap_rules.specs.rules.Wrapping.{text_lines}
+use Rattle.miette_wrapping.specs.steps.Ends.{line_len}
+use Rattle.miette_wrapping.specs.views.Cutting.{word_cuts}
+use Rattle.miette_wrapping.proofs.wrap.lines.push_filled.Goals as goal
+
+pub overflow_add-end : goal.overflow_add-end
+overflow_add-end g c = omega (
+  arith,
+  c.line_len-n.ensures.within,
+  ap length c.from.ensures,
+  length-drop c.rest.start (g.C.Codes.codes c.args.text.codes),
+  c.count-all.ensures,
+  c.rest.invariant.within,
+)
+
+pub front-requires : goal.front-requires
+front-requires g c = omega (
+  arith,
+  c.line_len-n.ensures.within,
+  ap length c.from.ensures,
+  length-drop c.rest.start (g.C.Codes.codes c.args.text.codes),
+  c.rest.invariant.within,
+)
+
+pub push_rows-requires : goal.push_rows-requires
+push_rows-requires g c =
+    let cs = g.C.Codes.codes c.args.text.codes in
+    omega (
+      arith,
+      c.line_len-n.ensures.within,
+      ap length c.from.ensures,
+      length-drop c.rest.start cs,
+      c.rest.invariant.within,
+      ap length c.front.ensures,
+      length-take (c.rest.start + c.line_len-n.result) cs,
+    )
+
+pub returns-then-end-all : goal.returns-then-end-all
+returns-then-end-all g c =
+    let under = c.args.under in
+    let indent = interleaving 0 under.further.codes.now under.further.tags.now in
+    let cs = g.C.Codes.codes c.args.text.codes in
+    let all = c.args.text.tags.now in
+    let cuts = word_cuts g.W.Words.separator c.args.cuts in
+    let s = c.rest.start in
+    let n = c.line_len-n.result in
+    let k = c.rest.used in
+    let m = c.in_ok-inside.inside in
+    let o = g.S.Canvas.written c.rest.out in
+    let is : n ≡ line_len (drop s cs) = c.line_len-n.ensures.value ∙ ap line_len c.from.ensures in
+    let rows : g.S.Canvas.written c.push_rows.new.out ≡ o ++ line_rows cuts indent c.rest.room under.further_room s
+    (codes_of_row s n cs) (tags_from k all) = c.in_ok-inside.ensures.text
+    ∙ ap (λ xs. o ++ line_rows cuts indent c.rest.room under.further_room s (drop s xs) (tags_from k all))
+    c.front.ensures in
+    let left : drop m (tags_from k all) ≡ left_at s (codes_of_row s n cs) (tags_from k all) =
+    c.in_ok-inside.ensures.left ∙ ap (λ xs. left_at s (drop s xs) (tags_from k all)) c.front.ensures in
+    last-filled cuts indent c.rest.room under.further_room s n k m cs all o (g.S.Canvas.written c.push_rows.new.out)
+    (g.S.Canvas.written c.push_tags.new.out) is (omega (arith, c.if-end-all.true, c.count-all.ensures)) rows left
+    c.in_ok-push_tags.ensures
+    ∙ c.rest.invariant.printed
+    ∙ ap (λ us. g.S.Canvas.written c.args.out.now ++ us)
+    (sym (text-printed cuts under.room under.further_room indent (text_lines (interleaving 0 cs all))))
+
+pub rest-preserved : goal.rest-preserved
+rest-preserved g c =
+    let under = c.args.under in
+    let indent = interleaving 0 under.further.codes.now under.further.tags.now in
+    let cs = g.C.Codes.codes c.args.text.codes in
+    let all = c.args.text.tags.now in
+    let cuts = word_cuts g.W.Words.separator c.args.cuts in
+    let s = c.rest.start in
+    let n = c.line_len-n.result in
+    let k = c.rest.used in
+    let m = c.in_ok-inside.inside in
+    let o = g.S.Canvas.written c.rest.out in
+    let less : n < length (drop s cs) = omega (
+      arith,
+      c.line_len-n.ensures.within,
+      c.if-end-all.false,
+      c.count-all.ensures,
+      c.rest.invariant.within,
+      ap length c.from.ensures,
+      length-drop s cs,
+    ) in
+    let is : n ≡ line_len (drop s cs) = c.line_len-n.ensures.value ∙ ap line_len c.from.ensures in
+    let rows : g.S.Canvas.written c.push_rows.new.out ≡ o ++ line_rows cuts indent c.rest.room under.further_room s
+    (codes_of_row s n cs) (tags_from k all) = c.in_ok-inside.ensures.text
+    ∙ ap (λ xs. o ++ line_rows cuts indent c.rest.room under.further_room s (drop s xs) (tags_from k all))
+    c.front.ensures in
+    let left : drop m (tags_from k all) ≡ left_at s (codes_of_row s n cs) (tags_from k all) =
+    c.in_ok-inside.ensures.left ∙ ap (λ xs. left_at s (drop s xs) (tags_from k all)) c.front.ensures in
+    record {
+      printed =
+          next-filled cuts indent c.rest.room under.further_room s n k m c.in_ok-behind.behind cs all o
+          (g.S.Canvas.written c.push_rows.new.out) (g.S.Canvas.written c.push_signs.new.out)
+          (g.S.Canvas.written c.push_break.new.out) is less rows left c.in_ok-behind.ensures.text
+          c.in_ok-behind.ensures.left c.in_ok-push_break.ensures
+          ∙ c.rest.invariant.printed;
+      within = omega (arith, less, length-drop s cs);
+      marked = omega (
+        arith,
+        c.rest.invariant.marked,
+        c.in_ok-inside.ensures.within,
+        c.in_ok-behind.ensures.within,
+        ap length (take_rest all k),
+        ap length (take_rest all (k + m)),
+        length-drop k all,
+        length-drop (k + m) all,
+      );
+    }

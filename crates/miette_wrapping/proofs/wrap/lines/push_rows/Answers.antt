@@ -1,0 +1,145 @@
+use Rattle.std.proofs.Common.{◌≡◌, ◌∙◌, ◌+◌, ◌-◌, ◌<◌, ◌≤◌, ◌++◌, [], ap, ap₂, arith, drop, drop-drop, length}
+use Rattle.std.proofs.Common.{length-drop, length-take, subst, sym, take}
+use Rattle.std.proofs.lemmas.List.{take_all, take_rest}
+use Rattle.miette_runs.specs.rules.Sequences.{spell}
+use Rattle.miette_runs.specs.views.Interleaving.{cells_at, left_at, interleaving}
+use Rattle.miette_wrapping.proofs.BareRows.{row_text}
+use Rattle.miette_wrapping.proofs.Filling.{codes_of_row, first-here, last-row, left-after, next-row, tags_from}
+use Rattle.miette_wrapping.proofs.InterleavedCells.{left-parts}
+use Rattle.miette_wrapping.proofs.Joining.{piece-printed}
+use Rattle.miette_wrapping.specs.views.Cutting.{word_cuts}
+use Rattle.miette_wrapping.proofs.wrap.lines.push_rows.Goals as goal
+
+pub row_len-requires : goal.row_len-requires
+row_len-requires g c = subst (λ xs. g.W.Words.fits c.rest.words xs) (sym c.from.ensures) c.rest.invariant.fits
+
+pub overflow_add-end : goal.overflow_add-end
+overflow_add-end g c = omega (
+  arith,
+  c.in_ok-n.ensures.within,
+  ap length c.from.ensures,
+  length-drop c.rest.start (g.C.Codes.codes c.args.line.codes),
+  c.count-all.ensures,
+  c.rest.invariant.within,
+)
+
+pub front-requires : goal.front-requires
+front-requires g c = omega (
+  arith,
+  c.in_ok-n.ensures.within,
+  ap length c.from.ensures,
+  length-drop c.rest.start (g.C.Codes.codes c.args.line.codes),
+  c.rest.invariant.within,
+)
+
+pub push_row-requires : goal.push_row-requires
+push_row-requires g c =
+    let cs = g.C.Codes.codes c.args.line.codes in
+    omega (
+      arith,
+      c.in_ok-n.ensures.within,
+      ap length c.from.ensures,
+      length-drop c.rest.start cs,
+      c.rest.invariant.within,
+      ap length c.front.ensures,
+      length-take (c.rest.start + c.in_ok-n.n) cs,
+    )
+
+pub returns-then-end-all-clause-text : goal.returns-then-end-all-clause-text
+returns-then-end-all-clause-text g c =
+    let under = c.args.under in
+    let indent = interleaving 0 under.further.codes.now under.further.tags.now in
+    let cs = g.C.Codes.codes c.args.line.codes in
+    let all = c.args.line.tags.now in
+    let s = c.rest.start in
+    let n = c.in_ok-n.n in
+    let o = g.S.Canvas.written c.rest.out in
+    let cuts = word_cuts g.W.Words.separator c.args.cuts in
+    let left = g.W.Words.left c.rest.words cuts in
+    let behind = g.W.Words.left c.in_ok-n.behind cuts in
+    let row : g.S.Canvas.written c.push_row.new.out ≡ o ++ row_text s (codes_of_row s n cs) (tags_from c.rest.used all) =
+    c.in_ok-more.ensures.text
+    ∙ ap (λ xs. o ++ row_text s (drop s xs) (tags_from c.rest.used all)) c.front.ensures in
+    last-row left behind (spell indent) c.rest.room under.further_room s n c.rest.used cs all o
+    (g.S.Canvas.written c.push_row.new.out)
+    (first-here left behind c.rest.room n (g.C.Codes.codes c.from.result) (drop s cs) c.from.ensures
+    c.in_ok-n.ensures.value) (omega (arith, c.if-end-all.true, c.count-all.ensures)) row
+    ∙ c.rest.invariant.printed
+    ∙ ap (λ us. g.S.Canvas.written c.args.out.now ++ us) (sym (piece-printed cuts under.room under.further_room
+    indent (record { cells = cells_at c.args.first (drop c.args.first cs) all; rest = [] })))
+
+pub returns-then-end-all-clause-left : goal.returns-then-end-all-clause-left
+returns-then-end-all-clause-left g c =
+    let cs = g.C.Codes.codes c.args.line.codes in
+    let all = c.args.line.tags.now in
+    let s = c.rest.start in
+    let n = c.in_ok-n.n in
+    let k = c.rest.used in
+    let m = c.in_ok-more.more in
+    let more : drop m (tags_from k all) ≡ left_at s (codes_of_row s n cs) (tags_from k all) = c.in_ok-more.ensures.left
+    ∙ ap (λ xs. left_at s (drop s xs) (tags_from k all)) c.front.ensures in
+    let whole : take n (drop s cs) ≡ drop s cs = take_all n (drop s cs)
+    (omega (arith, c.if-end-all.true, c.count-all.ensures, length-drop s cs)) in
+    left-after s n k m cs all more ∙ ap (λ xs. left_at s xs (drop k all)) whole ∙ c.rest.invariant.left
+
+pub rest-preserved : goal.rest-preserved
+rest-preserved g c =
+    let cs = g.C.Codes.codes c.args.line.codes in
+    let all = c.args.line.tags.now in
+    let s = c.rest.start in
+    let n = c.in_ok-n.n in
+    let k = c.rest.used in
+    let m = c.in_ok-more.more in
+    let o = g.S.Canvas.written c.rest.out in
+    let long : length (g.C.Codes.codes c.from.result) ≡ length cs - s = ap length c.from.ensures ∙ length-drop s cs in
+    let inside : n ≤ length cs - s = omega (arith, c.in_ok-n.ensures.within, long) in
+    let marked : k ≤ length all = c.rest.invariant.marked in
+    let cuts = word_cuts g.W.Words.separator c.args.cuts in
+    let first = g.W.Words.left c.rest.words cuts in
+    let behind = g.W.Words.left c.in_ok-n.behind cuts in
+    let less : s + n < length cs = omega (
+      arith,
+      c.if-end-all.false,
+      c.count-all.ensures,
+      inside,
+      c.rest.invariant.within,
+    ) in
+    let row : g.S.Canvas.written c.push_row.new.out ≡ o ++ row_text s (codes_of_row s n cs) (tags_from k all) =
+    c.in_ok-more.ensures.text ∙ ap (λ xs. o ++ row_text s (drop s xs) (tags_from k all)) c.front.ensures in
+    let more : drop m (tags_from k all) ≡ left_at s (codes_of_row s n cs) (tags_from k all) = c.in_ok-more.ensures.left
+    ∙ ap (λ xs. left_at s (drop s xs) (tags_from k all)) c.front.ensures in
+    let left : drop (k + m) all ≡ left_at s (take n (drop s cs)) (drop k all) = left-after s n k m cs all more in
+    let used : m ≤ length (tags_from k all) = c.in_ok-more.ensures.within in
+    record {
+      printed =
+          next-row first behind (spell (interleaving 0 c.args.under.further.codes.now c.args.under.further.tags.now))
+          c.rest.room c.args.under.further_room s n k m cs all o (g.S.Canvas.written c.push_row.new.out)
+          (g.S.Canvas.written c.push_break.new.out) (first-here first behind c.rest.room n
+          (g.C.Codes.codes c.from.result) (drop s cs) c.from.ensures c.in_ok-n.ensures.value) less row left
+          c.in_ok-push_break.ensures
+          ∙ c.rest.invariant.printed;
+      left =
+          ap₂ (left_at (s + n)) (sym (drop-drop n s cs)) left
+          ∙ sym (left-parts n s (drop s cs) (drop k all))
+          ∙ c.rest.invariant.left;
+      fits = subst (λ xs. g.W.Words.fits c.in_ok-n.behind xs) (ap (drop n) c.from.ensures ∙ drop-drop n s cs)
+          c.in_ok-n.ensures.fits;
+      within = omega (arith, less);
+      marked = omega (arith, ap length (take_rest all k), length-drop k all);
+    }
+
+pub rest-smaller : goal.rest-smaller
+rest-smaller g c =
+    let cs = g.C.Codes.codes c.args.line.codes in
+    let s = c.rest.start in
+    let long : length (g.C.Codes.codes c.from.result) ≡ length cs - s = ap length c.from.ensures ∙ length-drop s cs in
+    let inside : c.in_ok-n.n ≤ length cs - s = omega (arith, c.in_ok-n.ensures.within, long) in
+    let less : s + c.in_ok-n.n < length cs = omega (
+      arith,
+      c.if-end-all.false,
+      c.count-all.ensures,
+      inside,
+      c.rest.invariant.within,
+    ) in
+    let some : 0 < c.in_ok-n.n = c.in_ok-n.ensures.some (omega (arith, long, less)) in
+    omega (arith, some, less)

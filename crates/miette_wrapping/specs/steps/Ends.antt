@@ -1,0 +1,119 @@
+-- Where the first part of a word, the first row, and a row without its last spaces end.
+use Rattle.std.specs.Prelude.{◌≡◌, ℕ, zero, suc, ◌+◌, Bool, true, false, ◌&&◌, ◌==◌, nat_le, nat_lt, List, [], ◌∷◌}
+use Rattle.std.specs.Prelude.{◌++◌, if◌then◌else◌, map, flat_map, take, drop}
+use Rattle.std.specs.Char.{is_ascii_alphabetic}
+use Rattle.miette_runs.specs.rules.Sequences.{is_line_feed}
+use Rattle.miette_wrap_rules.specs.rules.Wrapping.{Cuts, Word, is_space, is_alphanumeric, hyphen_parts, narrow_parts}
+use Rattle.miette_runs.specs.rules.Cells.{Cell, width}
+use Rattle.miette_wrap_rules.specs.rules.Wrapping.{parts, rows, with_spaces, word_cells}
+
+abbrev pub all_spaces : List Cell → Bool
+all_spaces [] = true
+all_spaces (c ∷ cs) = is_space c.code && all_spaces cs
+
+-- without the last spaces
+abbrev pub bare_len : List Cell → ℕ
+bare_len [] = 0
+bare_len (c ∷ cs) = if is_space c.code && all_spaces cs then 0 else suc (bare_len cs)
+
+-- ---- of codes alone, whatever sequences stand between them
+
+abbrev pub codes_of : List Cell → List ℕ
+codes_of = map (λ (c : Cell). c.code)
+
+abbrev pub begins_word : List ℕ → Bool
+begins_word [] = false
+begins_word (c ∷ cs) = is_alphanumeric c
+
+-- The first part of what is left of a word, behind a code and with so many columns in use: it ends before a code that
+-- ends each word, before what makes it too wide, and behind a hyphen.
+abbrev pub part_len : (ℕ → Bool) → Cuts → ℕ → ℕ → List ℕ → ℕ
+part_len stop cuts before used [] = 0
+part_len stop cuts before used (c ∷ cs) =
+    if stop c then 0
+    else if cuts.breaks && (nat_lt 0 used && nat_lt cuts.narrow (used + width c)) then 0
+    else if cuts.hyphens && ((c == 45) && is_alphanumeric before && begins_word cs) then 1
+    else suc (part_len stop cuts c (used + width c) cs)
+
+-- from `.` to `~`: it has a column, and no word ends at it or is cut behind it
+abbrev pub is_solid : ℕ → Bool
+is_solid c = nat_le 46 c && nat_le c 126
+
+-- how many such codes there are at the front
+abbrev pub solid_len : List ℕ → ℕ
+solid_len [] = 0
+solid_len (c ∷ cs) = if is_solid c then suc (solid_len cs) else 0
+
+abbrev pub gap_len : List ℕ → ℕ
+gap_len [] = 0
+gap_len (c ∷ cs) = if is_space c then suc (gap_len cs) else 0
+
+-- how many letters of ASCII there are at the front
+abbrev pub letters_len : List ℕ → ℕ
+letters_len [] = 0
+letters_len (c ∷ cs) = if is_ascii_alphabetic c then suc (letters_len cs) else 0
+
+-- the last of so many codes, where there is one
+abbrev pub code_behind : ℕ → ℕ → List ℕ → ℕ
+code_behind before zero cs = before
+code_behind before (suc n) [] = before
+code_behind before (suc n) (c ∷ cs) = code_behind c n cs
+
+abbrev pub hyphenated_behind : Cuts → ℕ → List Cell → List (List Cell)
+hyphenated_behind cuts before letters = if cuts.hyphens then hyphen_parts before letters else letters ∷ []
+
+-- ---- words that end at spaces, cell by cell
+
+-- A letter in front makes the first word longer; a space in front makes its spaces longer where it has no letter yet.
+abbrev pub with_letter : Cell → List Word → List Word
+with_letter c [] = record { letters = c ∷ []; spaces = [] } ∷ []
+with_letter c (w ∷ ws) = record { letters = c ∷ w.letters; spaces = w.spaces } ∷ ws
+
+abbrev pub with_space : Cell → List Word → List Word
+with_space c [] = record { letters = []; spaces = c ∷ [] } ∷ []
+with_space c (w ∷ ws) = elim w.letters [
+  | [] ↦ record { letters = []; spaces = c ∷ w.spaces } ∷ ws
+  | letter ∷ letters ↦ record { letters = []; spaces = c ∷ [] } ∷ w ∷ ws
+]
+
+-- The line is cut behind each run of spaces.
+abbrev pub spaced_words : List Cell → List Word
+spaced_words [] = []
+spaced_words (c ∷ cs) =
+    if is_space c.code then with_space c (spaced_words cs) else with_letter c (spaced_words cs)
+
+-- the parts of such words of what stands behind a code
+abbrev pub words_behind : Cuts → ℕ → List Cell → List Word
+words_behind cuts before cells = elim (spaced_words cells) [
+  | [] ↦ []
+  | w ∷ ws ↦ with_spaces w.spaces (flat_map (narrow_parts cuts) (hyphenated_behind cuts before w.letters))
+      ++ flat_map (parts cuts) ws
+]
+
+-- ---- parts and rows, by what is left of a line: its parts, where it has such cells
+
+-- So many codes and so many spaces behind them are the first part.
+abbrev pub IsPart : (List Cell → List Word) → (List Cell → List Word) → List ℕ → ℕ → ℕ → Type 0
+IsPart left behind codes n m =
+    (cells : List Cell) → codes_of cells ≡ codes →
+    left cells ≡ record { letters = take n cells; spaces = take m (drop n cells) } ∷ behind (drop (n + m) cells)
+
+abbrev pub row_cells : List Word → List Cell
+row_cells = flat_map word_cells
+
+-- the rows of what is left; none where nothing is
+abbrev pub rows_left : (List Cell → List Word) → ℕ → List Cell → List (List Cell)
+rows_left left room [] = []
+rows_left left room (c ∷ cs) = map row_cells (rows room room (left (c ∷ cs)))
+
+-- So many codes are in the first row.
+abbrev pub IsFirstRow : (List Cell → List Word) → (List Cell → List Word) → ℕ → List ℕ → ℕ → Type 0
+IsFirstRow left behind room codes n =
+    (cells : List Cell) (further : ℕ) → codes_of cells ≡ codes →
+    map row_cells (rows room further (left cells)) ≡ take n cells ∷ rows_left behind further (drop n cells)
+
+-- ---- lines, and characters alone
+
+abbrev pub line_len : List ℕ → ℕ
+line_len [] = 0
+line_len (c ∷ cs) = if is_line_feed c then 0 else suc (line_len cs)

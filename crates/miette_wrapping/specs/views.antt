@@ -1,0 +1,3 @@
+-- What the code's values stand for.
+pub mod Cutting
+pub mod Breaks

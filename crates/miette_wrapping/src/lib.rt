@@ -1,0 +1,4 @@
+//! Text, wrapped under indents.
+#![tactic(auto)]
+
+pub mod wrap;

@@ -1,0 +1,245 @@
+//! Words between the places at which a line may be broken.
+
+ghost use Rattle.std.specs.Prelude.{◌≡◌, ◌≤◌, ◌<◌, ◌+◌, IfOk, List, drop, flat_map, length, refl, take, true, false};
+ghost use Rattle.miette_wrap_rules.specs.declared.options.WordSeparator.TheVariants.{UnicodeBreakProperties};
+ghost use Rattle.miette_wrap_rules.specs.rules.Wrapping as rules;
+ghost use Rattle.miette_wrap_rules.specs.rules.Wrapping.{is_hyphen, parts};
+ghost use Rattle.miette_wrapping.specs.steps.Ends.{IsPart, codes_of};
+ghost use Rattle.miette_wrapping.specs.steps.Ends.{part_len};
+ghost use Rattle.miette_wrapping.specs.views.Breaks.{all_printed, fits_in, is_done, left_in, never, passed_len};
+ghost use Rattle.miette_wrapping.specs.views.Breaks.{piece_len, state_at, words_in};
+ghost use Rattle.miette_wrapping.specs.views.Cutting.{word_cuts};
+ghost use Rattle.miette_runs.specs.rules.Cells.{Cell};
+ghost use Rattle.miette_runs.specs.steps.Cells.{code_columns};
+
+use crate::wrap::ends::{
+    Cuts, Letters, Part, Stop, Words, bare_len, first_part, gap_len, letters_len,
+};
+use miette_line_breaks::breaks::State;
+use miette_line_breaks::printable::{Printable, Step};
+use miette_runs::runs::codes::Codes;
+use std::alloc::AllocError;
+
+/// The rest of a word: its letters, the code before them, and the spaces behind them; and what stands before the next.
+#[derive(Clone, Copy)]
+pub(crate) struct Broken {
+    pub(crate) before: char,
+    pub(crate) letters: usize,
+    pub(crate) spaces: usize,
+    pub(crate) state: State,
+}
+
+fn is_hyphen(code: char) -> bool
+    ensures { result ≡ is_hyphen code }
+{
+    code == '-' || code == '\u{AD}'
+}
+
+// How many codes are passed at once: letters of ASCII behind a letter, with no hyphen before them. The state stays.
+#[inline(always)]
+fn passed_len<C: Codes>(state: State, is_joined: bool, codes: C) -> usize
+    ensures value { result ≡ passed_len state is_joined (C.codes codes) }
+    ensures len { piece_len state is_joined (C.codes codes)
+        ≡ result + piece_len state is_joined (drop result (C.codes codes)) }
+    ensures state { state_at state result (C.codes codes) ≡ state }
+    ensures within { result ≤ length (C.codes codes) }
+{
+    if is_joined || !state.is_in_word() {
+        return 0;
+    }
+    letters_len(codes)
+}
+
+// How many codes are left of the first word and its spaces, and what stands before the next; its first code begins no
+// word where that is said.
+fn rest_len<C: Codes>(start: State, joined: bool, codes: C) -> (usize, State)
+    ensures len { result.0 ≡ piece_len start joined (C.codes codes) }
+    ensures state { result.1 ≡ state_at start result.0 (C.codes codes) }
+    ensures within { result.0 ≤ length (C.codes codes) }
+{
+    let mut state = start;
+    let mut is_joined = joined;
+    let n = codes.count();
+    let mut i: usize = 0;
+    'rest: while i < n {
+        let code = codes.at(i);
+        let (found, behind) = state.step(code);
+        if !is_joined && found.is_some() {
+            return (i, state);
+        }
+        is_joined = is_hyphen(code);
+        state = behind;
+        let next = i + 1;
+        i = next + passed_len(state, is_joined, codes.from(next));
+    }
+    (i, state)
+}
+
+// How many codes the first word and its spaces have, what stands before the next, and whether all of them are seen to be
+// printable ASCII without a hyphen.
+fn word_len<C: Codes>(start: State, codes: C) -> (usize, State, bool)
+    ensures len { result.0 ≡ piece_len start true (C.codes codes) }
+    ensures state { result.1 ≡ state_at start result.0 (C.codes codes) }
+    ensures printed { result.2 ≡ true → all_printed (take result.0 (C.codes codes)) ≡ true }
+    ensures within { result.0 ≤ length (C.codes codes) }
+{
+    let n = codes.count();
+    if n == 0 {
+        return (0, start, true);
+    }
+    let first = codes.at(0);
+    let Some(mut place) = Printable::behind(start, first) else {
+        let (len, state) = rest_len(start, true, codes);
+        return (len, state, false);
+    };
+    let mut is_printed = first != '-';
+    let mut i = 1;
+    'rest: while i < n {
+        match place.step(codes.at(i)) {
+            Step::Within(next) => place = next,
+            Step::Hyphen(next) => {
+                place = next;
+                is_printed = false;
+            }
+            Step::Broken(next) => {
+                if !is_hyphen(codes.at(i - 1)) {
+                    return (i, place.state(), is_printed);
+                }
+                place = next;
+                is_printed = false;
+            }
+            Step::Other => {
+                let joined = is_hyphen(codes.at(i - 1));
+                let (len, state) = rest_len(place.state(), joined, codes.from(i));
+                return (i + len, state, false);
+            }
+        }
+        i += 1;
+    }
+    (i, place.state(), is_printed)
+}
+
+// The first of the words, and whether its letters are seen to be printable ASCII without a hyphen.
+fn first_word<C: Codes>(start: State, codes: C) -> (Broken, bool)
+    requires { 0 < length (C.codes codes) }
+    ensures left { (cuts : rules.Cuts) (cells : List Cell) → codes_of cells ≡ C.codes codes →
+        left_in result.0 cuts cells ≡ flat_map (parts cuts) (words_in start cells) }
+    ensures fits { fits_in result.0 (C.codes codes) }
+    ensures some { is_done result.0 ≡ false }
+    ensures printed { result.1 ≡ true → all_printed (take result.0.letters (C.codes codes)) ≡ true }
+{
+    let (len, state, is_printed) = word_len(start, codes);
+    let letters = bare_len(codes.front(len));
+    let word = Broken {
+        before: '\0',
+        letters,
+        spaces: len - letters,
+        state,
+    };
+    (word, is_printed)
+}
+
+// The letters of the part at the front of the rest of a word. Where they are printable ASCII without a hyphen, and have
+// room, they are all that is left.
+#[inline(always)]
+fn part_letters<C: Codes>(
+    word: Broken,
+    is_printed: bool,
+    cuts: Cuts,
+    codes: C,
+) -> Result<Letters, AllocError>
+    requires fits { word.letters ≤ length (C.codes codes) }
+    requires printed { is_printed ≡ true → all_printed (take word.letters (C.codes codes)) ≡ true }
+    ensures len { IfOk result (λ p. p.len ≡ part_len never (word_cuts UnicodeBreakProperties cuts) word.before 0
+        (take word.letters (C.codes codes))) }
+    ensures columns { IfOk result (λ p. p.columns ≡ code_columns (take p.len (take word.letters (C.codes codes)))) }
+    ensures within { IfOk result (λ p. p.len ≤ length (take word.letters (C.codes codes))) }
+{
+    if is_printed && word.letters <= cuts.narrow {
+        return Ok(Letters {
+            len: word.letters,
+            columns: word.letters,
+        });
+    }
+    first_part::<Broken, C>(cuts, word.before, codes.front(word.letters))
+}
+
+// The part at the front of the rest of a word.
+#[inline(always)]
+fn word_part<C: Codes>(
+    word: Broken,
+    is_printed: bool,
+    cuts: Cuts,
+    codes: C,
+) -> Result<(Part, Broken), AllocError>
+    requires fits { fits_in word (C.codes codes) }
+    requires some { is_done word ≡ false }
+    requires printed { is_printed ≡ true → all_printed (take word.letters (C.codes codes)) ≡ true }
+    ensures is { IfOk result (λ (p, behind). IsPart (left_in word (word_cuts UnicodeBreakProperties cuts))
+        (left_in behind (word_cuts UnicodeBreakProperties cuts)) (C.codes codes) p.letters.len p.spaces) }
+    ensures columns { IfOk result (λ (p, behind). p.letters.columns
+        ≡ code_columns (take p.letters.len (C.codes codes))) }
+    ensures gap { IfOk result (λ (p, behind). code_columns (take p.spaces (drop p.letters.len (C.codes codes)))
+        ≡ p.spaces) }
+    ensures some { IfOk result (λ (p, behind). 0 < p.letters.len + p.spaces) }
+    ensures within { IfOk result (λ (p, behind). p.letters.len + p.spaces ≤ length (C.codes codes)) }
+    ensures fits { IfOk result (λ (p, behind). fits_in behind (drop (p.letters.len + p.spaces) (C.codes codes))) }
+{
+    let letters = part_letters(word, is_printed, cuts, codes)?;
+    if letters.len == word.letters {
+        let part = Part {
+            letters,
+            spaces: word.spaces,
+        };
+        let behind = Broken {
+            letters: 0,
+            spaces: 0,
+            ..word
+        };
+        return Ok((part, behind));
+    }
+    let part = Part { letters, spaces: 0 };
+    let behind = Broken {
+        before: codes.at(letters.len - 1),
+        letters: word.letters - letters.len,
+        ..word
+    };
+    Ok((part, behind))
+}
+
+impl Stop for Broken {
+    ghost stop = { never };
+
+    ghost solid = { λ _ _. refl };
+
+    fn is_stop(_code: char) -> bool {
+        false
+    }
+}
+
+impl Words for Broken {
+    ghost separator = { UnicodeBreakProperties };
+
+    ghost left = { left_in };
+
+    ghost fits = { fits_in };
+
+    ghost nothing = { λ _ _. refl };
+
+    fn start() -> Broken {
+        Broken {
+            before: '\0',
+            letters: 0,
+            spaces: 0,
+            state: State::start(),
+        }
+    }
+
+    fn part<C: Codes>(self, cuts: Cuts, codes: C) -> Result<(Part, Broken), AllocError> {
+        if self.letters == 0 && self.spaces == 0 {
+            let (word, is_printed) = first_word(self.state, codes);
+            return word_part(word, is_printed, cuts, codes);
+        }
+        word_part(self, false, cuts, codes)
+    }
+}

@@ -1,0 +1,344 @@
+//! Where parts of words end, and rows.
+
+ghost use Rattle.std.proofs.Common.{arith};
+ghost use Rattle.std.proofs.lemmas.Bool.Decides.{nat_tests};
+ghost use Rattle.std.specs.Prelude.{◌≡◌, ◌≤◌, ◌<◌, ◌+◌, ◌==◌, ◌&&◌, ℕ, Bool, true, false, List, []};
+ghost use Rattle.std.specs.Prelude.{◌^◌, IfOk, drop, length, nat_lt, refl, take};
+ghost use Rattle.miette_wrap_rules.specs.declared.options.WordSeparator.{WordSeparator};
+ghost use Rattle.miette_wrap_rules.specs.declared.options.WordSeparator.TheVariants.{AsciiSpace};
+ghost use Rattle.miette_wrapping.specs.steps.Ends.{IsFirstRow, IsPart, bare_len, begins_word, gap_len};
+ghost use Rattle.miette_wrapping.specs.steps.Ends.{is_solid, letters_len, part_len, solid_len};
+ghost use Rattle.miette_wrapping.specs.steps.Ends.{words_behind};
+ghost use Rattle.miette_wrapping.specs.views.Cutting.{word_cuts};
+ghost use Rattle.miette_runs.specs.rules.Cells.{Cell};
+ghost use Rattle.miette_runs.specs.steps.Cells.{code_columns, plain_cells};
+ghost use Rattle.miette_wrap_rules.specs.rules.Wrapping as rules;
+ghost use Rattle.miette_wrap_rules.specs.rules.Wrapping.{Word, cut_words, is_alphanumeric, is_space};
+
+use miette_basics::sums::sum;
+use miette_runs::runs::codes::Codes;
+use miette_runs::runs::columns::char_columns;
+use std::alloc::AllocError;
+
+/// How words are cut: behind hyphens, and where they are wider than the narrower of the rows.
+#[derive(Clone, Copy)]
+pub(crate) struct Cuts {
+    pub(crate) hyphens: bool,
+    pub(crate) breaks: bool,
+    pub(crate) narrow: usize,
+}
+
+/// The first letters of a word: how many there are, and how many columns they take.
+#[derive(Clone, Copy)]
+pub(crate) struct Letters {
+    pub(crate) len: usize,
+    pub(crate) columns: usize,
+}
+
+/// A part of a word: its letters, and how many spaces stand behind them.
+#[derive(Clone, Copy)]
+pub(crate) struct Part {
+    pub(crate) letters: Letters,
+    pub(crate) spaces: usize,
+}
+
+/// Which codes end each word.
+pub(crate) trait Stop {
+    ghost stop: { ℕ → Bool };
+
+    fn is_stop(code: char) -> bool
+        ensures { result ≡ stop code };
+
+    /// None from `.` to `~` does.
+    ghost solid: { (c : ℕ) → is_solid c ≡ true → stop c ≡ false };
+}
+
+/// The words of a line, part by part from the front.
+pub(crate) trait Words: Copy {
+    /// How they are told apart.
+    ghost separator: { WordSeparator };
+
+    /// The parts of what is left of a line, where it has these cells.
+    ghost left: { Self → rules.Cuts → List Cell → List Word };
+
+    /// Whether what is left of a line has these codes.
+    ghost fits: { Self → List ℕ → Type 0 };
+
+    /// All words of a line.
+    fn start() -> Self
+        ensures left { (cuts : rules.Cuts) (cells : List Cell) → cuts.separator ≡ separator →
+            left result cuts cells ≡ cut_words cuts cells }
+        ensures fits { (codes : List ℕ) → fits result codes };
+
+    /// The part at the front, and the words behind it.
+    fn part<C: Codes>(self, cuts: Cuts, codes: C) -> Result<(Part, Self), AllocError>
+        requires fits { fits self (C.codes codes) }
+        requires some { 0 < length (C.codes codes) }
+        ensures is { IfOk result (λ (p, behind). IsPart (left self (word_cuts separator cuts))
+            (left behind (word_cuts separator cuts)) (C.codes codes) p.letters.len p.spaces) }
+        ensures columns { IfOk result (λ (p, behind). p.letters.columns
+            ≡ code_columns (take p.letters.len (C.codes codes))) }
+        ensures gap { IfOk result (λ (p, behind). code_columns (take p.spaces (drop p.letters.len (C.codes codes)))
+            ≡ p.spaces) }
+        ensures some { IfOk result (λ (p, behind). 0 < p.letters.len + p.spaces) }
+        ensures within { IfOk result (λ (p, behind). p.letters.len + p.spaces ≤ length (C.codes codes)) }
+        ensures fits { IfOk result (λ (p, behind). fits behind (drop (p.letters.len + p.spaces) (C.codes codes))) };
+
+    /// Where nothing is left, it has no part.
+    ghost nothing: { (it : Self) (cuts : rules.Cuts) → left it cuts [] ≡ [] };
+}
+
+fn is_alphanumeric(c: char) -> bool
+    ensures { result ≡ is_alphanumeric c }
+{
+    ('0' <= c && c <= '9') || ('A' <= c && c <= 'Z') || ('a' <= c && c <= 'z')
+}
+
+// Whether a letter or a digit stands at the front.
+fn begins_word<C: Codes>(codes: C) -> bool
+    ensures { result ≡ begins_word (C.codes codes) }
+{
+    let n = codes.count();
+    if n == 0 {
+        return false;
+    }
+    is_alphanumeric(codes.at(0))
+}
+
+// Whether a word is cut behind a code, with another code before it and others behind it.
+fn is_cut<C: Codes>(hyphens: bool, before: char, code: char, behind: C) -> bool
+    ensures { result ≡ (hyphens && ((code == 45) && is_alphanumeric before && begins_word (C.codes behind))) }
+{
+    hyphens && code == '-' && is_alphanumeric(before) && begins_word(behind)
+}
+
+/// How many letters of ASCII there are at the front.
+pub(crate) fn letters_len<C: Codes>(codes: C) -> usize
+    ensures value { result ≡ letters_len (C.codes codes) }
+    ensures within { result ≤ length (C.codes codes) }
+{
+    let n = codes.count();
+    let mut i: usize = 0;
+    'rest: while i < n {
+        let code = codes.at(i);
+        if !code.is_ascii_alphabetic() {
+            return i;
+        }
+        i += 1;
+    }
+    i
+}
+
+// Whether it is one from `.` to `~`: it has a column, and no word ends at it or is cut behind it.
+#[inline(always)]
+fn is_solid(code: char) -> bool
+    ensures { result ≡ is_solid code }
+{
+    '.' <= code && code <= '~'
+}
+
+// How many such codes there are at the front.
+#[inline(always)]
+fn solid_len<C: Codes>(codes: C) -> usize
+    ensures value { result ≡ solid_len (C.codes codes) }
+    ensures within { result ≤ length (C.codes codes) }
+{
+    let n = codes.count();
+    let mut i: usize = 0;
+    'rest: while i < n {
+        let code = codes.at(i);
+        if !is_solid(code) {
+            return i;
+        }
+        i += 1;
+    }
+    i
+}
+
+/// The letters of the part at the front, behind a code. Solid ones that have room are passed at once.
+pub(crate) fn first_part<T: Stop, C: Codes>(
+    cuts: Cuts,
+    first: char,
+    codes: C,
+) -> Result<Letters, AllocError>
+    ensures len { IfOk result (λ p. (separator : WordSeparator) →
+        p.len ≡ part_len T.stop (word_cuts separator cuts) first 0 (C.codes codes)) }
+    ensures columns { IfOk result (λ p. p.columns ≡ code_columns (take p.len (C.codes codes))) }
+    ensures within { IfOk result (λ p. p.len ≤ length (C.codes codes)) }
+    ensures counted { length (C.codes codes) < 2 ^ 64 }
+{
+    let most = codes.count().min(cuts.narrow);
+    let n = solid_len(codes.front(most));
+    if n == 0 {
+        return part_behind::<T, C>(cuts, first, 0, codes);
+    }
+    let last = codes.at(n - 1);
+    let rest = part_behind::<T, C>(cuts, last, n, codes.from(n))?;
+    Ok(Letters {
+        len: n + rest.len,
+        columns: rest.columns,
+    })
+}
+
+// Whether a word is cut before what takes it from so many columns to so many.
+fn is_wide(cuts: Cuts, used: usize, both: usize) -> bool
+    ensures { result ≡ (cuts.breaks && (nat_lt 0 used && nat_lt cuts.narrow both)) }
+{
+    cuts.breaks && 0 < used && cuts.narrow < both
+}
+
+// The same of what is left of it, behind a code and with so many columns in use.
+#[inline(always)]
+fn part_behind<T: Stop, C: Codes>(
+    cuts: Cuts,
+    first: char,
+    columns: usize,
+    codes: C,
+) -> Result<Letters, AllocError>
+    ensures len { IfOk result (λ p. (separator : WordSeparator) →
+        p.len ≡ part_len T.stop (word_cuts separator cuts) first columns (C.codes codes)) }
+    ensures columns { IfOk result (λ p. p.columns ≡ columns + code_columns (take p.len (C.codes codes))) }
+    ensures within { IfOk result (λ p. p.len ≤ length (C.codes codes)) }
+{
+    let mut used = columns;
+    let mut before = first;
+    let n = codes.count();
+    let mut i: usize = 0;
+    'rest: while i < n {
+        let code = codes.at(i);
+        if T::is_stop(code) {
+            return Ok(Letters {
+                len: i,
+                columns: used,
+            });
+        }
+        let both = sum(used, char_columns(code))?;
+        if is_wide(cuts, used, both) {
+            return Ok(Letters {
+                len: i,
+                columns: used,
+            });
+        }
+        used = both;
+        let next = i + 1;
+        if is_cut(cuts.hyphens, before, code, codes.from(next)) {
+            return Ok(Letters {
+                len: next,
+                columns: used,
+            });
+        }
+        before = code;
+        i = next;
+    }
+    Ok(Letters {
+        len: i,
+        columns: used,
+    })
+}
+
+fn is_space(code: char) -> bool
+    ensures { result ≡ is_space code }
+{
+    code == ' '
+}
+
+/// How many spaces there are at the front.
+pub(crate) fn gap_len<C: Codes>(codes: C) -> usize
+    ensures value { result ≡ gap_len (C.codes codes) }
+    ensures within { result ≤ length (C.codes codes) }
+{
+    let n = codes.count();
+    let mut i: usize = 0;
+    'rest: while i < n {
+        let code = codes.at(i);
+        if !is_space(code) {
+            return i;
+        }
+        i += 1;
+    }
+    i
+}
+
+/// How many codes there are without the last spaces.
+pub(crate) fn bare_len<C: Codes>(row: C) -> usize
+    ensures value { result ≡ bare_len (plain_cells (C.codes row)) }
+    ensures within { result ≤ length (C.codes row) }
+{
+    let mut n = row.count();
+    'rest: while 0 < n {
+        let last = row.at(n - 1);
+        if last != ' ' {
+            return n;
+        }
+        n -= 1;
+    }
+    0
+}
+
+/// Words that end at spaces: the code before.
+#[derive(Clone, Copy)]
+pub(crate) struct Spaced {
+    pub(crate) before: char,
+}
+
+impl Stop for Spaced {
+    ghost stop = { is_space };
+
+    ghost solid = { λ c h. Prim.grind (arith, nat_tests) };
+
+    fn is_stop(code: char) -> bool {
+        code == ' '
+    }
+}
+
+impl Words for Spaced {
+    ghost separator = { AsciiSpace };
+
+    ghost left = { λ it cuts cells. words_behind cuts it.before cells };
+
+    ghost fits = { λ _ _. Unit {0} };
+
+    ghost nothing = { λ _ _. refl };
+
+    fn start() -> Spaced {
+        Spaced { before: '\0' }
+    }
+
+    fn part<C: Codes>(self, cuts: Cuts, codes: C) -> Result<(Part, Spaced), AllocError> {
+        let letters = first_part::<Spaced, C>(cuts, self.before, codes)?;
+        let spaces = gap_len(codes.from(letters.len));
+        let before = codes.at(letters.len + spaces - 1);
+        Ok((Part { letters, spaces }, Spaced { before }))
+    }
+}
+
+/// How many codes the first row has, of those that are left of a line, and what is left behind it.
+pub(crate) fn row_len<W: Words, C: Codes>(
+    cuts: Cuts,
+    room: usize,
+    first: W,
+    codes: C,
+) -> Result<(usize, W), AllocError>
+    requires { W.fits first (C.codes codes) }
+    ensures value { IfOk result (λ (n, behind). IsFirstRow (W.left first (word_cuts W.separator cuts))
+        (W.left behind (word_cuts W.separator cuts)) room (C.codes codes) n) }
+    ensures some { IfOk result (λ (n, behind). 0 < length (C.codes codes) → 0 < n) }
+    ensures within { IfOk result (λ (n, behind). n ≤ length (C.codes codes)) }
+    ensures fits { IfOk result (λ (n, behind). W.fits behind (drop n (C.codes codes))) }
+{
+    let n = codes.count();
+    let mut end: usize = 0;
+    let mut used = 0;
+    let mut words = first;
+    'rest: while end < n {
+        let (part, behind) = words.part(cuts, codes.from(end))?;
+        let wide = sum(used, part.letters.columns)?;
+        if 0 < end && room < wide {
+            return Ok((end, words));
+        }
+        used = sum(wide, part.spaces)?;
+        end = end + part.letters.len + part.spaces;
+        words = behind;
+    }
+    Ok((end, words))
+}
