@@ -1,8 +1,8 @@
 //! Draws one label on a source from standard input.
 #![tactic(auto)]
 
-use miette_report::draw::{draw_with, refuse_words};
-use miette_report::words::program_words;
+use miette_devices::words::program_words;
+use miette_draw_program::draw::{draw_with, refuse_words};
 use std::process::ExitCode;
 
 fn main(rt: HostRuntime) -> ExitCode {

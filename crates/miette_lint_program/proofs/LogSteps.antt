@@ -11,7 +11,7 @@ use Rattle.miette.specs.Reading.{named_source, plain_source}
 use Rattle.miette_lint.specs.rules.Coded.{Coded, coded_findings}
 use Rattle.miette_lint.specs.rules.Findings.{findings_of}
 use Rattle.miette_protocol.specs.rules.Reading.{Source}
-use Rattle.miette_program.specs.rules.LogWords.{tool_called}
+use Rattle.miette_logs.specs.rules.LogWords.{tool_called}
 use Rattle.miette_sarif.specs.rules.LogText.{log_text}
 use Rattle.miette_tree.proofs.Readings.{none_further}
 use Rattle.miette_tree.specs.rules.Reads.{AllAlwaysRead}

@@ -18,7 +18,7 @@ use miette_devices::whole::{read_whole, write_whole};
 use miette_devices::words::number;
 use miette_lint::coded::coded_findings;
 use miette_lint::laws::coded_laws;
-use miette_program::logs::log_of;
+use miette_logs::logs::log_of;
 use std::alloc::{AllocError, Global};
 use std::io::{Read, Write};
 

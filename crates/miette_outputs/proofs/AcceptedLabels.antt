@@ -8,7 +8,7 @@ use Rattle.miette_tree.specs.rules.DiagnosticParts.{given_labels}
 use Rattle.miette_tree.specs.rules.Reads.{report_accepted}
 use Rattle.miette_tree.specs.rules.Tree.{Tree}
 use Rattle.miette_outputs.specs.rules.Pictures.{over_input}
-use Rattle.miette_program.proofs.AlwaysRead.{accept_all}
+use Rattle.miette_outputs.proofs.AlwaysRead.{accept_all}
 
 over_accepted : (name : List ℕ) (m : Meaning) (input : List ℕ) → AreAccepted input (given_labels m.labels)
     → report_accepted (over_input name m input) ≡ true

@@ -1,2 +1,3 @@
+pub mod AlwaysRead
 pub mod AcceptedLabels
 pub mod PictureSteps

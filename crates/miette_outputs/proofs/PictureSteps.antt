@@ -14,7 +14,7 @@ use Rattle.miette_picture_rules.specs.views.Handling.{Handling, draws_plain, wit
 use Rattle.miette_picture_rules.specs.rules.Snippets.{whole_drawing}
 use Rattle.miette_picture_rules.specs.rules.Text.{report_text}
 use Rattle.miette_brief.specs.rules.Report as rows
-use Rattle.miette_program.proofs.AlwaysRead.{printed-reads}
+use Rattle.miette_outputs.proofs.AlwaysRead.{printed-reads}
 use Rattle.miette_outputs.specs.rules.Pictures.{draw_settings, over_input, settings_in, IsPicture, IsReadWhole}
 
 -- what the handler is made with

@@ -15,9 +15,9 @@ ghost use Rattle.miette_wrap_rules.specs.views.Plans.{cuts_hyphens, printed_plan
 use crate::painter::Painter;
 use miette_picture_rules::settings::{icon, severity_style};
 use miette_protocol::protocol::Severity;
+use miette_runs::runs::Runs;
 use miette_runs::runs::output::Output;
 use miette_runs::runs::reading::columns_of;
-use miette_runs::runs::Runs;
 use miette_wrap_rules::options::{Plan, cuts_hyphens};
 use miette_wrapping::wrap::fitting::push_fitting;
 use miette_wrapping::wrap::{wrap, wrap_text};

@@ -1,5 +1,3 @@
-pub mod AlwaysRead
 pub mod HighlighterSteps
 pub mod JobHandlerSteps
-pub mod LogSteps
 pub mod OptionWordSteps

@@ -1,5 +1,4 @@
 -- What users rely on, in the words of docs/RULES.md.
 pub mod LanguageRules
-pub mod LogWords
 pub mod OptionWords
 pub mod JobText

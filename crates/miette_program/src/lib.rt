@@ -4,5 +4,4 @@
 pub mod arguments;
 pub mod job_handler;
 pub mod language;
-pub mod logs;
 pub mod option_words;

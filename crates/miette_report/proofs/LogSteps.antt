@@ -3,7 +3,7 @@ use Rattle.std.proofs.Common.{◌≡◌, ℕ, List, [], ◌∷◌, map, Option, 
 use Rattle.std.proofs.Common.{Result, Ok, Err, IfOk, IfSome, sym, ◌∙◌, subst, ap}
 use Rattle.std.specs.Prelude.{IsUtf8}
 use Rattle.miette_description.specs.rules.Description.{tree_for}
-use Rattle.miette_program.specs.rules.LogWords.{LogRequest, logged_text}
+use Rattle.miette_logs.specs.rules.LogWords.{LogRequest, logged_text}
 use Rattle.miette_tree.specs.rules.Reads.{AllAlwaysRead, AlwaysReads}
 use Rattle.miette_tree.specs.rules.Tree.{Tree, trees}
 use Rattle.miette_report.specs.rules.Logs.{Logs}

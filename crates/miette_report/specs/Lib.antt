@@ -1,3 +1,2 @@
 pub mod rules
-pub mod views
 pub mod steps

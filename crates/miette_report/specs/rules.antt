@@ -1,5 +1,4 @@
 -- What users rely on, in the words of docs/RULES.md.
-pub mod Words
 pub mod Job
 pub mod Logs
 pub mod JobCalls

@@ -10,7 +10,7 @@ use crate::pipeline::report_of;
 use miette_devices::device::Device;
 use miette_devices::fault::{Fault, Program};
 use miette_devices::whole::{read_whole, write_whole};
-use miette_program::logs::Logging;
+use miette_logs::logs::Logging;
 use std::alloc::Global;
 use std::io::{Read, Write};
 use std::slice;

@@ -3,7 +3,7 @@
 ghost use Rattle.std.specs.Prelude.{◌≡◌, ◌↔◌, ◌⊎◌, Err, IfOk, IfSome, IsTrue, OnErr, false, ⊤};
 ghost use Rattle.std.specs.Io.KnownBytes.{Appends};
 ghost use Rattle.miette_devices.specs.views.Device.{TakesBeginning};
-ghost use Rattle.miette_program.specs.rules.LogWords.{logged_text};
+ghost use Rattle.miette_logs.specs.rules.LogWords.{logged_text};
 ghost use Rattle.miette_tree.specs.rules.Tree.{trees};
 ghost use Rattle.miette_row_reports.specs.rules.Logging.{Logs, LogsFirst, LogsSome};
 ghost use Rattle.miette_tool_rows.specs.rules.Looking.{IsFoundBy};
@@ -14,7 +14,7 @@ ghost use Rattle.miette_tool_rows.specs.views.Reading.{left_of};
 use crate::show::Streams;
 use miette_devices::fault::{Fault, Program};
 use miette_devices::whole::write_whole;
-use miette_program::logs::Logging;
+use miette_logs::logs::Logging;
 use miette_row_reports::parts::{Held, all_parts, all_reports, load_parts};
 use miette_row_reports::words::Format;
 use miette_tool_rows::loader::Loader;

@@ -6,13 +6,14 @@ ghost use Rattle.miette_wrap_rules.specs.rules.ColouredTexts.{AppendsErasing, Ar
 ghost use Rattle.miette_wrap_rules.specs.rules.Wrapping.{wrapped_text};
 ghost use Rattle.miette_wrap_rules.specs.views.Plans.{cuts_hyphens, options_plan};
 
-use miette_runs::runs::reading::read_text;
-use std::alloc::{AllocError, Global};
-
 pub use miette_runs::runs::cutting;
+use miette_runs::runs::reading::read_text;
 pub use miette_wrap_laws::laws;
-pub use miette_wrap_rules::options::{Plan, WordSeparator, WordSplitter, WrapOptions, cuts_hyphens};
+pub use miette_wrap_rules::options::{
+    Plan, WordSeparator, WordSplitter, WrapOptions, cuts_hyphens,
+};
 pub use miette_wrapping::wrap::{fitting, push_wrapped, wrap, wrap_text};
+use std::alloc::{AllocError, Global};
 
 fn wrapped_text(alloc: Global, options: &WrapOptions<'_>, text: &str) -> Result<String, AllocError>
     ensures { IfOk result (λ s. string_bytes s

@@ -4,7 +4,7 @@
 
 use miette_devices::fault::Fault;
 use miette_devices::words::program_words;
-use miette_program::logs::Logging;
+use miette_logs::logs::Logging;
 use miette_show::folder::Folder;
 use miette_show::folder_store::FolderStore;
 use miette_show::log::log_with;

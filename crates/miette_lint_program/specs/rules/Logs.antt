@@ -7,7 +7,7 @@ use Rattle.miette.specs.Reading.{named_source, plain_source}
 use Rattle.miette.specs.Tree.{Tree, Trees, alone, no_trees, trees, with_fixes, with_related, with_source}
 use Rattle.miette_lint.specs.rules.Coded.{Coded, coded_findings}
 use Rattle.miette_protocol.specs.declared.protocol.Severity.TheVariants.{Warning}
-use Rattle.miette_program.specs.rules.LogWords.{tool_called}
+use Rattle.miette_logs.specs.rules.LogWords.{tool_called}
 use Rattle.miette_sarif.specs.rules.LogText.{log_text}
 use Rattle.miette_tree.specs.rules.Diagnosis.{plain_diagnosis}
 use Rattle.miette_devices.specs.rules.Words.{IsReadAs}

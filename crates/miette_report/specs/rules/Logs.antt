@@ -3,7 +3,7 @@ use Rattle.std.specs.Prelude.{◌≡◌, ℕ, ◌<◌, List, [], ◌∷◌, Opti
 use Rattle.std.specs.Prelude.{IsUtf8}
 use Rattle.miette.specs.Tree.{Tree, trees}
 use Rattle.miette_description.specs.rules.Description.{tree_for}
-use Rattle.miette_program.specs.rules.LogWords.{LogRequest, logged_text}
+use Rattle.miette_logs.specs.rules.LogWords.{LogRequest, logged_text}
 use Rattle.miette_report.specs.rules.Job.{IsDescription, IsNoDescription}
 
 -- The bytes are a description, and this holds of the log of its report.

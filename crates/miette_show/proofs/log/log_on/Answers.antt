@@ -4,7 +4,7 @@ use Rattle.std.specs.Io.KnownBytes.{Appends}
 use Rattle.std.specs.declared.alloc.Global.{Global}
 use Rattle.miette_devices.specs.declared.fault.Fault.TheVariants.{Read, Write}
 use Rattle.miette_devices.specs.views.Device.{TakesBeginning}
-use Rattle.miette_program.specs.rules.LogWords.{logged_text}
+use Rattle.miette_logs.specs.rules.LogWords.{logged_text}
 use Rattle.miette_protocol.specs.rules.Reading.{Source}
 use Rattle.miette_protocol.specs.views.Diagnostic.{meaning_of}
 use Rattle.miette_tree.specs.rules.Reads.{AllAlwaysRead}

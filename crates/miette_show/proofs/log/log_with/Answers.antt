@@ -1,6 +1,6 @@
 use Rattle.std.proofs.Common.{inr}
 use Rattle.std.specs.Io.KnownBytes.{Appends}
-use Rattle.miette_program.specs.rules.LogWords.{logged_text}
+use Rattle.miette_logs.specs.rules.LogWords.{logged_text}
 use Rattle.miette_tree.specs.rules.Tree.{trees}
 use Rattle.miette_tool_rows.specs.rules.Looking.{IsFoundBy}
 use Rattle.miette_tool_rows.specs.views.Reading.{left_of}

@@ -1,8 +1,8 @@
 use Rattle.std.proofs.Common.{string_bytes}
 use Rattle.miette_sarif.specs.views.Handled.{tool_in}
-use Rattle.miette_program.specs.rules.LogWords.{tool_called}
-use Rattle.miette_program.proofs.LogSteps.{logged}
-use Rattle.miette_program.proofs.logs.log_of.Goals as goal
+use Rattle.miette_logs.specs.rules.LogWords.{tool_called}
+use Rattle.miette_logs.proofs.LogSteps.{logged}
+use Rattle.miette_logs.proofs.logs.log_of.Goals as goal
 
 pub returns-in-Ok-clause-ok : goal.returns-in-Ok-clause-ok
 returns-in-Ok-clause-ok g c =

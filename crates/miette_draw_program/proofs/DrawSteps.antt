@@ -1,8 +1,8 @@
 -- Steps of writing the picture that `draw` is asked for.
 use Rattle.std.proofs.Common.{◌≡◌, ℕ, List, Option, Some, None, ◌↔◌, IfSome, subst}
 use Rattle.miette_outputs.specs.rules.Pictures.{IsPicture}
-use Rattle.miette_report.specs.views.DrawReports.{drawn_tree, CallPictures, Pictures}
-use Rattle.miette_report.specs.rules.Words.{AreDrawWords, DrawRequest, IsNoDrawCall}
+use Rattle.miette_draw_program.specs.views.DrawReports.{drawn_tree, CallPictures, Pictures}
+use Rattle.miette_draw_program.specs.rules.Words.{AreDrawWords, DrawRequest, IsNoDrawCall}
 
 -- what was written of the picture, for what the reader tells
 pub told : (request : DrawRequest) (input : List ℕ) (all : Option (List ℕ)) (text bytes : List ℕ) (P : List ℕ → Type 0)

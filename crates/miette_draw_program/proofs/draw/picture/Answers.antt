@@ -1,6 +1,6 @@
 use Rattle.std.proofs.Common.{None}
 use Rattle.miette_outputs.proofs.PictureSteps.{IfOk-same, reads-over}
-use Rattle.miette_report.proofs.draw.picture.Goals as goal
+use Rattle.miette_draw_program.proofs.draw.picture.Goals as goal
 
 pub draw-requires : goal.draw-requires
 draw-requires c = record { reads = reads-over None _ _ _ _ c.in-Ok.ensures }

@@ -4,8 +4,8 @@ use Rattle.miette.specs.Tree.{Trees}
 use Rattle.miette_lsp.specs.rules.LspText.{lsp_text}
 use Rattle.miette_sarif.specs.rules.Log.{ToolName}
 use Rattle.miette_sarif.specs.rules.LogText.{log_text}
-use Rattle.miette_program.specs.declared.logs.LogForm.{LogForm}
-use Rattle.miette_program.specs.declared.logs.LogForm.TheVariants.{Sarif, Lsp}
+use Rattle.miette_logs.specs.declared.logs.LogForm.{LogForm}
+use Rattle.miette_logs.specs.declared.logs.LogForm.TheVariants.{Sarif, Lsp}
 
 -- the log of a tool of this name
 pub record LogRequest : Type 0 where

@@ -1,7 +1,7 @@
 use Rattle.std.proofs.Common.{string_bytes}
 use Rattle.miette_lsp.specs.views.Handled.{tool_in}
-use Rattle.miette_program.proofs.LogSteps.{listed}
-use Rattle.miette_program.proofs.logs.list_of.Goals as goal
+use Rattle.miette_logs.proofs.LogSteps.{listed}
+use Rattle.miette_logs.proofs.logs.list_of.Goals as goal
 
 pub returns-in-Ok-clause-ok : goal.returns-in-Ok-clause-ok
 returns-in-Ok-clause-ok g c =

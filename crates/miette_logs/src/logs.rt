@@ -6,7 +6,7 @@ ghost use Rattle.miette_sarif.specs.rules.LogText.{log_text};
 ghost use Rattle.miette_tree.specs.rules.Reads.{AllAlwaysRead};
 ghost use Rattle.miette_tree.specs.rules.Tree.{trees};
 ghost use Rattle.miette_tree.specs.views.Report.{tree_of};
-ghost use Rattle.miette_program.specs.rules.LogWords.{form_named, logged_text, logging_of, of_tool, tool_called};
+ghost use Rattle.miette_logs.specs.rules.LogWords.{form_named, logged_text, logging_of, of_tool, tool_called};
 
 use miette::protocol::Diagnostic;
 use miette::report::Report;
@@ -36,7 +36,7 @@ pub struct Logging<'w> {
 }
 
 impl<'w> Model for Logging<'w> {
-    ghost use Rattle.miette_program.specs.rules.LogWords as words;
+    ghost use Rattle.miette_logs.specs.rules.LogWords as words;
 
     ghost Value = { words.LogRequest };
 

@@ -1,5 +1,5 @@
 use Rattle.miette_devices.proofs.FaultStatuses.{plain-status, usage-status}
-use Rattle.miette_report.proofs.draw.draw_with.Goals as goal
+use Rattle.miette_draw_program.proofs.draw.draw_with.Goals as goal
 
 pub returns-in-Err-clause-status : goal.returns-in-Err-clause-status
 returns-in-Err-clause-status g c = plain-status _ _ _ c.run_asked.ensures.others c.in-Err.is c.end.ensures

@@ -2,10 +2,10 @@ use Rattle.std.proofs.Common.{inr, map, refl, rules, string_bytes}
 use Rattle.std.proofs.lemmas.Result.{on_err_weaker, on_ok_weaker}
 use Rattle.std.specs.Io.KnownBytes.{Appends}
 use Rattle.miette_devices.specs.views.Device.{TakesBeginning}
-use Rattle.miette_report.specs.views.DrawReports.{draw_request}
+use Rattle.miette_draw_program.specs.views.DrawReports.{draw_request}
 use Rattle.miette_devices.proofs.FaultStatuses.{never-usage}
-use Rattle.miette_report.proofs.DrawSteps.{call_pictured, draw_called}
-use Rattle.miette_report.proofs.draw.run_asked.Goals as goal
+use Rattle.miette_draw_program.proofs.DrawSteps.{call_pictured, draw_called}
+use Rattle.miette_draw_program.proofs.draw.run_asked.Goals as goal
 
 pub returns-in_default-clause-usage : goal.returns-in_default-clause-usage
 returns-in_default-clause-usage g c = (λ fault. let h = c.in_default.ensures.none in search rules, λ words. refl)

@@ -1,11 +1,11 @@
 use Rattle.std.proofs.Common.{inl, inr}
 use Rattle.std.proofs.lemmas.Result.{on_err_weaker, on_ok_weaker}
-use Rattle.miette_report.proofs.DrawSteps.{told}
+use Rattle.miette_draw_program.proofs.DrawSteps.{told}
 use Rattle.miette_devices.proofs.WriteResults.{of-error, read-failed, write-failed}
 use Rattle.miette_devices.specs.views.Device.{TakesBeginning}
 use Rattle.std.specs.Io.KnownBytes.{Appends}
 use Rattle.miette_devices.specs.declared.fault.Fault.TheVariants.{Write}
-use Rattle.miette_report.proofs.draw.write_picture.Goals as goal
+use Rattle.miette_draw_program.proofs.draw.write_picture.Goals as goal
 
 pub returns-clause-ok : goal.returns-clause-ok
 returns-clause-ok g c =

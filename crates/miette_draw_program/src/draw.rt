@@ -6,11 +6,11 @@ ghost use Rattle.std.specs.Io.KnownBytes.{Appends};
 ghost use Rattle.miette.specs.Diagnostic.{meaning_of};
 ghost use Rattle.miette.specs.Report.{tree_of};
 ghost use Rattle.miette_devices.specs.views.Device.{TakesBeginning};
-ghost use Rattle.miette_report.specs.views.DrawReports.{CallPictures, Pictures};
+ghost use Rattle.miette_draw_program.specs.views.DrawReports.{CallPictures, Pictures};
 ghost use Rattle.miette_outputs.specs.rules.Pictures.{IsPicture};
-ghost use Rattle.miette_report.specs.views.DrawReports.{draw_request, drawn_label, drawn_meaning, drawn_tree};
+ghost use Rattle.miette_draw_program.specs.views.DrawReports.{draw_request, drawn_label, drawn_meaning, drawn_tree};
 ghost use Rattle.miette_devices.specs.rules.Faults.{status_of};
-ghost use Rattle.miette_report.specs.rules.Words.{AreDrawWords, IsNoDrawCall};
+ghost use Rattle.miette_draw_program.specs.rules.Words.{AreDrawWords, IsNoDrawCall};
 
 use miette::diagnostic::MietteDiagnostic;
 use miette::error::RenderError;

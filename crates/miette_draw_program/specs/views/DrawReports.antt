@@ -4,8 +4,8 @@ use Rattle.miette.specs.Diagnostic.{message_alone}
 use Rattle.miette.specs.Meaning.{Label, Meaning}
 use Rattle.miette.specs.Tree.{Tree}
 use Rattle.miette_outputs.specs.rules.Pictures.{over_input, IsPicture}
-use Rattle.miette_report.specs.rules.Words.{AreDrawWords, DrawRequest}
-use Rattle.miette_report.specs.declared.draw.DrawWords.{DrawWords}
+use Rattle.miette_draw_program.specs.rules.Words.{AreDrawWords, DrawRequest}
+use Rattle.miette_draw_program.specs.declared.draw.DrawWords.{DrawWords}
 
 -- what the words ask for, as they were read
 abbrev pub draw_request : DrawWords → DrawRequest
