@@ -185,7 +185,8 @@ plain_done dots near limit first bs cs column count whole le inv =
     let past : length bs ≤ column - first.from = omega (arith, le) in
     let none : drop (column - first.from) bs ≡ [] = dropped_all (column - first.from) bs past in
     let same : whole_count dots near count cs ≡ whole =
-    ap (λ xs. whole_count dots near count (plain_cells (first.start + (column - first.from)) column xs ++ cs)) (sym none)
+    ap (λ xs. whole_count dots near count (plain_cells (first.start + (column - first.from)) column xs ++ cs))
+    (sym none)
     ∙ inv in
     record { all = λ le. same; within = omega (arith, same) }
   where

@@ -159,7 +159,8 @@ column_past many cut i left before next d whole lt past n inv =
     let s : MadeStretch = get_or cut i d in
     let rest : ℕ = made_column many (drop (i + 1) cut) (left - s.columns) in
     let sum : next + rest ≡ before + (made_columns many s + rest) = omega (arith, n) in
-    sum ∙ ap (λ b. before + cond b (cond s.shown left 0) (made_columns many s + rest)) (sym (le-ltb left s.columns past))
+    sum ∙ ap (λ b. before + cond b (cond s.shown left 0) (made_columns many s + rest))
+    (sym (le-ltb left s.columns past))
     ∙ ap (λ xs. before + made_column many xs left) (sym (at_drop_more (λ (xs : List MadeStretch). xs) cut i d lt)) ∙ inv
 
 column-measured : (many : ℕ) (ss : List Stretch) (column : ℕ) → row_column many ss column

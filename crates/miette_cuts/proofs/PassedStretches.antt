@@ -44,31 +44,37 @@ place_found dots cut place at column anew on h =
 -- the place behind one more
 pub place_more : (dots : ℕ) (cut : List Stretch) (place next : Place) (d : Stretch) → place.passed < length cut
     → next.passed ≡ place.passed + 1 → next.before ≡ place.before + (get_or cut place.passed d).columns →
-    next.row ≡ place.row + made_columns dots (get_or cut place.passed d) → IsPlace dots cut place → IsPlace dots cut next
+    next.row ≡ place.row + made_columns dots (get_or cut place.passed d) → IsPlace dots cut place → IsPlace dots cut
+    next
 place_more dots cut place next d lt p b r h = record {
   stand = λ column le.
       let s : Stretch = get_or cut place.passed d in
       let left : column - place.before - s.columns ≡ column - next.before = omega (arith, b) in
       let before : place.before ≤ column = omega (arith, b, le) in
       let past : s.columns ≤ column - place.before = omega (arith, b, le) in
-      sym (column_past dots cut place.passed (column - place.before) place.row next.row d (made_column dots cut column) lt past
+      sym (column_past dots cut place.passed (column - place.before) place.row next.row d
+      (made_column dots cut column) lt past
       r (sym (h.stand column before)))
       ∙ ap (λ n. next.row + made_column dots (drop (place.passed + 1) cut) n) left
       ∙ ap (λ n. next.row + made_column dots (drop n cut) (column - next.before)) (sym p);
 }
 
 -- a column of the next one
-pub place_here : (dots : ℕ) (cut : List Stretch) (place : Place) (column own found : ℕ) (d : Stretch) → place.passed < length cut
+pub place_here : (dots : ℕ) (cut : List Stretch) (place : Place) (column own found : ℕ) (d : Stretch)
+    → place.passed < length cut
     → place.before ≤ column → column - place.before < (get_or cut place.passed d).columns →
     own ≡ cond (get_or cut place.passed d).shown (column - place.before) 0 → found ≡ place.row + own →
     IsPlace dots cut place → found ≡ made_column dots cut column
 place_here dots cut place column own found d lt b inside o f h =
-    f ∙ column_here dots cut place.passed (column - place.before) place.row own d (made_column dots cut column) lt inside o
+    f ∙ column_here dots cut place.passed (column - place.before) place.row own d (made_column dots cut column) lt
+    inside o
     (sym (h.stand column b))
 
 -- a column behind all of them
-pub place_end : (dots : ℕ) (cut : List Stretch) (place : Place) (column found : ℕ) → length cut ≤ place.passed → place.before
-    ≤ column → found ≡ place.row + (column - place.before) → IsPlace dots cut place → found ≡ made_column dots cut column
+pub place_end : (dots : ℕ) (cut : List Stretch) (place : Place) (column found : ℕ) → length cut ≤ place.passed
+    → place.before
+    ≤ column → found ≡ place.row + (column - place.before) → IsPlace dots cut place → found ≡ made_column dots cut
+    column
 place_end dots cut place column found le b f h =
     f ∙ sym (h.stand column b ∙ ap (λ n. place.row + n)
     (at_drop_all (λ (xs : List Stretch). made_column dots xs (column - place.before)) cut place.passed le))

@@ -98,7 +98,8 @@ abbrev pub behind : Room → List ℕ → Bool → PlainCells → List ℕ → L
 behind room es near first bs cs column = map measure (stretches (near_by room es) near
     (plain_cells (first.start + (column - first.from)) column (drop (column - first.from) bs) ++ cs))
 
-found_even : (room : Room) (es : List ℕ) (before : Bool) (first : PlainCells) (bs : List ℕ) (cs : List Cell) (column : ℕ)
+found_even : (room : Room) (es : List ℕ) (before : Bool) (first : PlainCells) (bs : List ℕ) (cs : List Cell)
+    (column : ℕ)
     (s : MadeStretch) → list_all is_printable bs ≡ true → first.from ≤ column → IsEven room es column (first.from
     + length bs) s → behind room es before first bs cs column
     ≡ onto_made s (behind room es s.shown first bs cs (column + s.cells))

@@ -225,7 +225,8 @@ stays-on is_blank (Built h) (Built k) chosen.Json p q = absurd q
 stays-on is_blank (Built h) (Built k) chosen.Debug p q = absurd q
 stays-on is_blank (Built (handler.Graphical h)) (Built (handler.Graphical k)) (Built (handler.Graphical m)) p q =
     (q.0 ∙ p.0, q.1 ∙ p.1)
-stays-on is_blank (Built (handler.Graphical h)) (Built (handler.Graphical k)) (Built (handler.Narrated m)) p q = absurd q
+stays-on is_blank (Built (handler.Graphical h)) (Built (handler.Graphical k)) (Built (handler.Narrated m)) p q =
+    absurd q
 stays-on is_blank (Built (handler.Graphical h)) (Built (handler.Graphical k)) (Built (handler.Brief m)) p q = absurd q
 stays-on is_blank (Built (handler.Graphical h)) (Built (handler.Narrated k)) (Built m) p q = absurd p
 stays-on is_blank (Built (handler.Graphical h)) (Built (handler.Brief k)) (Built m) p q = absurd p

@@ -36,7 +36,8 @@ left_beside limit context bytes labels k own beside =
 
 pub left_pairs : (limit context : ℕ) (bytes : List ℕ) (labels : List Label) (k : ℕ)
     → N.is_left_out (Some limit) context bytes labels k ≡ true
-    → (N.is_left_out (Some limit) context bytes labels (k - 1) || N.is_left_out (Some limit) context bytes labels (k + 1))
+    → (N.is_left_out (Some limit) context bytes labels (k - 1) || N.is_left_out (Some limit) context bytes labels
+    (k + 1))
     ≡ true
 left_pairs limit context bytes labels k out =
     let shown : Bool = N.is_shown context bytes labels k in

@@ -111,7 +111,8 @@ hidden_in : (limit context : ℕ) (source : Source) (labels : List Label) (low m
 hidden_in limit context source labels low many k j r le lt e =
     let place : j ≡ k + 1 - (low + 1) = omega (arith, e) in
     let line : line_at (frame source.bytes low many) j ≡ line_at (lines_of source.bytes) k =
-    mapped_at (line_at (lines_of source.bytes)) low many j (omega (arith, lt, e)) ∙ ap (line_at (lines_of source.bytes)) e
+    mapped_at (line_at (lines_of source.bytes)) low many j (omega (arith, lt, e))
+    ∙ ap (line_at (lines_of source.bytes)) e
     in
     ap₂ (is_hidden limit (frame source.bytes low many) (map (spread context source labels) labels)) place line
     ∙ own_hidden limit context source labels low many k r le lt
@@ -147,7 +148,8 @@ hidden_behind : (limit context : ℕ) (source : Source) (labels : List Label) (l
 hidden_behind limit context source labels low many k r le lt =
     ⊎_elim {C = hidden_at limit context source labels low many (k + 1 - (low + 1) + 1)
     ≡ N.is_hidden limit context source.bytes labels (k + 1)}
-    (λ inside. hidden_in limit context source labels low many (k + 1) (k + 1 - (low + 1) + 1) r (omega (arith, le)) inside
+    (λ inside. hidden_in limit context source labels low many (k + 1) (k + 1 - (low + 1) + 1) r (omega (arith, le))
+    inside
     (omega (arith, le)))
     (λ last.
     ap (is_hidden limit (frame source.bytes low many) (map (spread context source labels) labels)

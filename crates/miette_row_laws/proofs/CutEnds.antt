@@ -34,7 +34,8 @@ module _ (many : ℕ) (dotted : 0 < many) where
   row_behind (s ∷ later) column le =
       let all : columns_in (cells_in (s ∷ later)) ≡ columns_in s.cells + columns_in (cells_in later) =
       columns_in-append s.cells (cells_in later) in
-      let past : ltb column (columns_in s.cells) ≡ false = le-ltb column (columns_in s.cells) (omega (arith, le, all)) in
+      let past : ltb column (columns_in s.cells) ≡ false = le-ltb column (columns_in s.cells)
+      (omega (arith, le, all)) in
       rw past (omega (arith, all, row_behind later (column - columns_in s.cells) (omega (arith, le, all))))
 
   row_before : (ss : List Stretch) (column : ℕ) → column < columns_in (cells_in ss)

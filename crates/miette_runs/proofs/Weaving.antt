@@ -215,7 +215,8 @@ left-rest p s n k cs ms m h i e l =
     ∙ ap (λ vs. left_at p (drop s cs) vs) (sym next)
 
 -- without characters
-pub text-empty : (cs : List ℕ) (ms : List Tag) (at : ℕ) (o : List ℕ) → length cs ≡ 0 → o ≡ o ++ piece_text (cells_at at cs ms)
+pub text-empty : (cs : List ℕ) (ms : List Tag) (at : ℕ) (o : List ℕ) → length cs ≡ 0 → o ≡ o ++ piece_text
+    (cells_at at cs ms)
 text-empty [] ms at o e = sym (append-nil o)
 text-empty (c ∷ cs) ms at o e = absurd (omega arith)
 

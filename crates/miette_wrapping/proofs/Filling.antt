@@ -41,14 +41,16 @@ pub first-here : (left behind : List Cell → List Word) (room n : ℕ) (xs ys :
 first-here left behind room n xs ys is f = λ cells further e. f cells further (e ∙ sym is)
 
 pub last-row : (left behind : List Cell → List Word) (further : List ℕ) (room room' s n k : ℕ) (cs : List ℕ)
-    (all : List Tag) (o o1 : List ℕ) → IsFirstRow left behind room (drop s cs) n → length cs ≤ s + n → o1 ≡ o ++ row_text s (codes_of_row s n cs) (tags_from k all) →
+    (all : List Tag) (o o1 : List ℕ) → IsFirstRow left behind room (drop s cs) n → length cs ≤ s + n
+    → o1 ≡ o ++ row_text s (codes_of_row s n cs) (tags_from k all) →
     o1 ≡ o ++ rows_text left further room room' s (drop s cs) (drop k all)
 last-row left behind further room room' s n k cs all o o1 f l h =
     h ∙ ap (λ us. o ++ us) (row-here s n k cs all ∙ sym (last-printed left behind further room room' n s (drop s cs)
     (drop k all) f (omega (arith, length-drop {A = ℕ} s cs))))
 
 pub next-row : (left behind : List Cell → List Word) (further : List ℕ) (room room' s n k m : ℕ) (cs : List ℕ)
-    (all : List Tag) (o o1 o2 : List ℕ) → IsFirstRow left behind room (drop s cs) n → s + n < length cs → o1 ≡ o ++ row_text s (codes_of_row s n cs) (tags_from k all) → drop (k + m) all
+    (all : List Tag) (o o1 o2 : List ℕ) → IsFirstRow left behind room (drop s cs) n → s + n < length cs
+    → o1 ≡ o ++ row_text s (codes_of_row s n cs) (tags_from k all) → drop (k + m) all
     ≡ left_at s (take n (drop s cs)) (drop k all) → o2 ≡ o1 ++ 10 ∷ further →
     o2 ++ rows_text behind further room' room' (s + n) (drop (s + n) cs) (drop (k + m) all)
     ≡ o ++ rows_text left further room room' s (drop s cs) (drop k all)

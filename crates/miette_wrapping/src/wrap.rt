@@ -19,9 +19,9 @@
 //! | lines of a text that aren't wrapped are printed whole, and not read | `push_whole` (`whole.rt`) |
 //! | of a line in which nothing is seen the indent is shorter | `first_line` (`white.rt`) |
 //!
-//! `wrap_text` wraps a text under runs, `wrap` runs, `fill` of `miette_text` a text. Where a text stands in one row as it
-//! is, `push_fitting` (`fitting.rt`) appends it without any of these stages, for callers that try it first. `cutting` of
-//! `miette_runs` cuts line feeds at an end.
+//! `wrap_text` wraps a text under runs, `wrap` runs, `fill` of `miette_text` a text. Where a text stands in one row as
+//! it is, `push_fitting` (`fitting.rt`) appends it without any of these stages, for callers that try it first.
+//! `cutting` of `miette_runs` cuts line feeds at an end.
 
 ghost use Rattle.std.specs.Prelude.{◌≡◌, ◌++◌, [], MatchOption, OnOk, chars, true};
 ghost use Rattle.std.specs.Str.{IsNotAscii};

@@ -20,7 +20,8 @@ loop-place-preserved c = record {
 
 pub returns-then-left-columns-clause-column : goal.returns-then-left-columns-clause-column
 returns-then-left-columns-clause-column c =
-    place_here c.args.dots c.args.cut.now c.loop-place.place c.args.column c.column_within.result c.in_ok-inside.inside _
+    place_here c.args.dots c.args.cut.now c.loop-place.place c.args.column c.column_within.result
+    c.in_ok-inside.inside _
     c.loop-place-test.true c.loop-place.invariant.before c.if-left-columns.true c.column_within.ensures
     c.in_ok-inside.ensures c.loop-place.invariant.place
 

@@ -8,4 +8,5 @@ returns c =
     let most : c.saturating_add.result ≡ min twice 18446744073709551615 =
     omega (arith, c.saturating_add.ensures) in
     let within : length c.args.hunk.now.kept.now ≤ 18446744073709551615 = omega arith in
-    c.has_at_most.ensures ∙ bounded c.args.hunk.now.kept.now c.saturating_add.result 18446744073709551615 twice within most
+    c.has_at_most.ensures ∙ bounded c.args.hunk.now.kept.now c.saturating_add.result 18446744073709551615 twice
+    within most

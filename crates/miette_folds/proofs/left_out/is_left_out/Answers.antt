@@ -18,6 +18,7 @@ pub returns : goal.returns
 returns c = λ labels among before.
     let it = c.args.at.now in
     let spreads : List Spread = map spread_of labels in
-    let own : is_hidden c.args.limit (lines_of_bytes it) (map spread_of labels) it.place (line_of_text it.line) ≡ false =
+    let own : is_hidden c.args.limit (lines_of_bytes it) (map spread_of labels) it.place (line_of_text it.line) ≡
+    false =
     sym (c.is_hidden.ensures it.start it.bytes.now labels among) ∙ c.if-is_hidden.false in
     sym (ap (λ b. b && is_beside_hidden c.args.limit (lines_of_bytes it) spreads it.place) own)

@@ -17,10 +17,12 @@ push_plain_cut-requires g c = sym c.all_printable.ensures ∙ c.if-all_printable
 pub returns-then-all_printable : goal.returns-then-all_printable
 returns-then-all_printable g c =
     on_ok_weaker c.push_plain_cut.result (λ h.
-    plain_cut_put (dots (theme_of c.args.theme.now)) c.args.text.now.tab c.args.text.now.start c.args.pieces.now c.in-Some.cut.items
+    plain_cut_put (dots (theme_of c.args.theme.now)) c.args.text.now.tab c.args.text.now.start c.args.pieces.now
+    c.in-Some.cut.items
     c.args.text.now.bytes.now c.args.page.now c.push_plain_cut.new.page
     (eqb-true _ _ (sym c.is_empty.ensures ∙ c.if-is_empty.true)) (sym c.all_printable.ensures ∙ c.if-all_printable.true)
     (h ∙ ap (λ cut. c.args.page.now ⊕ plain_told (dots (theme_of c.args.theme.now)) cut c.args.text.now.bytes.now)
     c.deref.ensures.value)
-    ∙ ap (λ cut. c.args.page.now ⊕ row_tokens (made_runs (dots (theme_of c.args.theme.now)) (option_map (λ made. made.items) cut)
+    ∙ ap (λ cut. c.args.page.now ⊕ row_tokens (made_runs (dots (theme_of c.args.theme.now))
+    (option_map (λ made. made.items) cut)
     (map highlight_of c.args.pieces.now) (text_cells c.args.text.now))) (sym c.in-Some.is)) c.push_plain_cut.ensures

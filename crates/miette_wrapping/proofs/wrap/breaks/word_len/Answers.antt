@@ -59,7 +59,8 @@ returns-then-not-is_hyphen-clause-len g c =
     let e : is_hyphen (code_behind 0 i cs) ≡ false =
     sym (ap is_hyphen (c.at-in-Broken.ensures ∙ behind-last 0 i 0 cs v.some v.within))
     ∙ sym c.is_hyphen.ensures ∙ c.if-not-is_hyphen.true in
-    walked-over c.args.start (state_in c.rest.place) i x cs v.walked is inside (ap₂ (λ (j f : Bool). not j && f) e c.in-Broken.ensures.1)
+    walked-over c.args.start (state_in c.rest.place) i x cs v.walked is inside (ap₂ (λ (j f : Bool). not j && f) e
+    c.in-Broken.ensures.1)
 
 pub returns-in-Other : goal.returns-in-Other
 returns-in-Other g c =

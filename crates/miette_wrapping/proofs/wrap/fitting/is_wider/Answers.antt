@@ -25,7 +25,8 @@ wide-front room bs u l h =
     ∙ chars-append front (drop (room + 1) bs) (IsUtf8-from_ascii front ascii)
     ∙ ap (λ cs. cs ++ rest) (chars-IsAscii front ascii) in
     let all = front ++ rest in
-    let own : code_columns front ≡ room + 1 = printable-columns front h ∙ length-take-le (room + 1) bs (omega (arith, l))
+    let own : code_columns front ≡ room + 1 = printable-columns front h ∙ length-take-le (room + 1) bs
+    (omega (arith, l))
     in
     let both : code_columns all ≡ code_columns front + code_columns rest = sum_by-append width front rest in
     let over : nat_le (code_columns all) room ≡ false = too_many (code_columns all) room (omega (arith, own, both)) in

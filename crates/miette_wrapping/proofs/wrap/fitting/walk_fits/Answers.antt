@@ -7,7 +7,9 @@ use Rattle.miette_wrapping.proofs.Fitting.{apart-fits_at, end-fits, is_apart, ne
 use Rattle.miette_wrapping.proofs.wrap.fitting.walk_fits.Goals as goal
 use Rattle.miette_wrapping.proofs.wrap.fitting.walk_fits.Goals.{then-c-eq27-via-then-c-eq27}
 use Rattle.miette_wrapping.proofs.wrap.fitting.walk_fits.Goals.{then-c-eq27-via-else-c-eq27+then-c-eq10}
-use Rattle.miette_wrapping.proofs.wrap.fitting.walk_fits.Goals.{then-c-eq27-via-else-c-eq27+else-c-eq10+then-left-columns}
+use Rattle.miette_wrapping.proofs.wrap.fitting.walk_fits.Goals.{
+  then-c-eq27-via-else-c-eq27+else-c-eq10+then-left-columns,
+}
 
 pub returns-then-c-eq27 : goal.returns-then-c-eq27
 returns-then-c-eq27 c =

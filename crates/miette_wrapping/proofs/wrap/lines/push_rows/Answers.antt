@@ -57,7 +57,8 @@ returns-then-end-all-clause-text g c =
     let cuts = word_cuts g.W.Words.separator c.args.cuts in
     let left = g.W.Words.left c.rest.words cuts in
     let behind = g.W.Words.left c.in_ok-n.behind cuts in
-    let row : g.S.Canvas.written c.push_row.new.out ≡ o ++ row_text s (codes_of_row s n cs) (tags_from c.rest.used all) =
+    let row : g.S.Canvas.written c.push_row.new.out ≡ o ++ row_text s (codes_of_row s n cs)
+    (tags_from c.rest.used all) =
     c.in_ok-more.ensures.text
     ∙ ap (λ xs. o ++ row_text s (drop s xs) (tags_from c.rest.used all)) c.front.ensures in
     last-row left behind (spell indent) c.rest.room under.further_room s n c.rest.used cs all o
