@@ -18,6 +18,11 @@ use Rattle.miette_brief.specs.rules.PossibleAnswers.{HasAccepted}
 use Rattle.miette_brief.specs.steps.Reads.{IsUnread, IsReadAt}
 use Rattle.miette_basics.specs.rules.Lists.{is_nil}
 use Rattle.miette_tree.specs.rules.Reads.{accepts}
+use Rattle.miette_labels.specs.declared.order.Turn.{Turn}
+
+-- what stands for a turn where there is none
+abbrev pub no_turn : Turn
+no_turn = record { index = 0; offset = 0 }
 
 -- the test of a span says whether it is accepted
 

@@ -1,5 +1,5 @@
 -- The frames of a diff stand among its lines.
-use Rattle.std.proofs.Common.{ℕ, ◌+◌, ◌-◌, ◌<◌, ◌≡◌, Bool, true, false, cond, List, [], ◌∷◌, ◌++◌, length, take, drop}
+use Rattle.std.proofs.Common.{ℕ, ◌+◌, ◌-◌, ◌<◌, ◌≡◌, Bool, true, false, List, [], ◌∷◌, ◌++◌, length, take, drop}
 use Rattle.std.proofs.Common.{arith, refl, sym, ap, ◌∙◌, append_assoc, subst}
 use Rattle.std.specs.List.{flat_map}
 use Rattle.std.proofs.lemmas.Bool.{leb-false}
@@ -11,6 +11,7 @@ use Rattle.miette_fix_rows.specs.rules.DiffFrames.{DiffFrame, DiffLine, Standing
 use Rattle.miette_fix_rows.specs.rules.DiffFrames.{changed_lines, frame_at, frames_from, frames_of, is_near, kept_lines}
 use Rattle.miette_fix_rows.specs.rules.DiffFrames.{left_before, past_hunk, past_kept, removed_from, removed_with}
 use Rattle.miette_fix_rows.specs.rules.Hunks.{Change, Diff, Hunk, added_lines, lines_after, lines_before, removed_lines}
+use Rattle.miette_fix_rows.proofs.NearHunks.{frames_if, shown_if}
 use Rattle.miette_fix_rows.proofs.Passing.{past_all_kept, past_append, past_first, past_whole_hunk}
 
 -- ---- the lines before the edits
@@ -230,18 +231,6 @@ far context behind at hunk hunks shown frames lt h =
         subst (λ s. StandAmong true s frames h.0) (sym (past_frame at hunk n shown)) h.2,
       ),
     )
-
--- what is shown, and the frames, if the next hunk is near
-abbrev shown_if : Bool → ℕ → List (List ℕ) → Hunk → List Hunk → List DiffLine
-shown_if b context behind hunk hunks =
-    cond b (kept_lines hunk.kept ++ (changed_lines hunk.changes ++ behind_hunk context behind hunks))
-    (kept_lines (take context hunk.kept))
-
-abbrev frames_if : Bool → ℕ → List (List ℕ) → Standing → Hunk → List Hunk → List DiffFrame
-frames_if b context behind at hunk hunks =
-    cond b (frames_from context behind true (past_hunk at hunk) hunks)
-    (frame_at context at hunk (behind_hunk context behind hunks)
-    ∷ frames_from context behind true (past_hunk at hunk) hunks)
 
 followed_if : (b : Bool) (context : ℕ) (behind : List (List ℕ)) (at : Standing) (hunk : Hunk) (hunks : List Hunk)
     → is_near context hunk ≡ b → IsFollowed behind hunks (past_hunk at hunk) (behind_hunk context behind hunks)

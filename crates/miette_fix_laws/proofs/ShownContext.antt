@@ -11,13 +11,14 @@ use Rattle.miette_fixes.specs.rules.Edits.{Replacement}
 use Rattle.miette_fixes.specs.rules.Applying.{by_offset}
 use Rattle.miette_fix_rows.specs.laws.Frames.{all_lines, at_start, lines_with}
 use Rattle.miette_fix_rows.specs.rules.Blocks.{blocks, bytes_of, line_texts}
-use Rattle.miette_fix_rows.specs.rules.DiffFrames.{DiffFrame, DiffLine, Standing, added_from, added_with}
+use Rattle.miette_fix_rows.specs.rules.DiffFrames.{DiffLine, Standing, added_from, added_with}
 use Rattle.miette_fix_rows.specs.rules.DiffFrames.{behind_hunk, removed_from}
-use Rattle.miette_fix_rows.specs.rules.DiffFrames.{changed_lines, frame_at, frames_from, frames_of, is_near}
+use Rattle.miette_fix_rows.specs.rules.DiffFrames.{changed_lines, frames_from, frames_of, is_near}
 use Rattle.miette_fix_rows.specs.rules.DiffFrames.{kept_lines, left_before}
 use Rattle.miette_fix_rows.specs.rules.DiffFrames.{past_hunk, removed_with, kept, removed, added}
 use Rattle.miette_fix_rows.specs.rules.Hunks.{Change, Diff, Hunk, change_of, changes, changes_of, diff, diff_from}
 use Rattle.miette_fix_rows.specs.rules.Hunks.{is_nil, onto_hunks, onto_kept, removed_lines}
+use Rattle.miette_fix_rows.proofs.NearHunks.{frames_if, shown_if}
 use Rattle.miette_fix_laws.specs.laws.Context.{is_changed, lines_in, shown_behind, shown_lines}
 
 -- ---- how many lines are still shown behind a change
@@ -294,17 +295,6 @@ framed : (a b shown more rest : List DiffLine) → shown ++ more ≡ rest
     → (a ++ (b ++ shown)) ++ more ≡ a ++ (b ++ rest)
 framed a b shown more rest e =
     append_assoc a (b ++ shown) more ∙ ap (λ t. a ++ t) (append_assoc b shown more) ∙ ap (λ t. a ++ (b ++ t)) e
-
-abbrev shown_if : Bool → ℕ → List (List ℕ) → Hunk → List Hunk → List DiffLine
-shown_if b context behind hunk hunks =
-    cond b (kept_lines hunk.kept ++ (changed_lines hunk.changes ++ behind_hunk context behind hunks))
-    (kept_lines (take context hunk.kept))
-
-abbrev frames_if : Bool → ℕ → List (List ℕ) → Standing → Hunk → List Hunk → List DiffFrame
-frames_if b context behind at hunk hunks =
-    cond b (frames_from context behind true (past_hunk at hunk) hunks)
-    (frame_at context at hunk (behind_hunk context behind hunks)
-    ∷ frames_from context behind true (past_hunk at hunk) hunks)
 
 next_shown : (b : Bool) (context : ℕ) (behind : List (List ℕ)) (at : Standing) (hunk : Hunk) (hunks : List Hunk)
     → is_near context hunk ≡ b → IsChanging hunk

@@ -9,3 +9,4 @@ pub mod Sharing
 pub mod Sources
 pub mod Texts
 pub mod Told
+pub mod NearHunks

@@ -26,7 +26,7 @@ abbrev hit : ℕ → ℕ → ℕ
 hit a b = cond (eqb a b) 255 0
 
 -- the top bit of a lane in which one of two tests holds
-any_of : (a b : Bool) → top 7 (bit_or (cond a 255 0) (cond b 255 0)) ≡ (a || b)
+pub any_of : (a b : Bool) → top 7 (bit_or (cond a 255 0) (cond b 255 0)) ≡ (a || b)
 any_of true true = refl
 any_of true false = refl
 any_of false true = refl

@@ -1,10 +1,10 @@
 -- Loops that count the codes of a class at the front.
 use Rattle.std.proofs.Common.{◌≡◌, ℕ, suc, ◌+◌, ◌<◌, ◌≤◌, Bool, true, false, not, cond, List, [], ◌∷◌, length, drop}
-use Rattle.std.proofs.Common.{get_or}
+use Rattle.std.proofs.Common.{get_or, take}
 use Rattle.std.proofs.Common.{refl, sym, ap, ◌∙◌, arith, if◌then◌else◌}
 use Rattle.std.specs.Char.{is_ascii_alphabetic}
 use Rattle.std.specs.List.{prefix_len}
-use Rattle.std.proofs.lemmas.List.{drop_all, drop_more}
+use Rattle.std.proofs.lemmas.List.{drop_all, drop_more, length-drop, length-take}
 use Rattle.miette_runs.specs.rules.Sequences.{is_line_feed}
 use Rattle.miette_wrap_rules.specs.rules.Wrapping.{is_space}
 use Rattle.miette_wrapping.specs.steps.Ends.{gap_len, is_solid, letters_len, line_len, solid_len}
@@ -59,3 +59,16 @@ pub counted-all : (count : List ℕ → ℕ) (class : ℕ → Bool) → Counts c
 counted-all count class counts cs i l told =
     let end : count (drop i cs) ≡ 0 = ap count (drop_all i cs l) ∙ counts.none in
     omega (arith, told, end)
+
+-- ---- so many codes of what is left of a list stand in it
+
+module _ (start n : ℕ) (cs rest : List ℕ) (room : start ≤ length cs) (is : rest ≡ drop start cs)
+    (within : n ≤ length rest) where
+  pub counted-within : start + n ≤ length cs
+  counted-within = omega (arith, room, within, ap length is, length-drop start cs)
+
+  pub counted-below : (count : ℕ) → count ≡ length cs → start + n ≤ count
+  counted-below count all = omega (arith, all, counted-within)
+
+  pub starts-within : (front : List ℕ) → front ≡ take (start + n) cs → start ≤ length front
+  starts-within front up = omega (arith, counted-within, ap length up, length-take (start + n) cs)

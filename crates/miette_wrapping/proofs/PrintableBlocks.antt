@@ -6,6 +6,7 @@ use Rattle.std.proofs.lemmas.Bool.Decides.{nat_tests}
 use Rattle.std.proofs.lemmas.List.{drop_all, drop_more, length-map}
 use Rattle.std.proofs.lemmas.Simd.{chunk-drop, mask_l-mod, zip2_of_maps, zip2_splat, zip2_splat_left}
 use Rattle.std.proofs.Math.Bool.{and-false, and_assoc}
+use Rattle.miette_source_lines.proofs.Blocks.{any_of}
 use Rattle.miette_wrapping.specs.steps.Fitting.{all_printable, is_other}
 use lib.Lanes.{chunk, zip2, mask_l, top}
 
@@ -14,15 +15,9 @@ use lib.Lanes.{chunk, zip2, mask_l, top}
 abbrev below : ℕ → ℕ → ℕ
 below a b = cond (ltb a b) 255 0
 
-either_of : (a b : Bool) → top 7 (bit_or (cond a 255 0) (cond b 255 0)) ≡ (a || b)
-either_of true true = refl
-either_of true false = refl
-either_of false true = refl
-either_of false false = refl
-
 each_lane : (v : List ℕ) → map (top 7) (map (λ x. bit_or (below x 32) (below 126 x)) v) ≡ map is_other v
 each_lane [] = refl
-each_lane (x ∷ xs) = ap₂ (λ a b. a ∷ b) (either_of (ltb x 32) (ltb 126 x)) (each_lane xs)
+each_lane (x ∷ xs) = ap₂ (λ a b. a ∷ b) (any_of (ltb x 32) (ltb 126 x)) (each_lane xs)
 
 pub others_mask : (v : List ℕ) → length v ≡ 16 → mask_l (map (top 7) (zip2 bit_or
     (zip2 below v (replicate 16 32)) (zip2 below (replicate 16 126) v))) % 2 ^ 64 ≡ mask_l (map is_other v)

@@ -138,7 +138,10 @@ fn push_further<S: Sink>(
     }
 }
 
-// The same, by the print of the indent.
+// From so many bytes on an indent is printed once for all their lines.
+const LONG: usize = 256;
+
+// The same. Where the text is long the indent is printed once for all its lines.
 fn push_printed<S: Sink>(
     alloc: Global,
     out: &mut S,
@@ -149,6 +152,9 @@ fn push_printed<S: Sink>(
         OnOk result (S.written out.new ≡ S.written out.old
         ++ spell (whole_lines under under (text_lines (tokens (chars text.now))))) }
 {
+    if text.len() < LONG {
+        return push_further(out, indent, None, text);
+    }
     let whole = printed_text(alloc, indent)?;
     let bare = printed_text(alloc, trim_end(indent))?;
     let both = Printed {
@@ -157,9 +163,6 @@ fn push_printed<S: Sink>(
     };
     push_further(out, indent, Some(both), text)
 }
-
-// From so many bytes on an indent is printed once for all their lines.
-const LONG: usize = 256;
 
 /// The lines of a text, each whole under its indent. A white line has the indent without its last spaces, and nothing
 /// is before what stands behind the last line feed where that has no character.
@@ -184,8 +187,5 @@ pub(crate) fn push_whole<S: Sink>(
     let (fed, behind) = cut_line(text, len);
     push_indent(out, first, None, line.is_white)?;
     out.push_str(fed)?;
-    if behind.len() < LONG {
-        return push_further(out, further, None, behind);
-    }
     push_printed(alloc, out, further, behind)
 }

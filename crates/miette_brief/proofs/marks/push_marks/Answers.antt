@@ -8,12 +8,9 @@ use Rattle.miette_brief.specs.rules.Marks.{mark_over}
 use Rattle.miette_brief.specs.steps.CommandParts.{mark_of}
 use Rattle.miette_brief.specs.steps.Reads.{IsReadAt, IsUnread}
 use Rattle.miette_brief.proofs.KnownPlaces.{start_of}
-use Rattle.miette_brief.proofs.Noting.{some_refused, accepted_more, accepted_end}
+use Rattle.miette_brief.proofs.Noting.{some_refused, accepted_more, accepted_end, no_turn}
 use Rattle.miette_brief.proofs.Marking.{marks_more, marks_end}
 use Rattle.miette_brief.proofs.marks.push_marks.Goals as goal
-
-abbrev none : Turn
-none = record { index = 0; offset = 0 }
 
 pub loop-turn-init : goal.loop-turn-init
 loop-turn-init g c = record {
@@ -28,11 +25,11 @@ loop-turn-preserved g c =
     let source = option_map (shown_source is) c.args.source in
     let label = λ (turn : Turn). label_at c.args.labels.now turn.index in
     record {
-      marks = marks_more (mark_over source) label c.args.order.now c.loop-turn.turn-index none
+      marks = marks_more (mark_over source) label c.args.order.now c.loop-turn.turn-index no_turn
           c.label_of-label.result.now (map (mark_of is) c.loop-turn.marks.items)
           (map (mark_of is) c.push_mark.new.marks.items) _ c.loop-turn-test.true c.label_of-label.ensures
           c.in_ok-push_mark.ensures c.loop-turn.invariant.marks;
-      accepted = accepted_more label source c.args.order.now c.loop-turn.turn-index none c.label_of-label.result.now
+      accepted = accepted_more label source c.args.order.now c.loop-turn.turn-index no_turn c.label_of-label.result.now
           (map label c.args.order.now) c.loop-turn-test.true c.label_of-label.ensures
           (subst (λ (span : Span). IsReadAt source span) c.inner.ensures c.in_ok-label_place.ensures.accepted)
           c.loop-turn.invariant.accepted;
@@ -45,7 +42,7 @@ returns-in_err-label_place-clause-refused g c = λ h.
     let unread : IsUnread source c.label_of-label.result.now.span =
     subst (λ (span : Span). IsUnread source span) c.inner.ensures
     (c.in_err-label_place.ensures.refused (search rules)) in
-    some_refused (λ turn. label_at c.args.labels.now turn.index) source c.args.order.now c.loop-turn.turn-index none
+    some_refused (λ turn. label_at c.args.labels.now turn.index) source c.args.order.now c.loop-turn.turn-index no_turn
     c.label_of-label.result.now c.loop-turn-test.true c.label_of-label.ensures unread
 
 pub returns-clause-marks : goal.returns-clause-marks

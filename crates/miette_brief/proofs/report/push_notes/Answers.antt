@@ -5,11 +5,8 @@ use Rattle.miette_label_rules.specs.views.GivenLabels.{label_at}
 use Rattle.miette_labels.specs.declared.order.Turn.{Turn}
 use Rattle.miette_brief.specs.steps.Reads.{IsUnread}
 use Rattle.miette_brief.proofs.KnownPlaces.{start_of}
-use Rattle.miette_brief.proofs.Noting.{some_refused, accepted_more, accepted_end, notes_more}
+use Rattle.miette_brief.proofs.Noting.{some_refused, accepted_more, accepted_end, notes_more, no_turn}
 use Rattle.miette_brief.proofs.report.push_notes.Goals as goal
-
-abbrev none : Turn
-none = record { index = 0; offset = 0 }
 
 pub loop-turn-init : goal.loop-turn-init
 loop-turn-init g c = record {
@@ -22,7 +19,7 @@ pub returns-in_err-push_note-clause-refused : goal.returns-in_err-push_note-clau
 returns-in_err-push_note-clause-refused g c = λ h.
     let source = option_map (shown_source g.S.SourceCode.source) c.args.source in
     let unread : IsUnread source c.label_of-label.result.now.span = c.in_err-push_note.ensures.refused (search rules) in
-    some_refused (λ turn. label_at c.args.labels.now turn.index) source c.args.order.now c.loop-turn.turn-index none
+    some_refused (λ turn. label_at c.args.labels.now turn.index) source c.args.order.now c.loop-turn.turn-index no_turn
     c.label_of-label.result.now c.loop-turn-test.true c.label_of-label.ensures unread
 
 pub loop-turn-preserved : goal.loop-turn-preserved
@@ -30,11 +27,11 @@ loop-turn-preserved g c =
     let source = option_map (shown_source g.S.SourceCode.source) c.args.source in
     let label = λ (turn : Turn). label_at c.args.labels.now turn.index in
     record {
-      text = notes_more label source c.args.order.now c.loop-turn.turn-index none c.label_of-label.result.now
+      text = notes_more label source c.args.order.now c.loop-turn.turn-index no_turn c.label_of-label.result.now
           (string_bytes c.loop-turn.out) (string_bytes c.push_note.new.out) _ c.loop-turn-test.true
           c.label_of-label.ensures
           c.in_ok-push_note.ensures.text c.loop-turn.invariant.text;
-      accepted = accepted_more label source c.args.order.now c.loop-turn.turn-index none c.label_of-label.result.now
+      accepted = accepted_more label source c.args.order.now c.loop-turn.turn-index no_turn c.label_of-label.result.now
           (map label c.args.order.now) c.loop-turn-test.true c.label_of-label.ensures
           c.in_ok-push_note.ensures.accepted c.loop-turn.invariant.accepted;
       known = search rules;

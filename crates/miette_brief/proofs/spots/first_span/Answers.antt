@@ -2,11 +2,9 @@ use Rattle.std.proofs.Common.{sym, ◌∙◌, length}
 use Rattle.std.proofs.lemmas.Bool.{eqb-true, eqb-false}
 use Rattle.miette_label_rules.specs.views.GivenLabels.{label_at}
 use Rattle.miette_labels.specs.declared.order.Turn.{Turn}
+use Rattle.miette_brief.proofs.Noting.{no_turn}
 use Rattle.miette_brief.proofs.Choosing.{first_here, first_nil}
 use Rattle.miette_brief.proofs.spots.first_span.Goals as goal
-
-abbrev none : Turn
-none = record { index = 0; offset = 0 }
 
 pub returns-then-is_empty : goal.returns-then-is_empty
 returns-then-is_empty c =
@@ -15,5 +13,5 @@ returns-then-is_empty c =
 
 pub returns : goal.returns
 returns c =
-    first_here (λ (turn : Turn). label_at c.args.labels.now turn.index) c.args.order.now none c.span_of.result
+    first_here (λ (turn : Turn). label_at c.args.labels.now turn.index) c.args.order.now no_turn c.span_of.result
     (eqb-false (length c.args.order.now) 0 (sym c.is_empty.ensures ∙ c.if-is_empty.false)) c.span_of.ensures

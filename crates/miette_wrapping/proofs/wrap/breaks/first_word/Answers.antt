@@ -1,4 +1,4 @@
-use Rattle.std.proofs.Common.{◌<◌, ◌≤◌, ◌-◌, ◌∙◌, ℕ, ap, arith, length}
+use Rattle.std.proofs.Common.{◌≡◌, ◌<◌, ◌≤◌, ◌-◌, ◌∙◌, ℕ, List, ap, arith, length, take}
 use Rattle.std.proofs.lemmas.List.{length-take}
 use Rattle.miette_runs.specs.steps.Cells.{plain_cells}
 use Rattle.miette_wrapping.specs.steps.Ends.{bare_len}
@@ -7,18 +7,17 @@ use Rattle.miette_wrapping.proofs.BreakWords.{piece-some}
 use Rattle.miette_wrapping.proofs.PrintedRuns.{printed-fewer}
 use Rattle.miette_wrapping.proofs.wrap.breaks.first_word.Goals as goal
 
+-- the letters are among the codes of the word
+at-most : (b k : ℕ) (codes front : List ℕ) → b ≤ length front → front ≡ take k codes → b ≤ k
+at-most b k codes front within is = omega (arith, within, ap length is, length-take {A = ℕ} k codes)
+
 pub returns-clause-left : goal.returns-clause-left
 returns-clause-left g c = λ cuts cells q.
     let codes = g.C.Codes.codes c.args.codes in
     let k = c.word_len-len.result.0 in
     let b = c.bare_len-letters.result in
     let some : 0 < k = omega (arith, c.word_len-len.ensures.len, piece-some c.args.start codes c.requires) in
-    let within : b ≤ k = omega (
-      arith,
-      c.bare_len-letters.ensures.within,
-      ap length c.front.ensures,
-      length-take {A = ℕ} k codes,
-    ) in
+    let within : b ≤ k = at-most b k codes _ c.bare_len-letters.ensures.within c.front.ensures in
     first-left cuts c.args.start c.word_len-len.result.1 k b cells codes q c.requires c.word_len-len.ensures.len some
     within c.word_len-len.ensures.state
     (c.bare_len-letters.ensures.value ∙ ap (λ xs. bare_len (plain_cells xs)) c.front.ensures)
@@ -28,12 +27,7 @@ returns-clause-fits g c =
     let codes = g.C.Codes.codes c.args.codes in
     let k = c.word_len-len.result.0 in
     let b = c.bare_len-letters.result in
-    let within : b ≤ k = omega (
-      arith,
-      c.bare_len-letters.ensures.within,
-      ap length c.front.ensures,
-      length-take {A = ℕ} k codes,
-    ) in (
+    let within : b ≤ k = at-most b k codes _ c.bare_len-letters.ensures.within c.front.ensures in (
       omega (arith, c.word_len-len.ensures.within),
       first-spaces k b codes c.word_len-len.ensures.within within
           (c.bare_len-letters.ensures.value ∙ ap (λ xs. bare_len (plain_cells xs)) c.front.ensures),
@@ -45,12 +39,7 @@ returns-clause-some g c =
     let k = c.word_len-len.result.0 in
     let b = c.bare_len-letters.result in
     let some : 0 < k = omega (arith, c.word_len-len.ensures.len, piece-some c.args.start codes c.requires) in
-    let within : b ≤ k = omega (
-      arith,
-      c.bare_len-letters.ensures.within,
-      ap length c.front.ensures,
-      length-take {A = ℕ} k codes,
-    ) in
+    let within : b ≤ k = at-most b k codes _ c.bare_len-letters.ensures.within c.front.ensures in
     not-done (begun b (k - b) c.word_len-len.result.1) (omega arith)
 
 pub returns-clause-printed : goal.returns-clause-printed
@@ -58,10 +47,5 @@ returns-clause-printed g c = λ h.
     let codes = g.C.Codes.codes c.args.codes in
     let k = c.word_len-len.result.0 in
     let b = c.bare_len-letters.result in
-    let within : b ≤ k = omega (
-      arith,
-      c.bare_len-letters.ensures.within,
-      ap length c.front.ensures,
-      length-take {A = ℕ} k codes,
-    ) in
+    let within : b ≤ k = at-most b k codes _ c.bare_len-letters.ensures.within c.front.ensures in
     printed-fewer b k codes within (c.word_len-len.ensures.printed h)

@@ -1,5 +1,5 @@
 use Rattle.std.proofs.Common.{◌≡◌, ◌∙◌, ◌+◌, ◌&&◌, nat_lt, true, false, length, length-drop, drop, drop-drop}
-use Rattle.std.proofs.Common.{sym, ap, arith, subst, take}
+use Rattle.std.proofs.Common.{ℕ, List, sym, ap, arith, subst, take}
 use Rattle.std.proofs.lemmas.Bool.Decides.{nat_tests}
 use Rattle.miette_runs.specs.steps.Cells.{code_columns}
 use Rattle.miette_wrapping.specs.views.Cutting.{word_cuts}
@@ -7,6 +7,12 @@ use Rattle.miette_wrapping.proofs.FirstRow.{part-here, row-ends, row-fits, row-w
 use Rattle.miette_wrapping.proofs.wrap.ends.row_len.Goals as goal
 use Rattle.miette_wrapping.proofs.wrap.ends.row_len.Goals.{else-end-gt0-via-then-end-gt0+else-room-wide}
 use Rattle.miette_wrapping.proofs.wrap.ends.row_len.Goals.{else-end-gt0-via-else-end-gt0}
+
+-- how many columns are used with the letters of a part
+wide-is : (used n columns wide : ℕ) (codes rest : List ℕ) → wide ≡ used + columns → columns ≡ code_columns (take n rest)
+    → rest ≡ codes → wide ≡ used + code_columns (take n codes)
+wide-is used n columns wide codes rest sum is same =
+    sum ∙ ap (λ k. used + k) (is ∙ ap (λ xs. code_columns (take n xs)) same)
 
 pub part-requires-clause-fits : goal.part-requires-clause-fits
 part-requires-clause-fits g c = subst (λ xs. g.W.Words.fits c.rest.words xs) (sym c.from.ensures)
@@ -29,9 +35,7 @@ returns-then-room-wide-clause-value g c = λ cells further e.
     let n = c.in_ok-part.part.letters.len in
     let left = g.W.Words.left c.rest.words cuts in
     let behind = g.W.Words.left c.in_ok-part.behind cuts in
-    let w : c.in_ok-wide.wide ≡ c.rest.used + code_columns (take n (drop s cs)) = c.in_ok-wide.ensures
-    ∙ ap (λ k. c.rest.used + k) (c.in_ok-part.ensures.columns
-    ∙ ap (λ xs. code_columns (take n xs)) c.from.ensures) in
+    let w = wide-is c.rest.used n _ _ _ _ c.in_ok-wide.ensures c.in_ok-part.ensures.columns c.from.ensures in
     let t : (nat_lt 0 s && nat_lt c.args.room c.in_ok-wide.wide) ≡ true =
     (let a = c.if-end-gt0.true in let b = c.if-room-wide.true in grind (arith, nat_tests)) in
     row-ends (g.W.Words.left c.args.first cuts) left behind c.args.room further s n c.in_ok-part.part.spaces
@@ -49,9 +53,7 @@ rest-preserved g c =
     let m = c.in_ok-part.part.spaces in
     let left = g.W.Words.left c.rest.words cuts in
     let behind = g.W.Words.left c.in_ok-part.behind cuts in
-    let w : c.in_ok-wide.wide ≡ c.rest.used + code_columns (take n (drop s cs)) = c.in_ok-wide.ensures
-    ∙ ap (λ k. c.rest.used + k) (c.in_ok-part.ensures.columns
-    ∙ ap (λ xs. code_columns (take n xs)) c.from.ensures) in
+    let w = wide-is c.rest.used n _ _ _ _ c.in_ok-wide.ensures c.in_ok-part.ensures.columns c.from.ensures in
     let gap : code_columns (take m (drop n (drop s cs))) ≡ m =
     ap (λ xs. code_columns (take m (drop n xs))) (sym c.from.ensures) ∙ c.in_ok-part.ensures.gap in
     let t : (nat_lt 0 s && nat_lt c.args.room c.in_ok-wide.wide) ≡ false =

@@ -1,44 +1,46 @@
-use Rattle.std.proofs.Common.{◌≡◌, ◌∙◌, ◌+◌, ◌<◌, ◌++◌, ap, arith, drop, length, length-drop, length-take, sym}
+use Rattle.std.proofs.Common.{◌≡◌, ◌∙◌, ◌+◌, ◌<◌, ◌++◌, ℕ, List, ap, arith, drop, length, length-drop, sym}
+use Rattle.std.proofs.Common.{take}
 use Rattle.std.proofs.lemmas.List.{take_rest}
 use Rattle.miette_runs.specs.views.Interleaving.{interleaving, left_at}
 use Rattle.miette_wrapping.proofs.Filling.{codes_of_row, last-filled, line_rows, next-filled, tags_from}
 use Rattle.miette_wrapping.proofs.Joining.{text-printed}
-use Rattle.miette_wrap_rules.specs.rules.Wrapping.{text_lines}
+use Rattle.miette_wrap_rules.specs.rules.Wrapping.{Cuts, text_lines}
+use Rattle.miette_runs.specs.declared.runs.sign.Tag.{Tag}
+use Rattle.miette_runs.specs.rules.Sequences.{Token}
 use Rattle.miette_wrapping.specs.steps.Ends.{line_len}
 use Rattle.miette_wrapping.specs.views.Cutting.{word_cuts}
+use Rattle.miette_wrapping.proofs.Counts.{counted-below, counted-within, starts-within}
 use Rattle.miette_wrapping.proofs.wrap.lines.push_filled.Goals as goal
 
+-- what stands behind a line's rows, and which tags are left, where the line's codes are those up to its end
+rows-here : (cuts : Cuts) (indent : List Token) (room room' s n : ℕ) (cs front : List ℕ) (ms : List Tag) (o o1 : List ℕ)
+    → o1 ≡ o ++ line_rows cuts indent room room' s (drop s front) ms → front ≡ take (s + n) cs
+    → o1 ≡ o ++ line_rows cuts indent room room' s (codes_of_row s n cs) ms
+rows-here cuts indent room room' s n cs front ms o o1 text is =
+    text ∙ ap (λ xs. o ++ line_rows cuts indent room room' s (drop s xs) ms) is
+
+left-here : (s n m : ℕ) (cs front : List ℕ) (ms : List Tag) → drop m ms ≡ left_at s (drop s front) ms
+    → front ≡ take (s + n) cs → drop m ms ≡ left_at s (codes_of_row s n cs) ms
+left-here s n m cs front ms left is = left ∙ ap (λ xs. left_at s (drop s xs) ms) is
+
 pub overflow_add-end : goal.overflow_add-end
-overflow_add-end g c = omega (
-  arith,
-  c.line_len-n.ensures.within,
-  ap length c.from.ensures,
-  length-drop c.rest.start (g.C.Codes.codes c.args.text.codes),
-  c.count-all.ensures,
-  c.rest.invariant.within,
-)
+overflow_add-end g c =
+    let l = c.rest in
+    let n = c.line_len-n in
+    let below = counted-below l.start n.result _ _ l.invariant.within c.from.ensures n.ensures.within _
+    c.count-all.ensures in
+    omega (arith, below)
 
 pub front-requires : goal.front-requires
-front-requires g c = omega (
-  arith,
-  c.line_len-n.ensures.within,
-  ap length c.from.ensures,
-  length-drop c.rest.start (g.C.Codes.codes c.args.text.codes),
-  c.rest.invariant.within,
-)
+front-requires g c =
+    let n = c.line_len-n in
+    counted-within c.rest.start n.result _ _ c.rest.invariant.within c.from.ensures n.ensures.within
 
 pub push_rows-requires : goal.push_rows-requires
 push_rows-requires g c =
-    let cs = g.C.Codes.codes c.args.text.codes in
-    omega (
-      arith,
-      c.line_len-n.ensures.within,
-      ap length c.from.ensures,
-      length-drop c.rest.start cs,
-      c.rest.invariant.within,
-      ap length c.front.ensures,
-      length-take (c.rest.start + c.line_len-n.result) cs,
-    )
+    let l = c.rest in
+    let n = c.line_len-n in
+    starts-within l.start n.result _ _ l.invariant.within c.from.ensures n.ensures.within _ c.front.ensures
 
 pub returns-then-end-all : goal.returns-then-end-all
 returns-then-end-all g c =
@@ -53,12 +55,9 @@ returns-then-end-all g c =
     let m = c.in_ok-inside.inside in
     let o = g.S.Canvas.written c.rest.out in
     let is : n ≡ line_len (drop s cs) = c.line_len-n.ensures.value ∙ ap line_len c.from.ensures in
-    let rows : g.S.Canvas.written c.push_rows.new.out ≡ o ++ line_rows cuts indent c.rest.room under.further_room s
-    (codes_of_row s n cs) (tags_from k all) = c.in_ok-inside.ensures.text
-    ∙ ap (λ xs. o ++ line_rows cuts indent c.rest.room under.further_room s (drop s xs) (tags_from k all))
-    c.front.ensures in
-    let left : drop m (tags_from k all) ≡ left_at s (codes_of_row s n cs) (tags_from k all) =
-    c.in_ok-inside.ensures.left ∙ ap (λ xs. left_at s (drop s xs) (tags_from k all)) c.front.ensures in
+    let rows = rows-here cuts indent c.rest.room under.further_room s n cs _ (tags_from k all) o _
+    c.in_ok-inside.ensures.text c.front.ensures in
+    let left = left-here s n m cs _ (tags_from k all) c.in_ok-inside.ensures.left c.front.ensures in
     last-filled cuts indent c.rest.room under.further_room s n k m cs all o (g.S.Canvas.written c.push_rows.new.out)
     (g.S.Canvas.written c.push_tags.new.out) is (omega (arith, c.if-end-all.true, c.count-all.ensures)) rows left
     c.in_ok-push_tags.ensures
@@ -88,12 +87,9 @@ rest-preserved g c =
       length-drop s cs,
     ) in
     let is : n ≡ line_len (drop s cs) = c.line_len-n.ensures.value ∙ ap line_len c.from.ensures in
-    let rows : g.S.Canvas.written c.push_rows.new.out ≡ o ++ line_rows cuts indent c.rest.room under.further_room s
-    (codes_of_row s n cs) (tags_from k all) = c.in_ok-inside.ensures.text
-    ∙ ap (λ xs. o ++ line_rows cuts indent c.rest.room under.further_room s (drop s xs) (tags_from k all))
-    c.front.ensures in
-    let left : drop m (tags_from k all) ≡ left_at s (codes_of_row s n cs) (tags_from k all) =
-    c.in_ok-inside.ensures.left ∙ ap (λ xs. left_at s (drop s xs) (tags_from k all)) c.front.ensures in
+    let rows = rows-here cuts indent c.rest.room under.further_room s n cs _ (tags_from k all) o _
+    c.in_ok-inside.ensures.text c.front.ensures in
+    let left = left-here s n m cs _ (tags_from k all) c.in_ok-inside.ensures.left c.front.ensures in
     record {
       printed =
           next-filled cuts indent c.rest.room under.further_room s n k m c.in_ok-behind.behind cs all o

@@ -1,5 +1,5 @@
 use Rattle.std.proofs.Common.{◌≡◌, ◌∙◌, ◌+◌, ◌-◌, ◌<◌, ◌≤◌, ◌++◌, [], ap, ap₂, arith, drop, drop-drop, length}
-use Rattle.std.proofs.Common.{length-drop, length-take, subst, sym, take}
+use Rattle.std.proofs.Common.{length-drop, subst, sym, take}
 use Rattle.std.proofs.lemmas.List.{take_all, take_rest}
 use Rattle.miette_runs.specs.rules.Sequences.{spell}
 use Rattle.miette_runs.specs.views.Interleaving.{cells_at, left_at, interleaving}
@@ -8,42 +8,30 @@ use Rattle.miette_wrapping.proofs.Filling.{codes_of_row, first-here, last-row, l
 use Rattle.miette_wrapping.proofs.InterleavedCells.{left-parts}
 use Rattle.miette_wrapping.proofs.Joining.{piece-printed}
 use Rattle.miette_wrapping.specs.views.Cutting.{word_cuts}
+use Rattle.miette_wrapping.proofs.Counts.{counted-below, counted-within, starts-within}
 use Rattle.miette_wrapping.proofs.wrap.lines.push_rows.Goals as goal
 
 pub row_len-requires : goal.row_len-requires
 row_len-requires g c = subst (λ xs. g.W.Words.fits c.rest.words xs) (sym c.from.ensures) c.rest.invariant.fits
 
 pub overflow_add-end : goal.overflow_add-end
-overflow_add-end g c = omega (
-  arith,
-  c.in_ok-n.ensures.within,
-  ap length c.from.ensures,
-  length-drop c.rest.start (g.C.Codes.codes c.args.line.codes),
-  c.count-all.ensures,
-  c.rest.invariant.within,
-)
+overflow_add-end g c =
+    let l = c.rest in
+    let n = c.in_ok-n in
+    let below = counted-below l.start n.n _ _ l.invariant.within c.from.ensures n.ensures.within _
+    c.count-all.ensures in
+    omega (arith, below)
 
 pub front-requires : goal.front-requires
-front-requires g c = omega (
-  arith,
-  c.in_ok-n.ensures.within,
-  ap length c.from.ensures,
-  length-drop c.rest.start (g.C.Codes.codes c.args.line.codes),
-  c.rest.invariant.within,
-)
+front-requires g c =
+    let n = c.in_ok-n in
+    counted-within c.rest.start n.n _ _ c.rest.invariant.within c.from.ensures n.ensures.within
 
 pub push_row-requires : goal.push_row-requires
 push_row-requires g c =
-    let cs = g.C.Codes.codes c.args.line.codes in
-    omega (
-      arith,
-      c.in_ok-n.ensures.within,
-      ap length c.from.ensures,
-      length-drop c.rest.start cs,
-      c.rest.invariant.within,
-      ap length c.front.ensures,
-      length-take (c.rest.start + c.in_ok-n.n) cs,
-    )
+    let l = c.rest in
+    let n = c.in_ok-n in
+    starts-within l.start n.n _ _ l.invariant.within c.from.ensures n.ensures.within _ c.front.ensures
 
 pub returns-then-end-all-clause-text : goal.returns-then-end-all-clause-text
 returns-then-end-all-clause-text g c =
