@@ -2,27 +2,16 @@
 use Rattle.std.proofs.Common.{◌≡◌, ℕ, suc, ◌+◌, ◌<◌, ◌≤◌, Bool, true, false, not, cond, List, [], ◌∷◌, length, drop}
 use Rattle.std.proofs.Common.{get_or, take}
 use Rattle.std.proofs.Common.{refl, sym, ap, ◌∙◌, arith, if◌then◌else◌}
-use Rattle.std.specs.Char.{is_ascii_alphabetic}
 use Rattle.std.specs.List.{prefix_len}
 use Rattle.std.proofs.lemmas.List.{drop_all, drop_more, length-drop, length-take}
 use Rattle.miette_runs.specs.rules.Sequences.{is_line_feed}
-use Rattle.miette_wrap_rules.specs.rules.Wrapping.{is_space}
-use Rattle.miette_wrapping.specs.steps.Ends.{gap_len, is_solid, letters_len, line_len, solid_len}
+use Rattle.miette_wrapping.specs.steps.Ends.{line_len}
 use Rattle.miette_wrapping.specs.steps.WholeText.{is_in_row}
 
 -- It counts those at the front that are of the class.
 pub record Counts (count : List ℕ → ℕ) (class : ℕ → Bool) : Type 0 where
   pub none : count [] ≡ 0
   pub more : (c : ℕ) (cs : List ℕ) → count (c ∷ cs) ≡ (if class c then suc (count cs) else 0)
-
-pub letters : Counts letters_len is_ascii_alphabetic
-letters = record { none = refl; more = λ c cs. refl }
-
-pub gaps : Counts gap_len is_space
-gaps = record { none = refl; more = λ c cs. refl }
-
-pub solids : Counts solid_len is_solid
-solids = record { none = refl; more = λ c cs. refl }
 
 row-more : (b : Bool) (n m : ℕ) → n ≡ m → cond (not b) (1 + n) 0 ≡ (if b then 0 else suc m)
 row-more true n m e = refl

@@ -3,7 +3,8 @@
 ghost use Rattle.std.proofs.Common.{arith};
 ghost use Rattle.std.proofs.lemmas.Bool.Decides.{nat_tests};
 ghost use Rattle.std.specs.Prelude.{◌≡◌, ◌≤◌, ◌<◌, ◌+◌, ◌==◌, ◌&&◌, ℕ, Bool, true, false, List, []};
-ghost use Rattle.std.specs.Prelude.{◌^◌, IfOk, drop, length, nat_lt, refl, take};
+ghost use Rattle.std.specs.Prelude.{◌∷◌, ◌^◌, IfOk, drop, if◌then◌else◌, length, nat_lt, refl, suc, take};
+ghost use Rattle.std.specs.Char.{is_ascii_alphabetic};
 ghost use Rattle.miette_wrap_rules.specs.declared.options.WordSeparator.{WordSeparator};
 ghost use Rattle.miette_wrap_rules.specs.declared.options.WordSeparator.TheVariants.{AsciiSpace};
 ghost use Rattle.miette_wrapping.specs.steps.Ends.{IsFirstRow, IsPart, bare_len, begins_word, gap_len};
@@ -112,47 +113,108 @@ fn is_cut<C: Codes>(hyphens: bool, before: char, code: char, behind: C) -> bool
     hyphens && code == '-' && is_alphanumeric(before) && begins_word(behind)
 }
 
+// A class of codes.
+trait Class {
+    /// Which codes are of it.
+    ghost class: { ℕ → Bool };
+
+    /// How many of them there are at the front.
+    ghost count: { List ℕ → ℕ };
+
+    fn has(code: char) -> bool
+        ensures { result ≡ class code };
+
+    /// There are none in nothing.
+    ghost none: { count [] ≡ 0 };
+
+    /// There is one more where the first code is of it.
+    ghost more: { (c : ℕ) (cs : List ℕ) → count (c ∷ cs) ≡ (if class c then suc (count cs) else 0) };
+}
+
+struct AsciiLetters;
+
+impl Class for AsciiLetters {
+    ghost class = { is_ascii_alphabetic };
+
+    ghost count = { letters_len };
+
+    ghost none = { refl };
+
+    ghost more = { λ _ _. refl };
+
+    #[inline(always)]
+    fn has(code: char) -> bool {
+        code.is_ascii_alphabetic()
+    }
+}
+
+struct SolidCodes;
+
+impl Class for SolidCodes {
+    ghost class = { is_solid };
+
+    ghost count = { solid_len };
+
+    ghost none = { refl };
+
+    ghost more = { λ _ _. refl };
+
+    #[inline(always)]
+    fn has(code: char) -> bool {
+        '.' <= code && code <= '~'
+    }
+}
+
+struct SpaceCodes;
+
+impl Class for SpaceCodes {
+    ghost class = { is_space };
+
+    ghost count = { gap_len };
+
+    ghost none = { refl };
+
+    ghost more = { λ _ _. refl };
+
+    #[inline(always)]
+    fn has(code: char) -> bool {
+        code == ' '
+    }
+}
+
+// How many codes of a class there are at the front.
+#[inline(always)]
+fn class_len<K: Class, C: Codes>(codes: C) -> usize
+    ensures value { result ≡ K.count (C.codes codes) }
+    ensures within { result ≤ length (C.codes codes) }
+{
+    let n = codes.count();
+    let mut i: usize = 0;
+    'rest: while i < n {
+        let code = codes.at(i);
+        if !K::has(code) {
+            return i;
+        }
+        i += 1;
+    }
+    i
+}
+
 /// How many letters of ASCII there are at the front.
 pub(crate) fn letters_len<C: Codes>(codes: C) -> usize
     ensures value { result ≡ letters_len (C.codes codes) }
     ensures within { result ≤ length (C.codes codes) }
 {
-    let n = codes.count();
-    let mut i: usize = 0;
-    'rest: while i < n {
-        let code = codes.at(i);
-        if !code.is_ascii_alphabetic() {
-            return i;
-        }
-        i += 1;
-    }
-    i
+    class_len::<AsciiLetters, C>(codes)
 }
 
-// Whether it is one from `.` to `~`: it has a column, and no word ends at it or is cut behind it.
-#[inline(always)]
-fn is_solid(code: char) -> bool
-    ensures { result ≡ is_solid code }
-{
-    '.' <= code && code <= '~'
-}
-
-// How many such codes there are at the front.
+// How many codes from `.` to `~` there are at the front: each has a column, and no word ends at it or is cut behind it.
 #[inline(always)]
 fn solid_len<C: Codes>(codes: C) -> usize
     ensures value { result ≡ solid_len (C.codes codes) }
     ensures within { result ≤ length (C.codes codes) }
 {
-    let n = codes.count();
-    let mut i: usize = 0;
-    'rest: while i < n {
-        let code = codes.at(i);
-        if !is_solid(code) {
-            return i;
-        }
-        i += 1;
-    }
-    i
+    class_len::<SolidCodes, C>(codes)
 }
 
 /// The letters of the part at the front, behind a code. Solid ones that have room are passed at once.
@@ -236,27 +298,12 @@ fn part_behind<T: Stop, C: Codes>(
     })
 }
 
-fn is_space(code: char) -> bool
-    ensures { result ≡ is_space code }
-{
-    code == ' '
-}
-
 /// How many spaces there are at the front.
 pub(crate) fn gap_len<C: Codes>(codes: C) -> usize
     ensures value { result ≡ gap_len (C.codes codes) }
     ensures within { result ≤ length (C.codes codes) }
 {
-    let n = codes.count();
-    let mut i: usize = 0;
-    'rest: while i < n {
-        let code = codes.at(i);
-        if !is_space(code) {
-            return i;
-        }
-        i += 1;
-    }
-    i
+    class_len::<SpaceCodes, C>(codes)
 }
 
 /// How many codes there are without the last spaces.
