@@ -4,7 +4,7 @@ ghost use Rattle.std.specs.Prelude.{◌≡◌, ◌++◌, IfOk, OnErr, OnOk, char
 ghost use Rattle.miette_runs.specs.rules.Sequences.{erase};
 ghost use Rattle.miette_wrap_rules.specs.rules.ColouredTexts.{AppendsErasing, AreColoured, colourless};
 ghost use Rattle.miette_wrap_rules.specs.rules.Wrapping.{wrapped_text};
-ghost use Rattle.miette_wrap_rules.specs.views.Plans.{cuts_hyphens, options_plan};
+ghost use Rattle.miette_wrap_rules.specs.views.Plans.{options_plan};
 
 pub use miette_runs::runs::cutting;
 use miette_runs::runs::reading::read_text;
