@@ -161,7 +161,7 @@ def other_value(dice, key, old):
         "arguments": [[], ["x"], ["{0}", "[a](b)"], [5, "y"], "z", None],
         "level": ["error", "warning", "note", "none", "loud", 3],
         "kind": ["fail", "pass", "open", "", 3],
-        "newlineSequences": [[], ["\n"], ["\r", "\r\n"], ["\u2028", "", 5], ["e", "\n\n"], "\n", None],
+        "newlineSequences": [[], ["\n"], ["\r", "\r\n"], ["\u2028", "", 5], ["e", "\n\n"], [*"\r\n\x85e"], "\n", None],
         "columnKind": ["utf16CodeUnits", "unicodeCodePoints", "", 3],
         **dict.fromkeys(("locations", "relatedLocations", "rules", "artifacts", "results", "fixes", "artifactChanges",
                          "replacements", "codeFlows", "threadFlows"), [[], None, "x", [5], [{}], {}]),
