@@ -2,10 +2,10 @@
 """positions.py: tries lines and columns of sources of any bytes through the built program `show`.
 
 Sources are drawn by chance from a fixed seed: with LF, CR LF and lone CR, characters past U+FFFF, marks, byte order
-marks, and in half of them bytes that are no UTF-8. SARIF logs point to two places in each, some behind a line's text
-or inside a character, in columns of UTF-16 units or of characters. `--json` says which bytes these are, `--github`
-gives their lines and columns in UTF-16 units, and `--brief` line and column of the first in bytes. All are those of a
-model of the rules (docs/RULES.md, 'Positions'), made without the program.
+marks, and in half of them bytes that are no UTF-8. SARIF logs, whose lines end as those of pictures, point to two
+places in each, some behind a line's text or inside a character, in columns of UTF-16 units or of characters. `--json`
+says which bytes these are, `--github` gives their lines and columns in UTF-16 units, and `--brief` line and column of
+the first in bytes. All are those of a model of the rules (docs/RULES.md, 'Positions'), made without the program.
 
 The last line is 'N passed, M failed', and the exit status is 0 only where nothing failed."""
 import json
@@ -24,6 +24,7 @@ PIECES += ["\x0b", "👩\u200d👧", "🇩🇪"]
 BROKEN = [b"\xff", b"\x80", b"\xf0\x9f", b"\xf0\x9f\x98", b"\xe6\xbc", b"\xc3", b"\xed\xa0\x80", b"\xc0\xaf"]
 BROKEN += [b"\xf4\x90\x80\x80", b"\xf8", b"\xe0\x80"]
 KINDS = {"utf16CodeUnits": "utf-16-le", "unicodeCodePoints": "utf-32-le"}
+NEWLINES = ["\r\n", "\n", "\r"]
 ROW = re.compile(r"::warning file=[0-9]+,line=(\d+),endLine=(\d+)(?:,col=(\d+),endColumn=(\d+))?::m\n")
 
 
@@ -146,8 +147,8 @@ def cases():
                 with open(os.path.join(folder, str(number)), "wb") as file:
                     file.write(data)
                 results.append(result(number, places))
-            runs = [{"tool": {"driver": {"name": "t"}}, "columnKind": kind, "results": results}]
-            got = found(folder, json.dumps({"runs": runs}).encode())
+            told_by = {"tool": {"driver": {"name": "t"}}, "columnKind": kind, "newlineSequences": NEWLINES}
+            got = found(folder, json.dumps({"runs": [{**told_by, "results": results}]}).encode())
         for number, it in zip(range(COUNT), got, strict=True):
             right = wanted(number, kind)
             yield f"{kind} {number}", it == right, (asked(number, encoding), right, it)

@@ -9,6 +9,7 @@ import json
 import os
 import sys
 import tempfile
+from urllib.parse import quote
 
 from programs import ROOT, STATUS, built, counted, each, library_in, refusals, run_refusing
 
@@ -70,6 +71,18 @@ MESSAGE = {
 }
 PLACE = {"line": 2, "column": 3, "endLine": 2, "endColumn": 7}
 CHANGES = [{**PLACE, "replacement": "there"}, {**PLACE, "column": 1, "endColumn": 1, "replacement": "\t"}]
+REGION = {"startLine": 2, "startColumn": 3, "endColumn": 7}
+ARTIFACT = {"uri": f"file://{quote(SPAN['file_name'])}"}
+LOG = {
+    "newlineSequences": ["\r\n", "\n", "\u2028"],
+    "results": [
+        {
+            "message": {"text": "{0}", "arguments": ["m"]},
+            "locations": [{"physicalLocation": {"artifactLocation": ARTIFACT, "region": REGION}}],
+            "fixes": [{"description": {"text": "by hand"}}],
+        }
+    ],
+}
 COMMENT = {"file": SPAN["file_name"], **PLACE, "code": 2086, "message": "m", "fix": {"replacements": CHANGES}}
 TERMINAL = ["--term-unicode", "yes", "--term-color", "rgb", "--rgb", "always", "--term-links", "yes", "--width", "20"]
 PLAIN = ["--term-unicode", "yes"]
@@ -87,6 +100,8 @@ RUNS = [
     (["show", *PLAIN], json.dumps(MESSAGE)),
     (["show", "--brief"], json.dumps(MESSAGE)),
     (["show", "--sarif"], json.dumps(MESSAGE)),
+    (["show", "--lsp"], json.dumps(MESSAGE)),
+    (["show", *PLAIN], json.dumps({"runs": [LOG]})),
     (["show", *PLAIN], json.dumps({"comments": [COMMENT, {**COMMENT, "file": "gone"}]})),
 ] + [
     (["job", *words], json.dumps(description))

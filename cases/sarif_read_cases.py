@@ -1,13 +1,15 @@
 """sarif_read_cases.py: SARIF logs that show.py runs the program `show` on: those made by hand (`sarif_read/*.sarif`,
 over the files beside them), the same changed by chance, what `job --sarif` and `lint --sarif` write (`job-sarif.jsonl`,
-`lint-sarif.jsonl`), and one worded as clang's."""
+`lint-sarif.jsonl`), what clang 16 and flawfinder wrote, and one worded as clang's."""
 import contextlib
 import json
 import os
 import random
 import re
 from functools import partial
+from urllib.parse import quote
 
+import gcc_cases
 from json_changes import changed
 from programs import HERE
 from sarif_model import uri_of_name
@@ -98,6 +100,30 @@ def ours(folder, name):
 # ---- logs of others
 
 
+def recorded(name):
+    """What a tool wrote, its own rows around the log too."""
+    with open(os.path.join(FOLDER, name), "rb") as file:
+        return file.read()
+
+
+def cut_rows(given):
+    """What a tool wrote, cut at every 50th byte, with a quote behind each."""
+    return b"".join(given[:end] + b'\n"\n' for end in range(1, len(given), 50))
+
+
+def of_tools(folder):
+    """What clang 16 wrote of `gcc/broken.c`, in a folder `file:///project/`, and flawfinder of `unsafe.c`."""
+    clang, flawfinder = recorded("clang.txt"), recorded("flawfinder.sarif")
+    here = clang.replace(b"/project/", f"{quote(gcc_cases.FOLDER)}/".encode())
+    below = clang.replace(b"file:///project/", b"")
+    for what, given, sources in (("clang's", below, gcc_cases.FOLDER), ("flawfinder's", flawfinder, FOLDER)):
+        yield f"{what} log", given, sources
+        yield f"{what} log over files that are gone or shorter", given, folder
+        yield f"{what} log cut at every 50th byte", cut_rows(given), sources
+    yield "clang's log over files that begin with `/`", here, FOLDER
+    yield "clang's log over a folder that isn't there", clang, gcc_cases.FOLDER
+
+
 def located(line, column, end):
     region = {"endColumn": end, "startColumn": column, "startLine": line}
     return {"physicalLocation": {"artifactLocation": {"index": 0, "uri": "wide.c"}, "region": region}}
@@ -135,7 +161,7 @@ def other_value(dice, key, old):
         "arguments": [[], ["x"], ["{0}", "[a](b)"], [5, "y"], "z", None],
         "level": ["error", "warning", "note", "none", "loud", 3],
         "kind": ["fail", "pass", "open", "", 3],
-        "newlineSequences": [[], ["\n"], ["\r", "\r\n"], ["\u2028", "", 5], ["e", "\n\n"], "\n", None],
+        "newlineSequences": [[], ["\n"], ["\r", "\r\n"], ["\u2028", "", 5], ["e", "\n\n"], [*"\r\n\x85e"], "\n", None],
         "columnKind": ["utf16CodeUnits", "unicodeCodePoints", "", 3],
         **dict.fromkeys(("locations", "relatedLocations", "rules", "artifacts", "results", "fixes", "artifactChanges",
                          "replacements", "codeFlows", "threadFlows"), [[], None, "x", [5], [{}], {}]),
@@ -167,6 +193,7 @@ def inputs(folder):
     yield "the log over many rows", rows + b"[ 50%] Building\n{ a\n{\n" + rows, FOLDER
     yield "the log over many rows, cut at every 50th byte", spread_and_cut(value), FOLDER
     yield "a log worded as clang's", of_clang(), FOLDER
+    yield from of_tools(folder)
     yield "rows of logs that can't be read", b"".join(OTHER + BAD), FOLDER
     yield "logs that are changed", hostile(random.Random(13), 600), FOLDER
     for name in ("job-sarif.jsonl", "lint-sarif.jsonl"):

@@ -10,7 +10,7 @@ from json_changes import changed
 from programs import HERE
 
 FOLDER = os.path.join(HERE, "shellcheck")
-NAMES = ["quotes", "broken", "wide", "old"]
+NAMES = ["quotes", "broken", "wide", "old", "script"]
 BAD = [b'{"comments":[{}]}\n', b'{"comments":[{"message":"m"},{"message":7}]}\n', b'{"comments":[]\n']
 BAD += [b'{"comments":{}}\n']
 OTHER = [b'{"comments":[]}\n', b'{"comments":[{"message":"m"}]}\n', b'{ "comments": []}\n', b"[ 50%] Testing\n"]

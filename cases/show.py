@@ -4,7 +4,8 @@ on SARIF logs (`sarif_read/`), and compares it with the model of show_model.py, 
 
 The recorded rows are tried as they are, as cargo wraps them, cut at every 50th byte, with members removed or of other
 types, offsets, lines and columns that are off or behind the end, other files, files that are gone or shorter. Where
-rustc, gcc and shellcheck are installed, they are run anew. `--many` reads 100,000 messages, and looks at the memory.
+rustc, gcc, shellcheck, clang 16 and flawfinder are installed, they are run anew. `--many` reads 100,000 messages, and
+looks at the memory.
 The last line is 'N passed, M failed', and the exit status is 0 only where nothing failed."""
 import json
 import os
@@ -25,6 +26,7 @@ from json_changes import changed
 from lsp_model import spelled_list
 from programs import HERE, counted, program, run, run_in_terminal
 from sarif_model import spelled_log
+from sarif_reader_model import name_of
 from show_model import is_error, parts_of, rows_of, shown_of, told_of
 from tree_model import Page, whole_picture
 
@@ -99,11 +101,13 @@ def files_in(folder):
 
 def named_in(given):
     """The files whose names begin with `/` in what is read."""
+    told = re.findall(r'"file(?:_name)?": ?"(/[^"\\]*)"', given.decode(errors="replace"))
+    told += map(name_of, re.findall(r'"uri": ?"(file:///[^"\\]*)"', given.decode(errors="replace")))
     files = {}
-    for name in re.findall(rb'"file(?:_name)?": ?"(/[^"\\]*)"', given):
+    for name in told:
         if os.path.isfile(name):
             with open(name, "rb") as file:
-                files[name.decode()] = file.read()
+                files[name] = file.read()
     return files
 
 
@@ -266,14 +270,17 @@ def terminal_tried():
 
 
 def live_tried():
-    """What rustc, gcc and shellcheck write now, where they are there."""
+    """What compilers and linters write now, where they are there."""
+    of_gcc = ["-Wall", "-fanalyzer", "-fdiagnostics-format=json", "-c", "broken.c", "leak.c"]
     runs = [
-        ("rustc", FOLDER, ["--edition", "2021", "--error-format=json", "--emit=metadata", "multi.rs"]),
-        ("gcc", gcc_cases.FOLDER, ["-Wall", "-fanalyzer", "-fdiagnostics-format=json", "-c", "broken.c", "leak.c"]),
-        ("shellcheck", shellcheck_cases.FOLDER, ["-f", "json1", "quotes.sh", "wide.sh", "broken.sh"]),
+        ("rustc", "rustc", FOLDER, ["--edition", "2021", "--error-format=json", "--emit=metadata", "multi.rs"]),
+        ("gcc", "gcc", gcc_cases.FOLDER, of_gcc),
+        ("shellcheck", "shellcheck", shellcheck_cases.FOLDER, ["-f", "json1", "quotes.sh", "wide.sh", "broken.sh"]),
+        ("clang-16", "sarif", gcc_cases.FOLDER, ["-Wall", "-fdiagnostics-format=sarif", "-c", "broken.c"]),
+        ("flawfinder", "sarif", sarif_read_cases.FOLDER, ["--sarif", "unsafe.c"]),
     ]
     done = []
-    for compiler, sources, words in runs:
+    for compiler, form, sources, words in runs:
         if shutil.which(compiler) is None:
             continue
         with tempfile.TemporaryDirectory() as folder:
@@ -281,7 +288,7 @@ def live_tried():
                 shutil.copy(os.path.join(sources, name), folder)
             ran = subprocess.run([compiler, *words], cwd=folder, capture_output=True, check=False)
             given = ran.stdout + ran.stderr
-            done.append(given != b"" and tried(folder, f"{compiler} itself", given, folder, compiler))
+            done.append(given != b"" and tried(folder, f"{compiler} itself", given, folder, form))
     return done
 
 

@@ -1,10 +1,13 @@
-use Rattle.std.proofs.Common.{◌≡◌, ap, length, map, subst, sym, ◌∙◌}
+use Rattle.std.proofs.Common.{◌&&◌, ◌≡◌, ap, false, length, map, subst, sym, ◌∙◌}
+use Rattle.std.proofs.Math.Bool.{and-false}
 use Rattle.std.proofs.lemmas.Result.{on_ok_weaker}
 use Rattle.miette_tree.specs.rules.DiagnosticParts.{given_labels}
+use Rattle.miette_tree.specs.rules.Reads.{always_reads}
 use Rattle.miette_tree.specs.rules.Tree.{head}
 use Rattle.miette_tree.specs.views.Attached.{section_of}
 use Rattle.miette_tree.specs.views.Report.{tree_of}
 use Rattle.miette_picture_rules.specs.rules.Sources.{after_labels, drawn_with, further_sources, labelled, layout_with}
+use Rattle.miette_picture_rules.specs.rules.Sources.{sources_read}
 use Rattle.miette_painting.specs.views.PartTexts.{AreSourcesDrawn, IsSourceDrawn}
 use Rattle.miette_painting.specs.views.Painting.{Paints, settings_of, source_shown}
 use Rattle.miette_painting.proofs.SourceRows.{own_and_further}
@@ -44,3 +47,12 @@ returns-clause-ok g c =
     (record (settings_of mid) { layout = c.layout_with-layout.result })) (further_sources xs)) mid new)
     c.further_snippets-sections.ensures h)))))
     c.push_further.ensures.ok
+
+pub returns-clause-refused : goal.returns-clause-refused
+returns-clause-refused g c h =
+    let m = head (tree_of g.D.Diagnostic.meaning g.S.SourceCode.source c.args.report.now) in
+    let own = always_reads (source_shown g.S.SourceCode.source c.args.source) (given_labels m.labels) in
+    let further : sources_read (further_sources m.snippets) ≡ false =
+    subst (λ xs. sources_read (further_sources xs) ≡ false) c.further_snippets-sections.ensures
+    (c.push_further.ensures.refused h) in
+    ap (λ read. own && read) further ∙ and-false own
