@@ -88,7 +88,8 @@ fn count_plain(
     Ok(count)
 }
 
-// Whether no cell from this one on is near, behind as many columns that aren't as dots have: so these are all that follows.
+// Whether no cell from this one on is near, behind as many columns that aren't as dots have: so these are all that
+// follows.
 fn is_past(window: &Window<'_>, room: &Room, count: &Count, cell: &Cell) -> bool
     ensures { result ≡ (nat_le window.now.stop cell.now.from && nat_le room.now.dots count.now.passed) }
 {

@@ -50,7 +50,8 @@ pub(crate) fn cut_in(
     join_short(alloc, &near, room.dots)
 }
 
-// Bounds of a number that is looked for, by whether one between them is enough: a larger one may be, or none from it on.
+// Bounds of a number that is looked for, by whether one between them is enough: a larger one may be, or none from it
+// on.
 fn narrowed(low: usize, high: usize, reach: usize, enough: bool) -> (usize, usize)
     ensures yes { enough ≡ true → (result.0 ≡ reach) × (result.1 ≡ high) }
     ensures no { enough ≡ false → (result.0 ≡ low) × (result.1 ≡ reach - 1) }

@@ -170,8 +170,8 @@ fn first_hunk<'a, S: SourceCode>(
     Ok((from, lines))
 }
 
-// A frame that begins with a hunk, in front of others and lines behind the last of them; gives how many of the others go
-// on with it, and sets where stands what is behind its last change.
+// A frame that begins with a hunk, in front of others and lines behind the last of them; gives how many of the others
+// go on with it, and sets where stands what is behind its last change.
 fn next_frame<'a, S: SourceCode>(
     drawing: &FixDrawing,
     progress: &mut Progress<'_, S>,

@@ -68,8 +68,8 @@ pub enum Pattern {
     Character(Delimiters),
     /// A byte, and the word behind it.
     Prefixed(u8),
-    /// A text in which nothing is escaped: this prefix, any number of hashes, and what lies between a quote and the next
-    /// one that has as many hashes behind it, with these. It goes on over lines.
+    /// A text in which nothing is escaped: this prefix, any number of hashes, and what lies between a quote and the
+    /// next one that has as many hashes behind it, with these. It goes on over lines.
     Raw(String),
 }
 

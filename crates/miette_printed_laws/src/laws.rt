@@ -103,8 +103,8 @@ pub fn erasing_law()
 
 /// The snippets of each printed diagnostic show the lines in the context of its labels, its marks are apart, each line
 /// that is too wide is cut by its reach around its ends, and has the marks under their own characters, lines that fit
-/// stay as they are, each text hangs from its own mark, labels at the end of a source stand in the column after what is shown
-/// of its last line, where they are drawn, and no label begins, ends or is missed where lines are left out inside
+/// stay as they are, each text hangs from its own mark, labels at the end of a source stand in the column after what is
+/// shown of its last line, where they are drawn, and no label begins, ends or is missed where lines are left out inside
 /// folded labels.
 pub fn snippets_law()
     ensures lines { (s : Settings) (t : Tree) → AllByRecursion (HoldsOfPrinted LinesAreShown s) (diagnostics_of s t) }

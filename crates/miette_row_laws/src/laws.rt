@@ -47,11 +47,11 @@ pub fn marks_are_apart()
         (marks_of_line s labels line (cells_of s source line)) }
 {}
 
-/// The stretches of a line that is cut have its cells, each once and in order, in a stretch that is shown where the cell
-/// is near or stands among others that aren't and are no wider than the dots; no stretch is empty, and of two that follow
-/// one another one is shown (`cut`). A cell that has columns is within so many columns of an end where one of its own
-/// columns is (`within`). Of each stretch that is shown all cells are printed, and the dots in place of each other one
-/// (`printed`).
+/// The stretches of a line that is cut have its cells, each once and in order, in a stretch that is shown where the
+/// cell is near or stands among others that aren't and are no wider than the dots; no stretch is empty, and of two that
+/// follow one another one is shown (`cut`). A cell that has columns is within so many columns of an end where one of
+/// its own columns is (`within`). Of each stretch that is shown all cells are printed, and the dots in place of each
+/// other one (`printed`).
 pub fn cut_lines_are_parted()
     ensures cut { (near : Cell → Bool) (many : ℕ) (cells : List Cell) →
         IsCutBy near many cells (with_short many (stretches near false cells)) }
@@ -120,8 +120,8 @@ pub fn marks_stand_under_their_labels()
         StandAtColumns (cells_of s source line) }
 {}
 
-/// Where there is a limit, a line's text has no more columns in its row than the limit; or where its ends alone, with the
-/// dots between them, have more, than those (`bound`): no more than the widest cell and dots for each end ask for
+/// Where there is a limit, a line's text has no more columns in its row than the limit; or where its ends alone, with
+/// the dots between them, have more, than those (`bound`): no more than the widest cell and dots for each end ask for
 /// (`ends`).
 pub fn cut_rows_are_narrow()
     ensures bound { (s : SnippetSettings) (labels : List DrawnLabel) (source : List ℕ) (line : Line)

@@ -131,7 +131,8 @@ fn push_marks<'a>(
 
 // Appends the marks of a group's labels.
 fn push_group<'a>(marks: &mut Vec<Mark<'a>>, group: Group<'_, 'a>) -> Result<(), AllocError>
-    ensures { OnOk result (map mark_of marks.new.items ≡ map mark_of marks.old.items ++ marks_in (group_of group.entry)) }
+    ensures { OnOk result (map mark_of marks.new.items ≡ map mark_of marks.old.items
+        ++ marks_in (group_of group.entry)) }
 {
     let Group { seen, labels } = group;
     push_marks(marks, seen, &labels)

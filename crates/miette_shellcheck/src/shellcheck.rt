@@ -134,8 +134,8 @@ fn all_reports<'f, D: Diagnostic, F: Files>(
     Ok(list)
 }
 
-/// The reports of what ShellCheck writes (`-f json1`): one of each of its comments, over files that are looked up by the
-/// names that it gives them.
+/// The reports of what ShellCheck writes (`-f json1`): one of each of its comments, over files that are looked up by
+/// the names that it gives them.
 ///
 /// # Errors
 /// `NoMessage` of what has no list of comments, or has one without a message, and `Memory`.

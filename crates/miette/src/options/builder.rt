@@ -347,8 +347,8 @@ impl<H: Highlighter> MietteHandlerOpts<H> {
         self
     }
 
-    /// Whether lines of sources are cut at the width: where no `line_columns` is set, a line whose text has more columns
-    /// than the width is cut in pictures.
+    /// Whether lines of sources are cut at the width: where no `line_columns` is set, a line whose text has more
+    /// columns than the width is cut in pictures.
     pub fn fit_lines(mut self, fit: bool) -> Self
         ensures { result ≡ record self { fit_lines = fit } }
     {

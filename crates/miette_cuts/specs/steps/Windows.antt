@@ -27,8 +27,8 @@ NoneBefore end near = (cell : Cell) → cell.until ≤ end → near cell ≡ fal
 abbrev pub NoneFrom : ℕ → (Cell → Bool) → Type 0
 NoneFrom stop near = (cell : Cell) → stop ≤ cell.from → near cell ≡ false
 
--- Cells are passed that end no later than in a column. Where none such is near, the row has as many columns by those that
--- are left.
+-- Cells are passed that end no later than in a column. Where none such is near, the row has as many columns by those
+-- that are left.
 pub record HasPassed (end : ℕ) (old new : Window) : Type 0 where
   pub stands : StandsTo end new
   pub counts : (dots : ℕ) (near : Cell → Bool) → NoneBefore end near →
@@ -36,8 +36,8 @@ pub record HasPassed (end : ℕ) (old new : Window) : Type 0 where
   pub stop : new.stop ≡ old.stop
   pub left : length new.walk ≤ length old.walk
 
--- By each reach up to the limit, a line's row has as many columns by the cells of a window, and none from its stop on is
--- near.
+-- By each reach up to the limit, a line's row has as many columns by the cells of a window, and none from its stop on
+-- is near.
 pub record HoldsNear (limit : ℕ) (ends : List ℕ) (cells : List Cell) (window : Window) : Type 0 where
   pub stands : StandTogether window.walk
   pub counts : (room : Room) → room.reach ≤ limit →

@@ -35,8 +35,8 @@ past_lines at (line ∷ lines) = past_lines (past at line) lines
 abbrev pub at_start : Standing
 at_start = record { old_line = 0; new_line = 0; old_offset = 0; new_offset = 0 }
 
--- Frames stand among lines: in front of each one, and behind the last, nothing but unchanged lines is left out, and some
--- between two frames. What a frame says of the lines before it is what stands before it.
+-- Frames stand among lines: in front of each one, and behind the last, nothing but unchanged lines is left out, and
+-- some between two frames. What a frame says of the lines before it is what stands before it.
 abbrev pub StandAmong : Bool → Standing → List DiffFrame → List DiffLine → Type 0
 StandAmong goes_on at [] lines = (left : List (List ℕ)) × (lines ≡ kept_lines left)
 StandAmong goes_on at (frame ∷ frames) lines =

@@ -190,10 +190,10 @@ least_columns s source labels k =
     text_columns (dots_in s.theme.characters)
     (cut_at (dots_in s.theme.characters) 0 (ends_under s source labels k) (cells_under s source k))
 
--- Line k is cut by its reach: the largest number of columns around its ends by which the row's text is no wider than the
--- limit; where it has no ends its first cells are shown, as many as have room. Of each stretch that is shown the cells
--- are printed, and the theme's dots in place of each other one. At the ends of a mark, and at its other columns that are
--- shown, stands what stands at them in the whole line.
+-- Line k is cut by its reach: the largest number of columns around its ends by which the row's text is no wider than
+-- the limit; where it has no ends its first cells are shown, as many as have room. Of each stretch that is shown the
+-- cells are printed, and the theme's dots in place of each other one. At the ends of a mark, and at its other columns
+-- that are shown, stands what stands at them in the whole line.
 pub record IsCutExactly (s : Settings) (source : Source) (labels : List Label) (k limit : ℕ) (cut : List Stretch) :
     Type 0 where
   pub reach : IsCutByReach (limit_of limit) (dots_in s.theme.characters) (ends_under s source labels k)
@@ -203,9 +203,9 @@ pub record IsCutExactly (s : Settings) (source : Source) (labels : List Label) (
   pub marks : AreMoved (dots s.theme) (cells_under s source k) cut (whole_marks s source labels k)
       (marks_under s source labels k)
 
--- Line k is cut where it has more columns than the limit, and just there, exactly; a limit below 8 counts as 8. Its text
--- has no more columns in its row than the limit, or where its ends alone need more, than those: no more than the widest
--- cell and dots for each end ask for.
+-- Line k is cut where it has more columns than the limit, and just there, exactly; a limit below 8 counts as 8. Its
+-- text has no more columns in its row than the limit, or where its ends alone need more, than those: no more than the
+-- widest cell and dots for each end ask for.
 pub record IsCutAt (s : Settings) (source : Source) (labels : List Label) (k limit : ℕ) : Type 0 where
   pub wide : limit_of limit < cells_width 0 (cells_under s source k) → cut_under s source labels k ≢ None
   pub fits : cells_width 0 (cells_under s source k) ≤ limit_of limit → cut_under s source labels k ≡ None

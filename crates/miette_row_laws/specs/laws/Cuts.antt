@@ -95,8 +95,8 @@ abbrev pub IsSameAt : Run → List Cell → List Stretch → ℕ → ℕ → Typ
 IsSameAt run cells cut column row = standing_at (pieces_shown run cut) row ≡ standing_at (printed_cells cells) column
 
 -- A mark of the whole line is moved into the row of the cut one: at its first column, at its last column, and at its
--- anchor where a text hangs from it, stands what stood there in the whole line, and so it is, within the mark, with each
--- of its columns that is shown.
+-- anchor where a text hangs from it, stands what stood there in the whole line, and so it is, within the mark, with
+-- each of its columns that is shown.
 pub record IsMoved (run : Run) (cells : List Cell) (cut : List Stretch) (mark moved : Mark) : Type 0 where
   pub first : IsSameAt run cells cut mark.from moved.from
   pub anchor : mark.label.parts ≢ [] → IsSameAt run cells cut mark.anchor moved.anchor
@@ -120,8 +120,8 @@ abbrev pub AreAsWide : ℕ → List Cell → Type 0
 AreAsWide widest [] = Unit {0}
 AreAsWide widest (cell ∷ cells) = (cell.until - cell.from ≤ widest) × AreAsWide widest cells
 
--- The most columns that so many ends of a line need in its row, by its widest cell: that of each end and dots before it,
--- and dots behind the last.
+-- The most columns that so many ends of a line need in its row, by its widest cell: that of each end and dots before
+-- it, and dots behind the last.
 abbrev pub most_columns : ℕ → ℕ → ℕ → ℕ
 most_columns many widest ends = ends * (widest + many) + many
 

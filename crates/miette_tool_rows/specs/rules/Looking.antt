@@ -7,7 +7,8 @@ use Rattle.serde_json.specs.Data.{Data}
 use Rattle.miette_readers.specs.rules.Names.{names_of}
 use Rattle.miette_sarif_reader.specs.rules.Names as log
 
--- the names of the files that a value speaks of: those of compilers and ShellCheck, and those that the URIs of a log stand for
+-- the names of the files that a value speaks of: those of compilers and ShellCheck, and those that the URIs of a log
+-- stand for
 abbrev pub all_names : Data → List (List ℕ)
 all_names d = names_of d ++ log.names_of d
 

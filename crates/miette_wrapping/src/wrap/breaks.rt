@@ -75,8 +75,8 @@ fn rest_len<C: Codes>(start: State, joined: bool, codes: C) -> (usize, State)
     (i, state)
 }
 
-// How many codes the first word and its spaces have, what stands before the next, and whether all of them are seen to be
-// printable ASCII without a hyphen.
+// How many codes the first word and its spaces have, what stands before the next, and whether all of them are seen to
+// be printable ASCII without a hyphen.
 fn word_len<C: Codes>(start: State, codes: C) -> (usize, State, bool)
     ensures len { result.0 ≡ piece_len start true (C.codes codes) }
     ensures state { result.1 ≡ state_at start result.0 (C.codes codes) }
