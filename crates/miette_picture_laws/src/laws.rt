@@ -23,6 +23,7 @@ ghost use Rattle.miette_picture_laws.specs.laws.Determined.{IsDetermined};
 ghost use Rattle.miette_picture_rules.specs.views.Handling.{AreCallsOf, Handling, draws_plain, follows_of};
 ghost use Rattle.miette_highlight.specs.rules.FollowingCalls.{FollowTokens};
 ghost use Rattle.miette_highlight.specs.declared.rule.Rule.{Rule};
+ghost use Rattle.miette_highlight.specs.declared.tokens.OpenPart.{OpenPart};
 ghost use Rattle.miette_protocol.specs.views.Meaning.{Label};
 ghost use Rattle.miette_protocol.specs.rules.Reading.{Source};
 ghost use Rattle.miette_snippet_rules.specs.rules.Settings.{SnippetSettings};
@@ -92,7 +93,7 @@ pub fn determined_law<H: Highlighter>()
         IsAskedText whole_drawing it.settings (draws_plain H.is_blank it) (AreCallsOf H.may_follow it after) t some →
         IsAskedText whole_drawing it.settings (draws_plain H.is_blank it) (AreCallsOf H.may_follow it other) t others →
         some ≡ others }
-    ensures rules { (rules : List Rule) (left_open : Option ℕ) → IsDetermined (FollowTokens rules left_open) }
+    ensures rules { (rules : List Rule) (left_open : Option OpenPart) → IsDetermined (FollowTokens rules left_open) }
 {}
 
 /// The printed diagnostics are those that stand at a path from the outermost one: by steps to a cause where causes
