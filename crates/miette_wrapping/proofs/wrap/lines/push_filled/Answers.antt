@@ -55,9 +55,10 @@ returns-then-end-all g c =
     let m = c.in_ok-inside.inside in
     let o = g.S.Canvas.written c.rest.out in
     let is : n ≡ line_len (drop s cs) = c.line_len-n.ensures.value ∙ ap line_len c.from.ensures in
-    let rows = rows-here cuts indent c.rest.room under.further_room s n cs _ (tags_from k all) o _
-    c.in_ok-inside.ensures.text c.front.ensures in
-    let left = left-here s n m cs _ (tags_from k all) c.in_ok-inside.ensures.left c.front.ensures in
+    let front = g.C.Codes.codes c.front.result in
+    let rows = rows-here cuts indent c.rest.room under.further_room s n cs front (tags_from k all) o
+    (g.S.Canvas.written c.push_rows.new.out) c.in_ok-inside.ensures.text c.front.ensures in
+    let left = left-here s n m cs front (tags_from k all) c.in_ok-inside.ensures.left c.front.ensures in
     last-filled cuts indent c.rest.room under.further_room s n k m cs all o (g.S.Canvas.written c.push_rows.new.out)
     (g.S.Canvas.written c.push_tags.new.out) is (omega (arith, c.if-end-all.true, c.count-all.ensures)) rows left
     c.in_ok-push_tags.ensures
@@ -87,9 +88,10 @@ rest-preserved g c =
       length-drop s cs,
     ) in
     let is : n ≡ line_len (drop s cs) = c.line_len-n.ensures.value ∙ ap line_len c.from.ensures in
-    let rows = rows-here cuts indent c.rest.room under.further_room s n cs _ (tags_from k all) o _
-    c.in_ok-inside.ensures.text c.front.ensures in
-    let left = left-here s n m cs _ (tags_from k all) c.in_ok-inside.ensures.left c.front.ensures in
+    let front = g.C.Codes.codes c.front.result in
+    let rows = rows-here cuts indent c.rest.room under.further_room s n cs front (tags_from k all) o
+    (g.S.Canvas.written c.push_rows.new.out) c.in_ok-inside.ensures.text c.front.ensures in
+    let left = left-here s n m cs front (tags_from k all) c.in_ok-inside.ensures.left c.front.ensures in
     record {
       printed =
           next-filled cuts indent c.rest.room under.further_room s n k m c.in_ok-behind.behind cs all o
