@@ -25,7 +25,9 @@ WIDE = len(LINE)
 SIZES = 5
 BOUND, MORE = 2.2, 1.15
 OWN_CONTEXTS = 3
-RUST = (*COLOUR, "--highlight", "rust")
+# lines are highlighted only where there are colours
+HIGHLIGHTED = (*COLOUR, "--color", "yes", "--highlight")
+RUST = (*HIGHLIGHTED, "rust")
 HELP = (
     "look at the rule book and at the list of exceptions, then run the tool again with the flag "
     "that it names"
@@ -252,7 +254,7 @@ def on_one_line(start, unit):
 def of_highlighters():
     """Sources that are highlighted."""
     whole = lambda n: over([label(0, n * WIDE - 2, "x")], LINE * n)
-    cut_json = (*COLOUR, "--highlight", "json", *CUT)
+    cut_json = (*HIGHLIGHTED, "json", *CUT)
     yield Series("highlighted: a label over many lines", RUST, whole, 250)
     yield Series("highlighted: labels far apart", RUST, labels_apart(8), 125)
     unclosed = on_one_line('let s = "', 'a\\" /* ')

@@ -47,7 +47,7 @@ NESTED_COLOUR = Way("nested colour", "job", (*COLOUR.words, "--nested", "yes"), 
 ALL = (*HANDLERS, NESTED, NESTED_COLOUR)
 FOLDED = Way("folded", "job", (*PLAIN.words, "--label-lines", "5"), draws=True)
 CUT = Way("cut", "job", (*PLAIN.words, "--line-columns", "80"), draws=True)
-HIGHLIGHT = ("--theme", "unicode", "--highlight", "json", "--line-columns", "80")
+HIGHLIGHT = ("--theme", "unicode", "--color", "yes", "--highlight", "json", "--line-columns", "80")
 HIGHLIGHTED = Way("highlighted", "job", HIGHLIGHT, draws=True)
 WHOLE = Way("whole", "job", (*PLAIN.words, "--context", "100000000"), draws=True)
 BENCH = Way("bench", "bench", ("2", *PLAIN.words), draws=True)

@@ -9,6 +9,7 @@ pub mod NameSteps
 pub mod NewlineSteps
 pub mod PieceSteps
 pub mod Returned
+pub mod StartSteps
 pub mod Steps
 pub mod UnitSteps
 pub mod WalkSteps

@@ -2,3 +2,4 @@
 pub mod Grounds
 pub mod Pieces
 pub mod Begins
+pub mod Tables

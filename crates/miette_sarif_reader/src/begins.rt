@@ -1,4 +1,4 @@
-//! Where sequences that end lines may begin.
+//! The sequences that end lines, and where they may begin.
 
 ghost use Rattle.std.specs.Prelude.{◌≡◌, ◌≤◌, ◌+◌, ◌-◌, drop, length};
 ghost use Rattle.std.specs.List.{list_all};
@@ -8,6 +8,18 @@ ghost use Rattle.miette_sarif_reader.specs.rules.Newlines.{text_size};
 ghost use Rattle.miette_sarif_reader.specs.views.Begins.{IsNoneBefore, begins_by};
 
 use memchr::memchr3;
+
+/// What ends the lines of a run's files: its sequences, three bytes, and whether each of the sequences begins with one
+/// of these, so that a walk skips all bytes up to the next of them. It is made once for a run.
+#[derive(Drop)]
+pub(crate) struct Ends<'v> {
+    pub(crate) newlines: Vec<&'v str>,
+    one: u8,
+    two: u8,
+    three: u8,
+    skips: bool,
+    ghost begin: { skips ≡ list_all (begins_by (is_byte3 one two three)) (texts newlines.items) },
+}
 
 /// The bytes from an offset on.
 pub(crate) fn rest_from(bytes: &[u8], at: usize) -> &[u8]
@@ -64,19 +76,33 @@ fn bytes_before(bytes: &[u8], one: u8, two: u8, three: u8) -> usize
     }
 }
 
+/// What ends lines, by the sequences that do.
+pub(crate) fn ends_of<'v>(newlines: Vec<&'v str>) -> Ends<'v>
+    ensures { texts result.newlines.items ≡ texts newlines.entry.items }
+{
+    let one = other_begin(newlines.as_slice(), 0, 0);
+    let two = other_begin(newlines.as_slice(), one, one);
+    let three = other_begin(newlines.as_slice(), one, two);
+    let skips = all_begin(newlines.as_slice(), one, two, three);
+    Ends {
+        newlines,
+        one,
+        two,
+        three,
+        skips,
+    }
+}
+
 /// A place from an offset on up to which no line ends.
-pub(crate) fn next_begin(newlines: &[&str], bytes: &[u8], at: usize) -> usize
+pub(crate) fn next_begin(ends: &Ends<'_>, bytes: &[u8], at: usize) -> usize
     requires { at ≤ length bytes.now }
-    ensures value { text_size (texts newlines.now) (drop at bytes.now)
-        ≡ (result - at) + text_size (texts newlines.now) (drop result bytes.now) }
+    ensures value { text_size (texts ends.now.newlines.items) (drop at bytes.now)
+        ≡ (result - at) + text_size (texts ends.now.newlines.items) (drop result bytes.now) }
     ensures order { at ≤ result }
     ensures within { result ≤ length bytes.now }
 {
-    let one = other_begin(newlines, 0, 0);
-    let two = other_begin(newlines, one, one);
-    let three = other_begin(newlines, one, two);
-    if !all_begin(newlines, one, two, three) {
+    if !ends.skips {
         return at;
     }
-    at + bytes_before(rest_from(bytes, at), one, two, three)
+    at + bytes_before(rest_from(bytes, at), ends.one, ends.two, ends.three)
 }

@@ -10,34 +10,38 @@ ghost use Rattle.miette_sarif_reader.specs.rules.Newlines.{newlines_of};
 ghost use Rattle.miette_sarif_reader.specs.rules.Results.{ground_for, has_id, index_told, is_extended, item_at};
 ghost use Rattle.miette_sarif_reader.specs.rules.Results.{rule_id, rule_index, rule_named, rule_of};
 ghost use Rattle.miette_sarif_reader.specs.rules.Results.{rule_told, strings_of};
-ghost use Rattle.miette_sarif_reader.specs.views.Grounds.{ground_in};
+ghost use Rattle.miette_sarif_reader.specs.views.Tables.{AreTables};
 
 use crate::bases::bases_of;
+use crate::begins::{Ends, ends_of};
 use crate::newlines::newlines_of;
 use crate::regions::encoding_of;
+use crate::tables::{Table, table_with, tables_of};
 use miette_positions::place::PositionEncoding;
 use miette_readers::files::Files;
 use miette_readers::members::{object_at, objects_at, text_at, whole_at};
 use serde_json::Value;
 use std::alloc::{AllocError, Global};
 
-/// The rules of the tool that made a run, its artifacts, and what ends the lines of its files.
+/// The rules of the tool that made a run, its artifacts, what ends the lines of its files, and where these begin.
 #[derive(Drop)]
 pub(crate) struct Lists<'v> {
     pub(crate) rules: Vec<&'v Value>,
     pub(crate) artifacts: Vec<&'v Value>,
-    pub(crate) newlines: Vec<&'v str>,
+    pub(crate) ends: Ends<'v>,
+    pub(crate) tables: Vec<Table>,
 }
 
 /// By what a run's results are read: the files, how columns are counted, the lists of the run, its bases, and the
 /// message strings of a result's rule.
 #[derive(Drop)]
-pub(crate) struct Ground<'f, 'l, 'v, F> {
+pub(crate) struct Ground<'f, 'l, 'v, F: Files> {
     pub(crate) files: &'f F,
     pub(crate) encoding: PositionEncoding,
     pub(crate) lists: &'l Lists<'v>,
     pub(crate) bases: Option<&'v Value>,
     pub(crate) strings: Option<&'v Value>,
+    ghost tabled: { AreTables (F.found files.now) (texts lists.now.ends.newlines.items) lists.now.tables.items },
 }
 
 /// The tool that made a run.
@@ -58,39 +62,27 @@ fn rules_of<'v>(alloc: Global, run: &'v Value) -> Result<Vec<&'v Value>, AllocEr
 }
 
 /// The lists of a run.
-pub(crate) fn lists_of<'v>(alloc: Global, run: &'v Value) -> Result<Lists<'v>, AllocError>
+pub(crate) fn lists_of<'v, F: Files>(
+    alloc: Global,
+    files: &F,
+    run: &'v Value,
+) -> Result<Lists<'v>, AllocError>
     ensures rules { IfOk result (λ it. seen it.rules.items ≡ rules_by (driver_of (view run.now))) }
     ensures artifacts { IfOk result (λ it. seen it.artifacts.items ≡ objects_at (codes "artifacts") (view run.now)) }
-    ensures newlines { IfOk result (λ it. texts it.newlines.items ≡ newlines_of (view run.now)) }
+    ensures newlines { IfOk result (λ it. texts it.ends.newlines.items ≡ newlines_of (view run.now)) }
+    ensures tables { IfOk result (λ it. AreTables (F.found files.now) (texts it.ends.newlines.items) it.tables.items) }
 {
     let rules = rules_of(alloc, run)?;
     let artifacts = objects_at(alloc, run, "artifacts")?;
     let newlines = newlines_of(alloc, run)?;
+    let ends = ends_of(newlines);
+    let tables = tables_of(alloc, files, &ends, run)?;
     Ok(Lists {
         rules,
         artifacts,
-        newlines,
+        ends,
+        tables,
     })
-}
-
-/// By what the results of a run are read.
-pub(crate) fn ground_of<'f, 'l, 'v, F: Files>(
-    files: &'f F,
-    lists: &'l Lists<'v>,
-    run: &'v Value,
-) -> Ground<'f, 'l, 'v, F>
-    requires rules { seen lists.now.rules.items ≡ rules_by (driver_of (view run.now)) }
-    requires artifacts { seen lists.now.artifacts.items ≡ objects_at (codes "artifacts") (view run.now) }
-    requires newlines { texts lists.now.newlines.items ≡ newlines_of (view run.now) }
-    ensures { ground_in F.found result ≡ ground_of (F.found files.now) (view run.now) }
-{
-    Ground {
-        files,
-        encoding: encoding_of(run),
-        lists,
-        bases: bases_of(run),
-        strings: None,
-    }
 }
 
 /// The item of an index.
@@ -192,6 +184,38 @@ fn rule_named<'v>(rules: &[&'v Value], id: Option<&str>) -> Option<&'v Value>
 }
 
 impl<'f, 'l, 'v, F: Files> Ground<'f, 'l, 'v, F> {
+    ghost use Rattle.std.specs.Option.{ForSome};
+    ghost use Rattle.miette_sarif_reader.specs.views.Grounds.{ground_in};
+    ghost use Rattle.miette_sarif_reader.specs.views.Tables.{AreStarts};
+
+    /// By what the results of a run are read.
+    pub(crate) fn of(files: &'f F, lists: &'l Lists<'v>, run: &'v Value) -> Ground<'f, 'l, 'v, F>
+        requires rules { seen lists.now.rules.items ≡ rules_by (driver_of (view run.now)) }
+        requires artifacts { seen lists.now.artifacts.items ≡ objects_at (codes "artifacts") (view run.now) }
+        requires newlines { texts lists.now.ends.newlines.items ≡ newlines_of (view run.now) }
+        requires tables { AreTables (F.found files.now) (texts lists.now.ends.newlines.items) lists.now.tables.items }
+        ensures { ground_in F.found result ≡ ground_of (F.found files.now) (view run.now) }
+    {
+        Ground {
+            files,
+            encoding: encoding_of(run),
+            lists,
+            bases: bases_of(run),
+            strings: None,
+        }
+    }
+
+    /// Where the lines of the file of this name begin, where there is a table of it.
+    pub(crate) fn starts_at(&self, name: &str) -> Option<&'l [usize]>
+        ensures { ForSome result (λ starts. ForSome (F.found self.now.files.now name.now) (λ source.
+            AreStarts (texts self.now.lists.now.ends.newlines.items) source.bytes 0 starts.now)) }
+    {
+        match table_with(self.lists.tables.as_slice(), name) {
+            Some(table) => Some(table.starts.as_slice()),
+            None => None,
+        }
+    }
+
     /// A result's rule: by its index, else the first one of its id.
     pub(crate) fn rule_of(&self, finding: &Value) -> Option<&'v Value>
         ensures { option_map (λ v. view v.now) result ≡ rule_of (ground_in F.found self.now) (view finding.now) }

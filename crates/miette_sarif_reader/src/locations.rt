@@ -9,6 +9,7 @@ ghost use Rattle.miette_sarif_reader.specs.rules.Regions.{start_column, start_li
 ghost use Rattle.miette_sarif_reader.specs.views.Grounds.{ground_in};
 
 use crate::ground::{Ground, item_at};
+use crate::lines::FileLines;
 use crate::regions::{is_told, start_column, start_line, stretch_in};
 use miette_readers::files::Files;
 use miette_readers::members::{object_at, text_at, whole_at};
@@ -199,8 +200,12 @@ impl<'f, 'l, 'v, F: Files> Ground<'f, 'l, 'v, F> {
     {
         match self.files.find(name) {
             Some(file) => {
-                let newlines = self.lists.newlines.as_slice();
-                stretch_in(self.encoding, newlines, file.bytes(), region)
+                let lines = FileLines {
+                    ends: &self.lists.ends,
+                    bytes: file.bytes(),
+                    starts: self.starts_at(name),
+                };
+                stretch_in(self.encoding, &lines, region)
             }
             None => None,
         }

@@ -92,6 +92,15 @@ fn push_run(list: &mut Vec<String>, alloc: Global, run: &Value) -> Result<(), Al
     push_names(list, alloc, bases_of(run), run)
 }
 
+/// The names of the files that a run speaks of.
+pub(crate) fn run_names(alloc: Global, run: &Value) -> Result<Vec<String>, AllocError>
+    ensures { IfOk result (λ list. map string_bytes list.items ≡ run_names (view run.now)) }
+{
+    let mut list = Vec::new(alloc);
+    push_run(&mut list, alloc, run)?;
+    Ok(list)
+}
+
 /// The names of the files that a log speaks of: of each run what its objects stand for that have a text `uri`, at any
 /// depth, each as often as it is there.
 ///

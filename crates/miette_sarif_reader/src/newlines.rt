@@ -9,7 +9,7 @@ ghost use Rattle.miette_readers.specs.views.Values.{texts, viewed};
 ghost use Rattle.miette_sarif_reader.specs.rules.Newlines.{end_size, line_behind, line_size, newlines_of, sequence_in};
 ghost use Rattle.miette_sarif_reader.specs.rules.Newlines.{stands_in, text_size, usual_newlines};
 
-use crate::begins::{next_begin, rest_from};
+use crate::begins::{Ends, next_begin, rest_from};
 use miette_readers::lists::push_item;
 use miette_readers::members::items_at;
 use serde_json::Value;
@@ -101,28 +101,28 @@ fn end_here<'n>(newlines: &[&'n str], bytes: &[u8]) -> Option<&'n str>
 }
 
 /// How many bytes end a line here.
-fn end_size(newlines: &[&str], bytes: &[u8]) -> usize
-    ensures value { result ≡ end_size (texts newlines.now) bytes.now }
+fn end_size(ends: &Ends<'_>, bytes: &[u8]) -> usize
+    ensures value { result ≡ end_size (texts ends.now.newlines.items) bytes.now }
     ensures within { result ≤ length bytes.now }
 {
-    match end_here(newlines, bytes) {
+    match end_here(ends.newlines.as_slice(), bytes) {
         Some(end) => end.len(),
         None => 0,
     }
 }
 
 /// How many bytes the text of the first line has.
-pub(crate) fn text_size(newlines: &[&str], bytes: &[u8]) -> usize
-    ensures value { result ≡ text_size (texts newlines.now) bytes.now }
+pub(crate) fn text_size(ends: &Ends<'_>, bytes: &[u8]) -> usize
+    ensures value { result ≡ text_size (texts ends.now.newlines.items) bytes.now }
     ensures within { result ≤ length bytes.now }
 {
     let mut at: usize = 0;
     while at < bytes.len() {
-        let next = next_begin(newlines, bytes, at);
+        let next = next_begin(ends, bytes, at);
         if next >= bytes.len() {
             return next;
         }
-        let end = end_size(newlines, rest_from(bytes, next));
+        let end = end_size(ends, rest_from(bytes, next));
         if end == 0 {
             at = next + 1;
         } else {
@@ -133,24 +133,24 @@ pub(crate) fn text_size(newlines: &[&str], bytes: &[u8]) -> usize
 }
 
 /// How many bytes the first line has with its end, where it ends.
-fn line_size(newlines: &[&str], bytes: &[u8]) -> Option<usize>
-    ensures value { result ≡ line_size (texts newlines.now) bytes.now }
+pub(crate) fn line_size(ends: &Ends<'_>, bytes: &[u8]) -> Option<usize>
+    ensures value { result ≡ line_size (texts ends.now.newlines.items) bytes.now }
     ensures within { IfSome result (λ size. size ≤ length bytes.now) }
 {
-    let text = text_size(newlines, bytes);
-    let end = end_size(newlines, rest_from(bytes, text));
+    let text = text_size(ends, bytes);
+    let end = end_size(ends, rest_from(bytes, text));
     if end == 0 { None } else { Some(text + end) }
 }
 
 /// Where the line begins that stands so many lines behind the first.
-pub(crate) fn line_behind(newlines: &[&str], bytes: &[u8], lines: usize) -> Option<usize>
-    ensures value { result ≡ line_behind (texts newlines.now) bytes.now 0 lines }
+pub(crate) fn line_behind(ends: &Ends<'_>, bytes: &[u8], lines: usize) -> Option<usize>
+    ensures value { result ≡ line_behind (texts ends.now.newlines.items) bytes.now 0 lines }
     ensures within { IfSome result (λ at. at ≤ length bytes.now) }
 {
     let mut at: usize = 0;
     let mut left = lines;
     while left > 0 {
-        match line_size(newlines, rest_from(bytes, at)) {
+        match line_size(ends, rest_from(bytes, at)) {
             Some(size) => at += size,
             None => return None,
         }

@@ -10,8 +10,9 @@ ghost use Rattle.miette_sarif_reader.specs.rules.Regions.{end_columns, end_line,
 ghost use Rattle.miette_sarif_reader.specs.rules.Regions.{line_stretch, offset_at, start_column, start_line};
 ghost use Rattle.miette_sarif_reader.specs.rules.Regions.{stretch_by_bytes, stretch_by_chars, stretch_in, units_behind};
 
-use crate::begins::rest_from;
-use crate::newlines::{line_behind, text_size};
+use crate::begins::{Ends, rest_from};
+use crate::lines::FileLines;
+use crate::newlines::text_size;
 use miette_cells::cells::first_character;
 use miette_positions::place::PositionEncoding;
 use miette_readers::members::{text_at, whole_at};
@@ -30,13 +31,13 @@ pub(crate) fn encoding_of(run: &Value) -> PositionEncoding
 }
 
 /// Where the text of the line ends that begins here.
-fn text_end(newlines: &[&str], bytes: &[u8], start: usize) -> usize
+fn text_end(ends: &Ends<'_>, bytes: &[u8], start: usize) -> usize
     requires { start ≤ length bytes.now }
-    ensures value { result ≡ start + text_size (texts newlines.now) (drop start bytes.now) }
+    ensures value { result ≡ start + text_size (texts ends.now.newlines.items) (drop start bytes.now) }
     ensures order { start ≤ result }
     ensures within { result ≤ length bytes.now }
 {
-    start + text_size(newlines, rest_from(bytes, start))
+    start + text_size(ends, rest_from(bytes, start))
 }
 
 /// The bytes up to an offset.
@@ -50,33 +51,32 @@ fn front_to(bytes: &[u8], stop: usize) -> &[u8]
 /// So many columns behind the beginning of a line: behind the line's text its end, inside a character its start.
 fn column_at(
     encoding: PositionEncoding,
-    newlines: &[&str],
+    ends: &Ends<'_>,
     bytes: &[u8],
     start: usize,
     columns: usize,
 ) -> usize
     requires { start ≤ length bytes.now }
-    ensures { result ≡ column_at encoding (texts newlines.now) bytes.now start columns }
+    ensures { result ≡ column_at encoding (texts ends.now.newlines.items) bytes.now start columns }
 {
-    let stop = text_end(newlines, bytes, start);
+    let stop = text_end(ends, bytes, start);
     units_behind(encoding, front_to(bytes, stop), start, columns).unwrap_or(stop)
 }
 
 /// The offset of so many columns on a line, the first with 1.
 fn offset_at(
     encoding: PositionEncoding,
-    newlines: &[&str],
-    bytes: &[u8],
+    lines: &FileLines<'_, '_>,
     line: u64,
     columns: usize,
 ) -> Option<usize>
-    ensures { result ≡ offset_at encoding (texts newlines.now) bytes.now line columns }
+    ensures { result ≡ offset_at encoding (texts lines.now.ends.now.newlines.items) lines.now.bytes.now line columns }
 {
     if line == 0 {
         return None;
     }
-    let start = line_behind(newlines, bytes, (line - 1) as usize)?;
-    Some(column_at(encoding, newlines, bytes, start, columns))
+    let start = lines.line_behind((line - 1) as usize)?;
+    Some(column_at(encoding, lines.ends, lines.bytes, start, columns))
 }
 
 /// The line on which a region begins, the first with 1.
@@ -113,16 +113,16 @@ fn end_columns(bytes: &[u8], column: Option<u64>) -> usize
 /// Up to but without its end column.
 fn line_stretch(
     encoding: PositionEncoding,
-    newlines: &[&str],
-    bytes: &[u8],
+    lines: &FileLines<'_, '_>,
     region: &Value,
 ) -> Option<Stretch>
-    ensures { result ≡ line_stretch encoding (texts newlines.now) bytes.now (view region.now) }
+    ensures { result ≡ line_stretch encoding (texts lines.now.ends.now.newlines.items) lines.now.bytes.now
+        (view region.now) }
 {
     let columns = start_column(region).saturating_sub(1) as usize;
-    let start = offset_at(encoding, newlines, bytes, start_line(region), columns)?;
-    let columns = end_columns(bytes, whole_at(region, "endColumn"));
-    let end = offset_at(encoding, newlines, bytes, end_line(region), columns)?;
+    let start = offset_at(encoding, lines, start_line(region), columns)?;
+    let columns = end_columns(lines.bytes, whole_at(region, "endColumn"));
+    let end = offset_at(encoding, lines, end_line(region), columns)?;
     Some(Stretch { start, end })
 }
 
@@ -241,17 +241,17 @@ pub(crate) fn is_told(region: &Value) -> bool
 /// The bytes of a region: by its lines, else by its characters, else by its bytes.
 pub(crate) fn stretch_in(
     encoding: PositionEncoding,
-    newlines: &[&str],
-    bytes: &[u8],
+    lines: &FileLines<'_, '_>,
     region: &Value,
 ) -> Option<Stretch>
-    ensures { result ≡ stretch_in encoding (texts newlines.now) bytes.now (view region.now) }
+    ensures { result ≡ stretch_in encoding (texts lines.now.ends.now.newlines.items) lines.now.bytes.now
+        (view region.now) }
 {
     if has_line(region) {
-        line_stretch(encoding, newlines, bytes, region)
+        line_stretch(encoding, lines, region)
     } else if has_chars(region) {
-        stretch_by_chars(encoding, bytes, region)
+        stretch_by_chars(encoding, lines.bytes, region)
     } else {
-        stretch_by_bytes(bytes, region)
+        stretch_by_bytes(lines.bytes, region)
     }
 }

@@ -10,7 +10,7 @@ ghost use Rattle.miette_sarif_reader.specs.rules.Logs.{has_runs, result_in, resu
 ghost use Rattle.miette_sarif_reader.specs.rules.Logs.{sarif_trees};
 ghost use Rattle.miette_sarif_reader.specs.views.Grounds.{ground_in};
 
-use crate::ground::{Ground, ground_of, lists_of};
+use crate::ground::{Ground, lists_of};
 use crate::proposals::{help_of, offers_of};
 use crate::telling::lent;
 use miette_protocol::protocol::Diagnostic;
@@ -87,8 +87,8 @@ fn push_run<'f, D: Diagnostic, F: Files>(
         ≡ map (tree_of D.meaning ⟦<LentFile<'f> as SourceCode>⟧.source) list.old.items
         ++ run_trees (F.found files.now) (view run.now)) }
 {
-    let lists = lists_of(alloc, run)?;
-    let ground = ground_of(files, &lists, run);
+    let lists = lists_of(alloc, files, run)?;
+    let ground = Ground::of(files, &lists, run);
     let findings = objects_at(alloc, run, "results")?;
     push_reports(list, alloc, &ground, findings.as_slice())
 }

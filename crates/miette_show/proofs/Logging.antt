@@ -303,12 +303,3 @@ all_first from files parts ts before after verdict (logged, rows, has, trees, no
   has,
   all_taken before after (log_notes 1 logged) notes,
 )
-
--- and the status
-pub logs_status : (from : Format) (found : (List ℕ → Option Source) → List (List ℕ) → Type 0)
-    (told : Option (List ℕ)) (holds : List Tree → List ℕ → Type 0) (verdict : Verdict) (status : ℕ)
-    → status ≡ status_of verdict → IfSome told (λ bytes. Logs from found bytes holds verdict)
-    → IfSome told (λ bytes. (v : Verdict) × (status ≡ status_of v) × Logs from found bytes (λ ts notes. ⊤) v)
-logs_status from found None holds verdict status is h = tt
-logs_status from found (Some bytes) holds verdict status is (files, logged, rows, each, said, same) =
-    (verdict, is, (files, logged, rows, each, tt, same))

@@ -6,11 +6,11 @@ use Rattle.miette_readers.specs.views.Values.{seen, texts}
 use Rattle.miette_sarif_reader.specs.rules.Results as results
 use Rattle.miette_sarif_reader.specs.declared.ground.Ground.{Ground}
 
-abbrev pub ground_in : {F : Type 0} → (F → List ℕ → Option Source) → Ground F → results.Ground
+abbrev pub ground_in : {F : Type 0} {g : _} → (F → List ℕ → Option Source) → Ground F g → results.Ground
 ground_in found it = record {
   files = found it.files.now;
   encoding = it.encoding;
-  newlines = texts it.lists.now.newlines.items;
+  newlines = texts it.lists.now.ends.newlines.items;
   rules = seen it.lists.now.rules.items;
   artifacts = seen it.lists.now.artifacts.items;
   bases = option_map (λ v. view v.now) it.bases;

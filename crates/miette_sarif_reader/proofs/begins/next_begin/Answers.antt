@@ -10,10 +10,10 @@ use Rattle.miette_sarif_reader.proofs.begins.next_begin.Goals as goal
 
 pub returns-clause-value : goal.returns-clause-value
 returns-clause-value c =
-    let newlines = texts c.args.newlines.now in
+    let newlines = texts c.args.ends.now.newlines.items in
     let bytes = c.args.bytes.now in
     let at = c.args.at in
-    let test = is_byte3 c.other_begin-one.result c.other_begin-two.result c.other_begin-three.result in
+    let test = is_byte3 c.args.ends.now.one c.args.ends.now.two c.args.ends.now.three in
     let skipped = c.bytes_before.result in
     let rest : c.rest_from.result.now ≡ drop at bytes = c.rest_from.ensures in
     let all : list_all (begins_by test) newlines ≡ true = search rules in

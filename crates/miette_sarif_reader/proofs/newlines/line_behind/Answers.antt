@@ -8,7 +8,7 @@ use Rattle.miette_sarif_reader.proofs.newlines.line_behind.Goals as goal
 pub loop-left-preserved : goal.loop-left-preserved
 loop-left-preserved c =
     let l = c.loop-left in
-    let newlines = texts c.args.newlines.now in
+    let newlines = texts c.args.ends.now.newlines.items in
     let bytes = c.args.bytes.now in
     let size = c.in-Some.size in
     record {
@@ -27,7 +27,7 @@ loop-left-preserved c =
 pub returns-in-None-clause-value : goal.returns-in-None-clause-value
 returns-in-None-clause-value c =
     let l = c.loop-left in
-    let newlines = texts c.args.newlines.now in
+    let newlines = texts c.args.ends.now.newlines.items in
     sym (l.invariant.same
     ∙ no_line newlines c.args.bytes.now l.at l.left c.loop-left-test.true
     (c.in-None.ensures.value ∙ ap (line_size newlines) c.rest_from.ensures))
@@ -35,6 +35,6 @@ returns-in-None-clause-value c =
 pub returns-clause-value : goal.returns-clause-value
 returns-clause-value c =
     let l = c.loop-left in
-    let newlines = texts c.args.newlines.now in
+    let newlines = texts c.args.ends.now.newlines.items in
     let none : l.left ≡ 0 = omega (arith, c.loop-left-test.false) in
     sym (l.invariant.same ∙ ap (line_behind newlines c.args.bytes.now l.at) none)

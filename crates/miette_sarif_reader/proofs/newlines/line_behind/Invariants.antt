@@ -10,5 +10,6 @@ decreases-loop-left l = l.left
 abbrev pub invariant-loop-left : goal.invariant-loop-left
 invariant-loop-left l = record {
   within : l.at ≤ length l.bytes;
-  same : line_behind (texts l.newlines) l.bytes 0 l.fn.lines ≡ line_behind (texts l.newlines) l.bytes l.at l.left;
+  same : line_behind (texts l.ends.newlines.items) l.bytes 0 l.fn.lines
+      ≡ line_behind (texts l.ends.newlines.items) l.bytes l.at l.left;
 }

@@ -7,7 +7,7 @@ use Rattle.miette_sarif_reader.proofs.newlines.line_size.Goals as goal
 
 pub returns-then-end-eq0-clause-value : goal.returns-then-end-eq0-clause-value
 returns-then-end-eq0-clause-value c =
-    let newlines = texts c.args.newlines.now in
+    let newlines = texts c.args.ends.now.newlines.items in
     let bytes = c.args.bytes.now in
     let text = c.text_size-text.ensures.value in
     let end = c.end_size-end.ensures.value
@@ -18,7 +18,7 @@ returns-then-end-eq0-clause-value c =
 
 pub returns-else-end-eq0-clause-value : goal.returns-else-end-eq0-clause-value
 returns-else-end-eq0-clause-value c =
-    let newlines = texts c.args.newlines.now in
+    let newlines = texts c.args.ends.now.newlines.items in
     let bytes = c.args.bytes.now in
     let text = c.text_size-text.ensures.value in
     let end = c.end_size-end.ensures.value

@@ -8,7 +8,7 @@ use Rattle.miette_sarif_reader.proofs.newlines.text_size.Goals as goal
 pub returns-then-next-bytes-clause-value : goal.returns-then-next-bytes-clause-value
 returns-then-next-bytes-clause-value c =
     let l = c.loop-at in
-    let newlines = texts c.args.newlines.now in
+    let newlines = texts c.args.ends.now.newlines.items in
     let next = c.next_begin-next in
     let none : text_size newlines (drop next.result c.args.bytes.now) ≡ 0 =
     ap (text_size newlines) (drop_all next.result c.args.bytes.now (omega (arith, c.if-next-bytes.true)))
@@ -18,7 +18,7 @@ returns-then-next-bytes-clause-value c =
 pub returns-else-end-eq0-clause-value : goal.returns-else-end-eq0-clause-value
 returns-else-end-eq0-clause-value c =
     let l = c.loop-at in
-    let newlines = texts c.args.newlines.now in
+    let newlines = texts c.args.ends.now.newlines.items in
     let next = c.next_begin-next in
     let here = drop next.result c.args.bytes.now in
     let is = c.end_size-end.ensures.value ∙ ap (end_size newlines) c.rest_from.ensures in
@@ -29,7 +29,7 @@ returns-else-end-eq0-clause-value c =
 pub loop-at-preserved : goal.loop-at-preserved
 loop-at-preserved c =
     let l = c.loop-at in
-    let newlines = texts c.args.newlines.now in
+    let newlines = texts c.args.ends.now.newlines.items in
     let next = c.next_begin-next in
     let none : end_size newlines (drop next.result c.args.bytes.now) ≡ 0 =
     sym (c.end_size-end.ensures.value ∙ ap (end_size newlines) c.rest_from.ensures) ∙ c.if-end-eq0.true
@@ -43,7 +43,7 @@ loop-at-preserved c =
 pub returns-clause-value : goal.returns-clause-value
 returns-clause-value c =
     let l = c.loop-at in
-    let newlines = texts c.args.newlines.now in
+    let newlines = texts c.args.ends.now.newlines.items in
     let none : text_size newlines (drop l.at c.args.bytes.now) ≡ 0 =
     ap (text_size newlines) (drop_all l.at c.args.bytes.now c.loop-at-test.false)
     in

@@ -10,5 +10,6 @@ decreases-loop-at l = length l.bytes - l.at
 abbrev pub invariant-loop-at : goal.invariant-loop-at
 invariant-loop-at l = record {
   within : l.at ≤ length l.bytes;
-  same : text_size (texts l.newlines) l.bytes ≡ l.at + text_size (texts l.newlines) (drop l.at l.bytes);
+  same : text_size (texts l.ends.newlines.items) l.bytes
+      ≡ l.at + text_size (texts l.ends.newlines.items) (drop l.at l.bytes);
 }

@@ -7,7 +7,7 @@ use Rattle.miette_sarif_reader.proofs.regions.text_end.Goals as goal
 pub returns-clause-value : goal.returns-clause-value
 returns-clause-value c =
     ap (λ n. c.args.start + n)
-    (c.text_size.ensures.value ∙ ap (text_size (texts c.args.newlines.now)) c.rest_from.ensures)
+    (c.text_size.ensures.value ∙ ap (text_size (texts c.args.ends.now.newlines.items)) c.rest_from.ensures)
 
 pub returns-clause-within : goal.returns-clause-within
 returns-clause-within c =
