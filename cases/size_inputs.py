@@ -33,6 +33,9 @@ class Family(NamedTuple):
     # Whether by rule a picture's text grows with the square of the size.
     is_square: bool = False
     gate_ways: tuple = ()
+    # Peak memory is at most so many times the text, or so many bytes for each item, and 4 MB more.
+    memory_times: int = 8
+    memory_each: int = 0
 
 
 PLAIN = Way("plain", "job", ("--theme", "unicode_nocolor"), draws=True)
@@ -318,24 +321,28 @@ def small():
     """Inputs that are small, or deep."""
     yield Family("only a message", lambda _: described(message="m"), ONE, ONE, (*HANDLERS, BENCH))
     yield Family("empty texts", empty_texts, ONE, ONE, ALL)
-    yield Family("related 63 deep", deep_related(63), ONE, ONE, ALL)
+    # In colour nearly all of the text are colours of 4 or 5 bytes, each of which is held as 16.
+    yield Family("related 63 deep", deep_related(63), ONE, ONE, ALL, memory_times=12)
     yield Family("causes 126 deep", deep_causes(126), ONE, ONE, HANDLERS)
 
 
 def lists():
     """Lists of texts and of reports."""
     sizes = (32_600, 100_000)
-    yield Family("empty causes", listed("causes", '""'), sizes, sizes, HANDLERS)
-    yield Family("causes", listed("causes", '"a cause"'), COUNTS, (), HANDLERS)
-    yield Family("contexts", listed("contexts", '"a"'), COUNTS, (40_000,), HANDLERS)
+    # What a text of the list, or a report, is held in takes more than its text does.
+    each = 120
+    yield Family("empty causes", listed("causes", '""'), sizes, sizes, HANDLERS, memory_each=each)
+    yield Family("causes", listed("causes", '"a cause"'), COUNTS, (), HANDLERS, memory_each=each)
+    yield Family("contexts", listed("contexts", '"a"'), COUNTS, (40_000,), HANDLERS, memory_each=each)
     sizes = (9_900, 32_600)
     item = '{"message":"a"}'
-    yield Family("related", listed("related", item), with_sizes(COUNTS, *sizes), sizes, ALL)
+    every = with_sizes(COUNTS, *sizes)
+    yield Family("related", listed("related", item), every, sizes, ALL, memory_each=500)
 
 
 def pictures():
     """Sources with many labels."""
-    yield Family("labels on one line", one_line(), COUNTS, (10_000,), (*HANDLERS, BENCH))
+    yield Family("labels on one line", one_line(), COUNTS, (10_000,), (*HANDLERS, BENCH), memory_each=640)
     yield Family("a label on each line", line_each, COUNTS, (10_000,), HANDLERS)
     yield Family("labels over three lines", chained, COUNTS, (10_000,), HANDLERS)
     yield Family("a label on all lines", all_lines, COUNTS, (20_000,), (PLAIN, FOLDED, NARRATED))
@@ -384,7 +391,11 @@ def fitted():
     accents = "äbcdéfghij"
     yield Family("labels on a cut line of accents", long_line(accents, 10), SQUARES, (), (CUT,))
     marks = '["a",1],'
-    yield Family("labels on a cut line, highlighted", long_line(marks, 12), SQUARES, (), (HIGHLIGHTED,))
+    # Of the drawn line the text has the cut row alone, while the pieces of the whole line are held, each
+    # 24 bytes: 18 for each byte of this line.
+    yield Family(
+        "labels on a cut line, highlighted", long_line(marks, 12), SQUARES, (), (HIGHLIGHTED,), memory_times=16
+    )
 
 
 def long_texts():
