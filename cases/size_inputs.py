@@ -370,14 +370,19 @@ def attached():
 
 def formats():
     """What other programs read: logs, lists for editors, commands."""
-    yield Family("a label on each line, for tools", line_each, COUNTS, (10_000,), FORMATS)
-    yield Family("labels on one line, for tools", one_line("x"), COUNTS, (10_000,), FORMATS)
-    yield Family("labels across labels, for tools", crossing, doubled(1_000, 64_000), (250,), FORMATS)
-    yield Family("related, for tools", listed("related", '{"message":"a"}'), COUNTS, (9_900,), FORMATS)
+    # For editors each label is seven objects of JSON, of some 200 bytes, before the list is written.
+    told = {"ways": FORMATS, "memory_times": 10}
+    yield Family("a label on each line, for tools", line_each, COUNTS, (10_000,), **told)
+    yield Family("labels on one line, for tools", one_line("x"), COUNTS, (10_000,), **told)
+    yield Family("labels across labels, for tools", crossing, doubled(1_000, 64_000), (250,), **told)
+    related = listed("related", '{"message":"a"}')
+    yield Family("related, for tools", related, COUNTS, (9_900,), FORMATS, memory_each=900)
     yield Family("labels over further sources, for tools", further, doubled(2_500, 80_000), (10_000,), FORMATS)
     yield Family("a fix of many lines, for tools", one_fix, COUNTS, (20_000,), FORMATS)
     yield Family("a fix for each line, for tools", fix_each, COUNTS, (20_000,), FORMATS)
-    yield Family("lint, for tools", lint_lines("a"), COUNTS, (20_000,), (LINT_SARIF, LINT_GITHUB))
+    # All findings are held, a report of 1 KB each.
+    ways = (LINT_SARIF, LINT_GITHUB)
+    yield Family("lint, for tools", lint_lines("a"), COUNTS, (20_000,), ways, memory_times=11)
 
 
 def fitted():
@@ -405,7 +410,8 @@ def long_texts():
     yield Family("help of many colours", many_colours, LENGTHS, (200_000,), HANDLERS)
     yield Family("long label", long_label(WORDS), LENGTHS, (200_000,), HANDLERS)
     yield Family("label of many lines", long_label("x\n"), LENGTHS, (200_000,), HANDLERS)
-    yield Family("help in related 20 deep", deep_related(20), DEPTH_LENGTHS, (), ALL)
+    # The text of an inner report is held as characters of 4 bytes, in room that doubles, beside itself.
+    yield Family("help in related 20 deep", deep_related(20), DEPTH_LENGTHS, (), ALL, memory_times=12)
     yield Family("helps in related 20 deep", each_helped(19), DEPTH_LENGTHS[:-1], (), (NESTED_COLOUR,))
     yield Family("depth of related", of_depth("related", True), DEPTHS[:-1], (), ALL, True)
     yield Family("depth of causes", of_depth("cause", False), DEPTHS, (), ALL, True)
@@ -416,10 +422,10 @@ def long_lines():
     for kind, unit in CHARACTERS.items():
         yield Family(f"line of {kind}", repeated(unit), COUNTS, (80_000,), (DRAW, LINT))
         if kind != "FF":
-            yield Family(f"labels on {kind}", labels_on(unit), LABELS, (8_000,), TOLD)
+            yield Family(f"labels on {kind}", labels_on(unit), LABELS, (8_000,), TOLD, memory_each=640)
     unit, head, kind = CHARACTERS["digits"], b"\t", "digits behind a tab"
     yield Family(f"line of {kind}", repeated(unit, head), COUNTS, (), (DRAW, LINT))
-    yield Family(f"labels on {kind}", labels_on(unit, head), LABELS, (1_000,), TOLD)
+    yield Family(f"labels on {kind}", labels_on(unit, head), LABELS, (1_000,), TOLD, memory_each=640)
     for kind, unit in (JOINED | FAINT).items():
         yield Family(f"line of {kind}", repeated(unit), COUNTS, (), (DRAW, LINT))
         yield Family(f"labels on {kind}", labels_on(unit), LABELS, (1_000,), (NARRATED,))
