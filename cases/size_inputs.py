@@ -33,6 +33,9 @@ class Family(NamedTuple):
     # Whether by rule a picture's text grows with the square of the size.
     is_square: bool = False
     gate_ways: tuple = ()
+    # Peak memory is at most so many times the text, or so many bytes for each item, and 4 MB more.
+    memory_times: int = 8
+    memory_each: int = 0
 
 
 PLAIN = Way("plain", "job", ("--theme", "unicode_nocolor"), draws=True)
@@ -318,24 +321,28 @@ def small():
     """Inputs that are small, or deep."""
     yield Family("only a message", lambda _: described(message="m"), ONE, ONE, (*HANDLERS, BENCH))
     yield Family("empty texts", empty_texts, ONE, ONE, ALL)
-    yield Family("related 63 deep", deep_related(63), ONE, ONE, ALL)
+    # In colour nearly all of the text are colours of 4 or 5 bytes, each of which is held as 16.
+    yield Family("related 63 deep", deep_related(63), ONE, ONE, ALL, memory_times=12)
     yield Family("causes 126 deep", deep_causes(126), ONE, ONE, HANDLERS)
 
 
 def lists():
     """Lists of texts and of reports."""
     sizes = (32_600, 100_000)
-    yield Family("empty causes", listed("causes", '""'), sizes, sizes, HANDLERS)
-    yield Family("causes", listed("causes", '"a cause"'), COUNTS, (), HANDLERS)
-    yield Family("contexts", listed("contexts", '"a"'), COUNTS, (40_000,), HANDLERS)
+    # What a text of the list, or a report, is held in takes more than its text does.
+    each = 120
+    yield Family("empty causes", listed("causes", '""'), sizes, sizes, HANDLERS, memory_each=each)
+    yield Family("causes", listed("causes", '"a cause"'), COUNTS, (), HANDLERS, memory_each=each)
+    yield Family("contexts", listed("contexts", '"a"'), COUNTS, (40_000,), HANDLERS, memory_each=each)
     sizes = (9_900, 32_600)
     item = '{"message":"a"}'
-    yield Family("related", listed("related", item), with_sizes(COUNTS, *sizes), sizes, ALL)
+    every = with_sizes(COUNTS, *sizes)
+    yield Family("related", listed("related", item), every, sizes, ALL, memory_each=500)
 
 
 def pictures():
     """Sources with many labels."""
-    yield Family("labels on one line", one_line(), COUNTS, (10_000,), (*HANDLERS, BENCH))
+    yield Family("labels on one line", one_line(), COUNTS, (10_000,), (*HANDLERS, BENCH), memory_each=640)
     yield Family("a label on each line", line_each, COUNTS, (10_000,), HANDLERS)
     yield Family("labels over three lines", chained, COUNTS, (10_000,), HANDLERS)
     yield Family("a label on all lines", all_lines, COUNTS, (20_000,), (PLAIN, FOLDED, NARRATED))
@@ -363,14 +370,19 @@ def attached():
 
 def formats():
     """What other programs read: logs, lists for editors, commands."""
-    yield Family("a label on each line, for tools", line_each, COUNTS, (10_000,), FORMATS)
-    yield Family("labels on one line, for tools", one_line("x"), COUNTS, (10_000,), FORMATS)
-    yield Family("labels across labels, for tools", crossing, doubled(1_000, 64_000), (250,), FORMATS)
-    yield Family("related, for tools", listed("related", '{"message":"a"}'), COUNTS, (9_900,), FORMATS)
+    # For editors each label is seven objects of JSON, of some 200 bytes, before the list is written.
+    told = {"ways": FORMATS, "memory_times": 10}
+    yield Family("a label on each line, for tools", line_each, COUNTS, (10_000,), **told)
+    yield Family("labels on one line, for tools", one_line("x"), COUNTS, (10_000,), **told)
+    yield Family("labels across labels, for tools", crossing, doubled(1_000, 64_000), (250,), **told)
+    related = listed("related", '{"message":"a"}')
+    yield Family("related, for tools", related, COUNTS, (9_900,), FORMATS, memory_each=900)
     yield Family("labels over further sources, for tools", further, doubled(2_500, 80_000), (10_000,), FORMATS)
     yield Family("a fix of many lines, for tools", one_fix, COUNTS, (20_000,), FORMATS)
     yield Family("a fix for each line, for tools", fix_each, COUNTS, (20_000,), FORMATS)
-    yield Family("lint, for tools", lint_lines("a"), COUNTS, (20_000,), (LINT_SARIF, LINT_GITHUB))
+    # All findings are held, a report of 1 KB each.
+    ways = (LINT_SARIF, LINT_GITHUB)
+    yield Family("lint, for tools", lint_lines("a"), COUNTS, (20_000,), ways, memory_times=11)
 
 
 def fitted():
@@ -384,7 +396,11 @@ def fitted():
     accents = "äbcdéfghij"
     yield Family("labels on a cut line of accents", long_line(accents, 10), SQUARES, (), (CUT,))
     marks = '["a",1],'
-    yield Family("labels on a cut line, highlighted", long_line(marks, 12), SQUARES, (), (HIGHLIGHTED,))
+    # Of the drawn line the text has the cut row alone, while the pieces of the whole line are held, each
+    # 24 bytes: 18 for each byte of this line.
+    yield Family(
+        "labels on a cut line, highlighted", long_line(marks, 12), SQUARES, (), (HIGHLIGHTED,), memory_times=16
+    )
 
 
 def long_texts():
@@ -394,7 +410,8 @@ def long_texts():
     yield Family("help of many colours", many_colours, LENGTHS, (200_000,), HANDLERS)
     yield Family("long label", long_label(WORDS), LENGTHS, (200_000,), HANDLERS)
     yield Family("label of many lines", long_label("x\n"), LENGTHS, (200_000,), HANDLERS)
-    yield Family("help in related 20 deep", deep_related(20), DEPTH_LENGTHS, (), ALL)
+    # The text of an inner report is held as characters of 4 bytes, in room that doubles, beside itself.
+    yield Family("help in related 20 deep", deep_related(20), DEPTH_LENGTHS, (), ALL, memory_times=12)
     yield Family("helps in related 20 deep", each_helped(19), DEPTH_LENGTHS[:-1], (), (NESTED_COLOUR,))
     yield Family("depth of related", of_depth("related", True), DEPTHS[:-1], (), ALL, True)
     yield Family("depth of causes", of_depth("cause", False), DEPTHS, (), ALL, True)
@@ -405,10 +422,10 @@ def long_lines():
     for kind, unit in CHARACTERS.items():
         yield Family(f"line of {kind}", repeated(unit), COUNTS, (80_000,), (DRAW, LINT))
         if kind != "FF":
-            yield Family(f"labels on {kind}", labels_on(unit), LABELS, (8_000,), TOLD)
+            yield Family(f"labels on {kind}", labels_on(unit), LABELS, (8_000,), TOLD, memory_each=640)
     unit, head, kind = CHARACTERS["digits"], b"\t", "digits behind a tab"
     yield Family(f"line of {kind}", repeated(unit, head), COUNTS, (), (DRAW, LINT))
-    yield Family(f"labels on {kind}", labels_on(unit, head), LABELS, (1_000,), TOLD)
+    yield Family(f"labels on {kind}", labels_on(unit, head), LABELS, (1_000,), TOLD, memory_each=640)
     for kind, unit in (JOINED | FAINT).items():
         yield Family(f"line of {kind}", repeated(unit), COUNTS, (), (DRAW, LINT))
         yield Family(f"labels on {kind}", labels_on(unit), LABELS, (1_000,), (NARRATED,))

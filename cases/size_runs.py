@@ -90,11 +90,12 @@ def run(command, path, limits):
     return Ended(status, written, used.ru_maxrss * KB, used.ru_utime + used.ru_stime, fault)
 
 
-def run_limited(command, path, wanted, asked):
-    """How a program ends under the limits that its text gives it, and how with wide ones where it
-    needs them."""
+def run_limited(command, path, wanted, asked, least=0):
+    """How a program ends under the limits that its text gives it, with no less space than this, and
+    how with wide ones where it needs them."""
     read = os.path.getsize(path)
-    limits = Limits(asked.stack, SPACE_TIMES * read + SPACE_MORE, asked.seconds)
+    space = max(SPACE_TIMES * read, least) + SPACE_MORE
+    limits = Limits(asked.stack, space, asked.seconds)
     ended = run(command, path, limits)
     if ended.status == wanted:
         return ended, ended
@@ -102,7 +103,7 @@ def run_limited(command, path, wanted, asked):
     whole = run(command, path, Limits(WIDE_STACK_KB, WIDE_SPACE, asked.seconds))
     if whole.status != wanted:
         return ended, whole
-    space = SPACE_TIMES * (read + whole.written) + SPACE_MORE
+    space = max(SPACE_TIMES * (read + whole.written), least) + SPACE_MORE
     return run(command, path, limits._replace(space=space)), whole
 
 

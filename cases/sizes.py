@@ -10,12 +10,14 @@ what it reads and writes, and 64 MB more. It has 2 seconds of the processor (`--
 about ten times what the longest of the small set takes, and under `--all` 60. It fails where it ends
 by a signal or with another status than the expected one.
 
-Under `--all` a run also fails where its peak memory is above eight times its text and 4 MB more,
-and where its time or memory grows by more than 2.2 times from a size to its double, or, where by
-rule a picture grows with the square of the size, by more than 2.2 times what its text grows by.
-Time is instructions, which `perf` counts where it can, or valgrind where `--valgrind` asks for it;
-it is otherwise the processor's seconds, where there are enough of them. A second table names the
-worst growth of each family, so far as there is one, and the most memory that it takes for its text.
+Under `--all` a run also fails where its peak memory is above eight times its text, or what its
+family has in place of that, and 4 MB more, and where its time or memory grows by more than 2.2 times
+from a size to its double, or, where by rule a picture grows with the square of the size, by more
+than 2.2 times what its text grows by. Items of almost no text may take a number of bytes each, and
+their address space twice as much. Time is instructions, which `perf` counts where it can, or
+valgrind where `--valgrind` asks for it; it is otherwise the processor's seconds, where there are
+enough of them. A second table names the worst growth of each family, so far as there is one, and the
+most memory that it takes for its text.
 
 `--least-stack` finds the least stack on which the deepest descriptions run. The last line is
 'N passed, M failed', and the exit status is 0 only where nothing failed."""
@@ -34,7 +36,9 @@ from size_runs import counter_of, instructions, least_stack, run, run_limited, w
 
 STACK_KB = 1024
 GATE_SECONDS, ALL_SECONDS = 2, 60
-MEMORY_TIMES, MEMORY_MORE = 8, 4 * MB
+MEMORY_MORE = 4 * MB
+# Of a list's room, which doubles as it grows, a half may be unused.
+ROOM_TIMES = 2
 GROWTH = 2.2
 # A shorter run than this, in seconds, says nothing of growth.
 LEAST_SECONDS = 0.2
@@ -80,7 +84,8 @@ class Row(NamedTuple):
 def measured(case, asked):
     """The row of a case, still without growths and faults."""
     command, wanted = case.command(), case.way.status
-    ended, whole = run_limited(command, case.path, wanted, asked)
+    least = ROOM_TIMES * case.family.memory_each * case.size if asked.all else 0
+    ended, whole = run_limited(command, case.path, wanted, asked, least)
     counted = None
     if asked.counter and whole.status == wanted and whole.seconds * asked.slower < asked.seconds:
         counted = instructions(asked.counter, command, case.path, wanted)
@@ -120,11 +125,17 @@ def with_growths(case, row, before, asked):
     return row._replace(growths=growths_of(row, before, asked))
 
 
+def most_memory(case, text):
+    """How much memory a run may take at its peak, where its text has so many bytes."""
+    family = case.family
+    return max(family.memory_times * text, family.memory_each * case.size) + MEMORY_MORE
+
+
 def faults_of(case, row, asked):
     """All that is wrong with a run."""
     if row.ended.status != case.way.status:
         yield row.ended.text()
-    if asked.all and row.whole.memory > MEMORY_TIMES * row.text + MEMORY_MORE:
+    if asked.all and row.whole.memory > most_memory(case, row.text):
         yield f"memory {row.whole.memory / row.text:.1f} times the text"
     of_time, of_memory, of_text = row.growths
     for what, growth in (("time", of_time), ("memory", of_memory)):
