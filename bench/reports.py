@@ -419,7 +419,7 @@ def marked_line(count, end=""):
     return findings(labels, "abcdefghij" * (10 * count) + end)
 
 
-def accented_line(kilobytes):
+def accented_end(kilobytes):
     """A label near the head of a line of this many kilobytes of words, with an accent behind them."""
     report = long_line(kilobytes, True)
     report["source"]["text"] += "é"

@@ -250,8 +250,8 @@ def set_goals():
     yield bench("r_folded_4000", "r_folded", PLAIN, of.apart, 4000, ours=FOLDED, is_new=True)
     yield bench("r_cut_2000", "r_cut", PLAIN, of.marked_line, 2000, **cut)
     yield bench("r_cut_accent_2000", "r_cut_accent", PLAIN, of.marked_line, 2000, "é", **cut)
-    yield bench("r_accent_1024kb", "r_accent", PLAIN, of.accented_line, 1024)
-    yield bench("r_accent_cut_1024kb", "r_accent_cut", PLAIN, of.accented_line, 1024, ours=CUT)
+    yield bench("r_accent_1024kb", "r_accent", PLAIN, of.accented_end, 1024)
+    yield bench("r_accent_cut_1024kb", "r_accent_cut", PLAIN, of.accented_end, 1024, ours=CUT)
     yield bench("r_json_controls_50kb", "r_controls", JSON, of.controls, 50_000)
     yield bench("r_json_small", "r_json", JSON, of.message_alone)
 

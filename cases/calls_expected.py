@@ -304,7 +304,7 @@ ROWS = {
     "Highlighter::highlight_line for PatternHighlighter": [
         by_rule("None"),
         pieces("a", " ", ("/*b", COMMENT)),
-        by_rule("Some(0)"),
+        by_rule(some(struct("OpenPart", rule=0, hashes=0))),
     ],
     "Report::copied": [FULL, f"oops!, {THERE}"],
     "Report::msg": [f"oops!, {NOTHING}"],

@@ -49,6 +49,12 @@ class Cell(NamedTuple):
     next_column: int
 
 
+def character_columns(character):
+    """The columns of a character: controls, which have no width, have none."""
+    is_control = character < " " or "\x7f" <= character <= "\x9f"
+    return 0 if is_control else WIDTHS.get(character, 1)
+
+
 class Line:
     """A line: where it starts, where its text ends, where it ends, and the cells of its text."""
 
@@ -60,7 +66,7 @@ class Line:
             character, size = first_of(data[offset:text_end])
             # a sequence that begins with an escape has no columns up to its `m`
             hidden = hidden or character == "\x1b"
-            columns = tab - self.width % tab if character == "\t" else WIDTHS.get(character, int(character >= " "))
+            columns = tab - self.width % tab if character == "\t" else character_columns(character)
             after = self.width + (0 if hidden else columns)
             self.cells.append(Cell(character, offset, offset + size, self.width, after))
             hidden = hidden and character != "m"
