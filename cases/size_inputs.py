@@ -50,8 +50,9 @@ NESTED_COLOUR = Way("nested colour", "job", (*COLOUR.words, "--nested", "yes"), 
 ALL = (*HANDLERS, NESTED, NESTED_COLOUR)
 FOLDED = Way("folded", "job", (*PLAIN.words, "--label-lines", "5"), draws=True)
 CUT = Way("cut", "job", (*PLAIN.words, "--line-columns", "80"), draws=True)
-HIGHLIGHT = ("--theme", "unicode", "--color", "yes", "--highlight", "json", "--line-columns", "80")
-HIGHLIGHTED = Way("highlighted", "job", HIGHLIGHT, draws=True)
+HIGHLIGHT = ("--theme", "unicode", "--color", "yes", "--line-columns", "80", "--highlight")
+HIGHLIGHTED = Way("highlighted", "job", (*HIGHLIGHT, "json"), draws=True)
+RUST = Way("highlighted as Rust", "job", (*HIGHLIGHT, "rust"), draws=True)
 WHOLE = Way("whole", "job", (*PLAIN.words, "--context", "100000000"), draws=True)
 BENCH = Way("bench", "bench", ("2", *PLAIN.words), draws=True)
 DRAW = Way("draw", "draw", ("f", MIDDLE, "1", "here", "m"), draws=True)
@@ -401,6 +402,7 @@ def fitted():
     yield Family(
         "labels on a cut line, highlighted", long_line(marks, 12), SQUARES, (), (HIGHLIGHTED,), memory_times=16
     )
+    yield Family("labels on a cut line of escapes", long_line("'\\", 6), SQUARES, (), (RUST,))
 
 
 def long_texts():

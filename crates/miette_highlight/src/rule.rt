@@ -63,8 +63,8 @@ pub enum Pattern {
     From(u8, u8),
     /// What lies between two delimiters, with them.
     Between(Delimiters),
-    /// One character between two delimiters, with them; or what is escaped at its beginning, up to where it closes on
-    /// the line.
+    /// One character between two delimiters, with them; or an escape between them: behind its byte any character, and
+    /// then only what words are made of and braces, as in `'\u{10_FFFF}'`.
     Character(Delimiters),
     /// A byte, and the word behind it.
     Prefixed(u8),

@@ -1,13 +1,12 @@
 //! What rules find at the start of a text, and the pieces that they cut a line into.
 
-ghost use Rattle.std.specs.Prelude.{◌≡◌, ◌+◌, ◌^◌, ◌<◌, ◌≤◌, ◌&&◌, ◌==◌, not, nat_eq, nat_le, IsTrue, IfOk, IfSome};
+ghost use Rattle.std.specs.Prelude.{◌≡◌, ◌+◌, ◌^◌, ◌<◌, ◌≤◌, ◌&&◌, ◌==◌, not, nat_eq, nat_le, IsTrue, IfOk};
 ghost use Rattle.std.specs.Prelude.{false, length, drop, string_bytes};
 ghost use Rattle.std.specs.List.{starts_with};
-ghost use Rattle.miette_highlight.specs.rules.Patterns.{are_continuations, begins_within, character_end, close_end};
-ghost use Rattle.miette_highlight.specs.rules.Patterns.{escapes_next, is_among, is_character, is_continuation};
-ghost use Rattle.miette_highlight.specs.rules.Patterns.{hash_count, is_hash, is_word_byte, open_over, quoted, raw_end};
-ghost use Rattle.miette_highlight.specs.rules.Patterns.{inside, match_of, prefixed_word, raw_inside, raw_text};
-ghost use Rattle.miette_highlight.specs.rules.Patterns.{word_end};
+ghost use Rattle.miette_highlight.specs.rules.Patterns.{begins_within, character_end, close_end, escapes_next};
+ghost use Rattle.miette_highlight.specs.rules.Patterns.{hash_count, held_end, is_among, is_hash, is_held, is_word_byte};
+ghost use Rattle.miette_highlight.specs.rules.Patterns.{open_over, quoted, raw_end};
+ghost use Rattle.miette_highlight.specs.rules.Patterns.{inside, match_of, prefixed_word, raw_inside, raw_text, word_end};
 ghost use Rattle.miette_highlight.specs.rules.Tokens.{AreTokens, IsToken, first_match, running_token, token_at};
 ghost use Rattle.miette_highlight.specs.rules.Tokens.{token_of};
 ghost use Rattle.miette_highlight.specs.rules.Pieces.{CutsLine};
@@ -108,9 +107,7 @@ fn closes_here(delimiters: &Delimiters, escaped: bool, text: &[u8]) -> bool
 // Where the first closing delimiter ends that isn't escaped, the text beginning at a place.
 fn close_end(delimiters: &Delimiters, start: usize, text: &[u8]) -> Option<usize>
     requires { start + length text.now < 2 ^ 64 }
-    ensures end { result ≡ close_end delimiters.now false start text.now }
-    ensures low { IfSome result (λ end. start + length (string_bytes delimiters.now.closes) ≤ end) }
-    ensures high { IfSome result (λ end. end ≤ start + length text.now) }
+    ensures { result ≡ close_end delimiters.now false start text.now }
 {
     let mut escaped = false;
     let mut at = start;
@@ -216,48 +213,50 @@ fn raw_text(before: usize, text: &[u8]) -> Option<Found>
     quoted(hashes, before + hashes, &text[hashes..])
 }
 
-// Whether a byte goes on with the character that began before it.
-fn is_continuation(byte: u8) -> bool
-    ensures { result ≡ is_continuation byte }
+// Whether a byte goes on with a character; or with an escape, as in `\u{10_FFFF}`.
+fn is_held(escaped: bool, byte: u8) -> bool
+    ensures { result ≡ is_held escaped byte }
 {
+    if escaped {
+        return is_word_byte(byte) || byte == b'{' || byte == b'}';
+    }
     128 <= byte && byte < 192
 }
 
-// Whether all these bytes do.
-fn are_continuations(bytes: &[u8]) -> bool
-    ensures { result ≡ are_continuations bytes.now }
+// Where a character that is begun ends with its closing delimiter, or an escape, the text going on at a place.
+fn held_end(delimiters: &Delimiters, escaped: bool, start: usize, text: &[u8]) -> Option<Found>
+    requires { start + length text.now < 2 ^ 64 }
+    ensures { result ≡ held_end delimiters.now escaped start text.now }
 {
-    let mut rest = bytes;
+    let mut at = start;
+    let mut rest = text;
     while let Some((byte, tail)) = rest.split_first() {
-        if !is_continuation(*byte) {
-            return false;
+        if closes_here(delimiters, false, rest) {
+            return Some((at + delimiters.closes.as_bytes().len(), None));
+        }
+        if !is_held(escaped, *byte) {
+            return None;
         }
         rest = tail;
+        at += 1;
     }
-    true
+    None
 }
 
-// Whether some bytes are one character, or begin with an escape.
-fn is_character(escape: Option<u8>, bytes: &[u8]) -> bool
-    ensures { result ≡ is_character escape bytes.now }
-{
-    match bytes.split_first() {
-        Some((first, rest)) => escapes_next(escape, *first) || are_continuations(rest),
-        None => false,
-    }
-}
-
-// Where a character behind an opening delimiter ends with its closing one, the text beginning at a place.
+// Where the character that a text begins with ends with its closing delimiter, or an escape.
 fn character_end(delimiters: &Delimiters, start: usize, text: &[u8]) -> Option<Found>
     requires { start + length text.now < 2 ^ 64 }
     ensures { result ≡ character_end delimiters.now start text.now }
 {
-    let end = close_end(delimiters, start, text)?;
-    let held = end - start - delimiters.closes.as_bytes().len();
-    if is_character(delimiters.escape, &text[..held]) {
-        return Some((end, None));
+    let (first, rest) = text.split_first()?;
+    if closes_here(delimiters, false, text) {
+        return None;
     }
-    None
+    if escapes_next(delimiters.escape, *first) {
+        let (_, behind) = rest.split_first()?;
+        return held_end(delimiters, true, start + 2, behind);
+    }
+    held_end(delimiters, false, start + 1, rest)
 }
 
 // How many bytes this one and the word behind it have, where a text begins with it and a word follows.

@@ -1,5 +1,5 @@
 -- Rules of the same texts cut a line into the same tokens.
-use Rattle.std.proofs.Common.{◌≡◌, ℕ, ◌+◌, ◌-◌, Bool, true, false, List, [], ◌∷◌, length, drop, take, map, zero, suc}
+use Rattle.std.proofs.Common.{◌≡◌, ℕ, ◌+◌, Bool, true, false, List, [], ◌∷◌, length, drop, map, zero, suc}
 use Rattle.std.proofs.Common.{refl, ap, ap₂, subst, ◌∙◌, Option, Some, None, if◌then◌else◌}
 use Rattle.std.specs.Prelude.{nat_eq, not, ◌&&◌, String, string_bytes, unwrap_or, slice_get}
 use Rattle.std.specs.List.{starts_with}
@@ -9,9 +9,9 @@ use Rattle.miette_style.specs.declared.style.Style.{Style}
 use Rattle.miette_highlight.specs.rules.FollowingCalls.{FollowTokens}
 use Rattle.miette_highlight.specs.rules.HighlighterCalls.{Call, asked, restarted}
 use Rattle.miette_highlight.specs.rules.Languages.{pattern_text, rule_text, rule_texts}
-use Rattle.miette_highlight.specs.rules.Patterns.{begins_within, character_end, close_end, closed_at, closed_character}
-use Rattle.miette_highlight.specs.rules.Patterns.{escapes_next, inside, is_among, is_character, match_of, prefixed_word}
-use Rattle.miette_highlight.specs.rules.Patterns.{open_over, raw_inside, raw_text, word_end}
+use Rattle.miette_highlight.specs.rules.Patterns.{begins_within, character_end, close_end, closed_at, escapes_next}
+use Rattle.miette_highlight.specs.rules.Patterns.{Found, held_end, inside, is_among, is_held, match_of, open_over}
+use Rattle.miette_highlight.specs.rules.Patterns.{prefixed_word, raw_inside, raw_text, word_end}
 use Rattle.miette_highlight.specs.rules.Pieces.{Piece}
 use Rattle.miette_highlight.specs.rules.Tokens.{AreTokens, IsToken, first_match, found_or, plain_token, running_in}
 use Rattle.miette_highlight.specs.rules.Tokens.{running_rule, running_token, token_at, token_of}
@@ -51,18 +51,27 @@ insides : (d f : Delimiters) → string_bytes d.closes ≡ string_bytes f.closes
 insides d f same escape over at text =
     ap₂ (λ end lines. closed_at end (at + length text) (open_over lines)) (closes d f same escape false at text) over
 
-closed-alike : (d f : Delimiters) → string_bytes d.closes ≡ string_bytes f.closes → d.escape ≡ f.escape → (at : ℕ)
-    (text : List ℕ) (end : Option ℕ) → closed_character d at text end ≡ closed_character f at text end
-closed-alike d f same escape at text None = refl
-closed-alike d f same escape at text (Some end) =
-    ap₂ (λ bytes it. if is_character it (take (end - at - length bytes) text) then Some (end, None) else None) same
-    escape
+held-alike : (d f : Delimiters) → string_bytes d.closes ≡ string_bytes f.closes → (escaped : Bool) (at : ℕ)
+    (text : List ℕ) → held_end d escaped at text ≡ held_end f escaped at text
+held-alike d f same escaped at [] = refl
+held-alike d f same escaped at (b ∷ bs) =
+    ap (λ bytes. if starts_with nat_eq (b ∷ bs) bytes then Some (at + length bytes, None)
+    else if is_held escaped b then held_end d escaped (at + 1) bs else None) same
+    ∙ ap (λ found. if starts_with nat_eq (b ∷ bs) (string_bytes f.closes)
+    then Some (at + length (string_bytes f.closes), None)
+    else if is_held escaped b then found else None) (held-alike d f same escaped (at + 1) bs)
 
 characters : (d f : Delimiters) → string_bytes d.closes ≡ string_bytes f.closes → d.escape ≡ f.escape → (at : ℕ)
     (text : List ℕ) → character_end d at text ≡ character_end f at text
-characters d f same escape at text =
-    ap (closed_character d at text) (closes d f same escape false at text)
-    ∙ closed-alike d f same escape at text (close_end f false at text)
+characters d f same escape at [] = refl
+characters d f same escape at (b ∷ bs) =
+    let Ends : List ℕ → Option ℕ → Option Found → Option Found → Option Found = λ closes it escaped plain.
+    if starts_with nat_eq (b ∷ bs) closes then None else if escapes_next it b then escaped else plain in
+    let escaped = held_end d true (at + 2) (drop 1 bs) in
+    let plain = held_end d false (at + 1) bs in
+    ap₂ (λ closes it. Ends closes it escaped plain) same escape
+    ∙ ap₂ (Ends (string_bytes f.closes) f.escape) (held-alike d f same true (at + 2) (drop 1 bs))
+    (held-alike d f same false (at + 1) bs)
 
 matches : (p q : Pattern) (style other : Style) (text : List ℕ) → pattern_text p style ≡ pattern_text q other
     → match_of p text ≡ match_of q text

@@ -5,16 +5,16 @@ use Rattle.std.proofs.lemmas.Bool.{and_parts, cases_order, cond_both, leb-true}
 use Rattle.std.proofs.lemmas.List.{length-drop}
 use Rattle.std.proofs.lemmas.List.Folds.{length-prefix_len}
 use Rattle.std.proofs.lemmas.List.Sums.{prefix_len-le-length}
-use Rattle.std.specs.Prelude.{IfSome, nat_eq, nat_le, nat_lt, not, ◌&&◌, ◌==◌, ◌-◌, string_bytes, unwrap_or}
-use Rattle.std.specs.Prelude.{slice_get}
+use Rattle.std.specs.Prelude.{IfSome, nat_eq, nat_le, nat_lt, not, ◌&&◌, ◌==◌, string_bytes, unwrap_or}
+use Rattle.std.specs.Prelude.{if◌then◌else◌, slice_get}
 use Rattle.std.specs.Cmp.Lexicographic.{pointwise}
 use Rattle.std.specs.List.{starts_with}
 use Rattle.miette_style.specs.declared.style.Style.{Style}
 use Rattle.miette_highlight.specs.rules.FollowingCalls.{FollowTokens}
 use Rattle.miette_highlight.specs.rules.HighlighterCalls.{asked, listed_pieces, restarted}
-use Rattle.miette_highlight.specs.rules.Patterns.{begins_within, character_end, close_end, closed_at, closed_character}
-use Rattle.miette_highlight.specs.rules.Patterns.{escapes_next, inside, is_among, is_character, is_word_byte, match_of}
-use Rattle.miette_highlight.specs.rules.Patterns.{Found, hash_count, is_hash, open_over, prefixed_word, quoted, raw_end}
+use Rattle.miette_highlight.specs.rules.Patterns.{begins_within, character_end, close_end, closed_at, escapes_next}
+use Rattle.miette_highlight.specs.rules.Patterns.{Found, hash_count, held_end, inside, is_among, is_hash, is_held}
+use Rattle.miette_highlight.specs.rules.Patterns.{is_word_byte, match_of, open_over, prefixed_word, quoted, raw_end}
 use Rattle.miette_highlight.specs.rules.Patterns.{raw_inside, raw_text, word_end}
 use Rattle.miette_highlight.specs.rules.Pieces.{Piece}
 use Rattle.miette_highlight.specs.rules.Tokens.{AreTokens, EndsFrom, first_match, found_or, plain_token, running_in}
@@ -99,21 +99,46 @@ quoted-within hashes at (b ∷ bs) =
     (λ o. IfSome o (λ found. found.0 ≤ at + length (b ∷ bs)))
     (λ y. omega (arith, raw-within hashes (at + 1) bs)) (λ n. tt)
 
-held-within : (d : Delimiters) (at : ℕ) (text : List ℕ) (o : Option ℕ) → IfSome o (λ end. end ≤ at + length text)
-    → IfSome (closed_character d at text o) (λ found. found.0 ≤ at + length text)
-held-within d at text None h = tt
-held-within d at text (Some end) h =
-    cond_both (is_character d.escape (take (end - at - length (string_bytes d.closes)) text)) (Some (end, None)) None
-    (λ o. IfSome o (λ found. found.0 ≤ at + length text)) (λ y. h) (λ n. tt)
-
 found-less : (o : Option Found) (m n : ℕ) → m ≤ n → IfSome o (λ found. found.0 ≤ m)
     → IfSome o (λ found. found.0 ≤ n)
 found-less None m n h less = tt
 found-less (Some found) m n h less = omega arith
 
+held-within : (d : Delimiters) (escaped : Bool) (at : ℕ) (text : List ℕ)
+    → IfSome (held_end d escaped at text) (λ found. found.0 ≤ at + length text)
+held-within d escaped at [] = tt
+held-within d escaped at (b ∷ bs) =
+    let closes = starts_with nat_eq (b ∷ bs) (string_bytes d.closes) in
+    let next = held_end d escaped (at + 1) bs in
+    cond_both closes (Some (at + length (string_bytes d.closes), None)) (if is_held escaped b then next else None)
+    (λ o. IfSome o (λ found. found.0 ≤ at + length (b ∷ bs)))
+    (λ y. let l : length (string_bytes d.closes) ≤ length (b ∷ bs) = begin-within (string_bytes d.closes) (b ∷ bs) y in
+    omega arith)
+    (λ n. cond_both (is_held escaped b) next None (λ o. IfSome o (λ found. found.0 ≤ at + length (b ∷ bs)))
+    (λ y. found-less next ((at + 1) + length bs) (at + length (b ∷ bs)) (omega arith)
+    (held-within d escaped (at + 1) bs))
+    (λ n. tt))
+
+escape-within : (d : Delimiters) (at : ℕ) (text : List ℕ)
+    → IfSome (held_end d true (at + 2) (drop 1 text)) (λ found. found.0 ≤ (at + 1) + length text)
+escape-within d at [] = tt
+escape-within d at (b ∷ bs) =
+    found-less (held_end d true (at + 2) bs) ((at + 2) + length bs) ((at + 1) + length (b ∷ bs)) (omega arith)
+    (held-within d true (at + 2) bs)
+
 character-within : (d : Delimiters) (at : ℕ) (text : List ℕ)
     → IfSome (character_end d at text) (λ found. found.0 ≤ at + length text)
-character-within d at text = held-within d at text (close_end d false at text) (close-within d false at text)
+character-within d at [] = tt
+character-within d at (b ∷ bs) =
+    let escaped = held_end d true (at + 2) (drop 1 bs) in
+    let plain = held_end d false (at + 1) bs in
+    let Within : Option Found → Type 0 = λ o. IfSome o (λ found. found.0 ≤ at + length (b ∷ bs)) in
+    cond_both (starts_with nat_eq (b ∷ bs) (string_bytes d.closes)) None
+    (if escapes_next d.escape b then escaped else plain) Within (λ y. tt)
+    (λ n. cond_both (escapes_next d.escape b) escaped plain Within
+    (λ y. found-less escaped ((at + 1) + length bs) (at + length (b ∷ bs)) (omega arith) (escape-within d at bs))
+    (λ n. found-less plain ((at + 1) + length bs) (at + length (b ∷ bs)) (omega arith)
+    (held-within d false (at + 1) bs)))
 
 behind-within : (before : ℕ) (text : List ℕ)
     → IfSome (raw_text before text) (λ found. found.0 ≤ before + length text)

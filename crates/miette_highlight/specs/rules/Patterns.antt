@@ -1,5 +1,5 @@
 -- What a pattern finds at the start of a text, in bytes.
-use Rattle.std.specs.Prelude.{◌≡◌, ℕ, ◌+◌, ◌-◌, Bool, true, false, ◌&&◌, ◌||◌, not, ◌==◌, nat_le, nat_lt, nat_eq}
+use Rattle.std.specs.Prelude.{◌≡◌, ℕ, ◌+◌, Bool, true, false, ◌&&◌, ◌||◌, not, ◌==◌, nat_le, nat_lt, nat_eq}
 use Rattle.std.specs.Prelude.{Option, Some, None, List, [], ◌∷◌, length, take, drop, map, string_bytes, String}
 use Rattle.std.specs.Prelude.{if◌then◌else◌, take_while}
 use Rattle.std.specs.Char.{is_ascii_alphanumeric}
@@ -89,24 +89,26 @@ raw_text before text = quoted (hash_count text) (before + hash_count text) (drop
 abbrev pub is_continuation : ℕ → Bool
 is_continuation b = nat_le 128 b && nat_lt b 192
 
-abbrev pub are_continuations : List ℕ → Bool
-are_continuations [] = true
-are_continuations (b ∷ bs) = if is_continuation b then are_continuations bs else false
+-- a byte that goes on with a character; or with an escape, as in `\u{10_FFFF}`, where it is one of a word, or a brace
+abbrev pub is_held : Bool → ℕ → Bool
+is_held escaped b = if escaped then is_word_byte b || b == 123 || b == 125 else is_continuation b
 
--- whether some bytes are one character, or begin with an escape
-abbrev pub is_character : Option ℕ → List ℕ → Bool
-is_character escape [] = false
-is_character escape (b ∷ bs) = escapes_next escape b || are_continuations bs
+-- where a character ends that is begun, or an escape, with the delimiter that closes it, the text going on at a place
+abbrev pub held_end : Delimiters → Bool → ℕ → List ℕ → Option Found
+held_end delimiters escaped at [] = None
+held_end delimiters escaped at (b ∷ bs) =
+    if starts_with nat_eq (b ∷ bs) (string_bytes delimiters.closes)
+    then Some (at + length (string_bytes delimiters.closes), None)
+    else if is_held escaped b then held_end delimiters escaped (at + 1) bs else None
 
--- a text between delimiters, beginning at a place, up to the end that was found, where it is a character
-abbrev pub closed_character : Delimiters → ℕ → List ℕ → Option ℕ → Option Found
-closed_character delimiters at text None = None
-closed_character delimiters at text (Some end) =
-    if is_character delimiters.escape (take (end - at - length (string_bytes delimiters.closes)) text)
-    then Some (end, None) else None
-
+-- where the character ends that a text begins with, at a place, with the delimiter that closes it; or an escape, in
+-- which any character stands behind the first byte
 abbrev pub character_end : Delimiters → ℕ → List ℕ → Option Found
-character_end delimiters at text = closed_character delimiters at text (close_end delimiters false at text)
+character_end delimiters at [] = None
+character_end delimiters at (b ∷ bs) =
+    if starts_with nat_eq (b ∷ bs) (string_bytes delimiters.closes) then None
+    else if escapes_next delimiters.escape b then held_end delimiters true (at + 2) (drop 1 bs)
+    else held_end delimiters false (at + 1) bs
 
 -- a byte and the word behind it, where a text begins with it and a word follows
 abbrev pub prefixed_word : ℕ → List ℕ → Option Found
