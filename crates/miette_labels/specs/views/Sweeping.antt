@@ -5,7 +5,7 @@ use Rattle.std.specs.List.{filter}
 use Rattle.miette_label_rules.specs.declared.placed.PlacedLabel.{PlacedLabel}
 use Rattle.miette_labels.specs.declared.sweep.Bounds.{Bounds}
 use Rattle.miette_source_lines.specs.rules.Lines.{Line}
-use Rattle.miette_label_rules.specs.views.GivenLabels.{drawn_of}
+use Rattle.miette_label_rules.specs.views.GivenLabels.{nothing, drawn_of}
 use Rattle.miette_label_rules.specs.rules.Labels.{reach, is_one_line, is_multi_line}
 
 -- a line from here to there; where its text ends decides nothing
