@@ -43,17 +43,17 @@ at_end Up e w o = refl
 -- a cell at which the column is found, and one that is passed
 pub found_at : (r : Rounding) (cell : MadeCell) (walk left : List Cell) (e w o : ℕ) → walk ≡ cell_of cell ∷ left
     → stops_at r cell o ≡ true → cell.from ≡ column_in r walk e w o
-found_at Down cell walk left e w o is yes =
-    sym (ap (λ cs. first_column cs e w o) is ∙ ap (λ b. if b then cell.from else first_column left e w o) yes)
-found_at Up cell walk left e w o is yes =
-    sym (ap (λ cs. last_column cs e w o) is ∙ ap (λ b. if b then cell.from else last_column left e w o) yes)
+found_at Down cell walk left e w o is met =
+    sym (ap (λ cs. first_column cs e w o) is ∙ ap (λ b. if b then cell.from else first_column left e w o) met)
+found_at Up cell walk left e w o is met =
+    sym (ap (λ cs. last_column cs e w o) is ∙ ap (λ b. if b then cell.from else last_column left e w o) met)
 
 pub passed_by : (r : Rounding) (cell : MadeCell) (walk left : List Cell) (e w o : ℕ) → walk ≡ cell_of cell ∷ left
     → stops_at r cell o ≡ false → column_in r left e w o ≡ column_in r walk e w o
-passed_by Down cell walk left e w o is no =
-    first_passed (cell_of cell) walk left e w o is (ltb-false o cell.after no)
-passed_by Up cell walk left e w o is no =
-    last_passed (cell_of cell) walk left e w o is (leb-false o cell.start no)
+passed_by Down cell walk left e w o is passed =
+    first_passed (cell_of cell) walk left e w o is (ltb-false o cell.after passed)
+passed_by Up cell walk left e w o is passed =
+    last_passed (cell_of cell) walk left e w o is (leb-false o cell.start passed)
 
 -- ---- stops
 
