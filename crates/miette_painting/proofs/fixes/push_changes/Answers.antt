@@ -10,8 +10,8 @@ use Rattle.miette_painting.proofs.fixes.push_changes.Goals as goal
 pub returns-in-Nowhere : goal.returns-in-Nowhere
 returns-in-Nowhere g c = λ source fails given.
     let none = subst (λ o. IsGivenOver o source fails) c.in-Nowhere.is given in
-    let rows = λ o. fix_rows_over (settings_of c.args.settings.now) o fails c.args.fix.now.edits in
-    ap (λ o. c.args.page.now ⊕ rows_tokens (rows o)) (sym none)
+    let s = settings_of c.args.settings.now in
+    ap (λ o. c.args.page.now ⊕ rows_tokens (fix_rows_over s o fails c.args.fix.now.edits)) (sym none)
 
 pub returns-in-Unread : goal.returns-in-Unread
 returns-in-Unread g c =
