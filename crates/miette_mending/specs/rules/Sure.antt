@@ -3,6 +3,7 @@ use Rattle.std.specs.Prelude.{ℕ, List, [], Option, Some, None, Bool, if◌then
 use Rattle.std.specs.Prelude.{option_and_then, option_map, is_some, length, ◌==◌}
 use Rattle.std.specs.List.{flat_map, list_all}
 use Rattle.serde_json.specs.Data.{Data}
+use Rattle.miette_fixes.specs.declared.applicability.Applicability.TheVariants.{MachineApplicable}
 use Rattle.miette_fixes.specs.rules.Edits.{Proposal, is_sure}
 use Rattle.miette_protocol.specs.rules.Reading.{Source}
 use Rattle.miette_readers.specs.rules.Members.{objects_at, text_at}
