@@ -9,3 +9,4 @@ pub mod Swept
 pub mod KnownLabels
 pub mod LabelEnds
 pub mod SourceEnd
+pub mod ReadOrder
