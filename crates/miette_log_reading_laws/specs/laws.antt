@@ -1,0 +1,2 @@
+-- What holds of logs that are read back.
+pub mod Data

@@ -1,0 +1,22 @@
+-- The value that ours is where it is read: each of its numbers is an integer, and of a key that comes twice the last
+-- value stays.
+use Rattle.std.specs.Prelude.{List, ℕ}
+use Rattle.miette_json.specs.rules.Json as json
+use Rattle.serde_json.specs.Data.{unsigned, Data, number, string, array, object, Items, no_items, item, Members}
+use Rattle.serde_json.specs.Data.{no_members, put}
+
+abbrev mutual
+  pub data_of : json.Json → Data
+  data_of (json.number n) = number (unsigned n)
+  data_of (json.string s) = string s
+  data_of (json.array js) = array (items_data js)
+  data_of (json.object ms) = object (members_data ms no_members)
+
+  pub items_data : json.Items → Items
+  items_data json.no_items = no_items
+  items_data (json.item j js) = item (data_of j) (items_data js)
+
+  -- behind the members that were found in front
+  pub members_data : json.Members → Members → Members
+  members_data json.no_members found = found
+  members_data (json.member k j ms) found = members_data ms (put k (data_of j) found)
