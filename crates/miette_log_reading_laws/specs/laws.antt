@@ -1,2 +1,6 @@
 -- What holds of logs that are read back.
 pub mod Data
+pub mod Links
+pub mod RegionsBack
+pub mod Kept
+pub mod Files
