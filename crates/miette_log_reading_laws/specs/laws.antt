@@ -4,3 +4,5 @@ pub mod Links
 pub mod RegionsBack
 pub mod Kept
 pub mod Files
+pub mod Reading
+pub mod Sources

@@ -22,6 +22,7 @@ use Rattle.miette_sarif_reader.specs.rules.Results.{file_row, row_alone, severit
 use Rattle.miette_sarif_reader.specs.rules.Uris.{name_of}
 use Rattle.miette_tree.specs.rules.Tree.{Tree}
 use Rattle.miette_log_reading_laws.specs.laws.Links.{without_links}
+use Rattle.miette_log_reading_laws.specs.laws.RegionsBack.{offsets_of}
 
 -- ---- texts
 
@@ -73,14 +74,11 @@ said_kept fs help f = record {
 abbrev pub file_name : Artifacts → SourceName → List ℕ
 file_name a s = name_of (uri_of a.untitled s)
 
-abbrev pub bytes_of : Stretch → places.Stretch
-bytes_of s = record { start = s.start.offset; end = s.end.offset }
-
 -- a stretch of a file, where the file is found
 abbrev pub place_kept : (List ℕ → Option Source) → List ℕ → Stretch → places.Place
 place_kept files name s = record {
   name = name;
-  stretch = option_map (λ source. bytes_of s) (files name);
+  stretch = option_map (λ source. offsets_of s) (files name);
   line = s.start.position.line + 1;
   column = s.start.position.column + 1;
 }
