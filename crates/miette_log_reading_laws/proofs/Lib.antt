@@ -10,6 +10,7 @@ pub mod RegionsCut
 pub mod RegionsEnds
 pub mod RegionsBack
 pub mod NamesBack
+pub mod NamesDecoded
 pub mod Places
 pub mod Told
 pub mod Drafts
@@ -18,3 +19,4 @@ pub mod Gathered
 pub mod Whole
 pub mod Spelled
 pub mod Shallow
+pub mod Written

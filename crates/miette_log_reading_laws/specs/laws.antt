@@ -2,6 +2,7 @@
 pub mod Data
 pub mod Links
 pub mod RegionsBack
+pub mod NamesBack
 pub mod Kept
 pub mod Files
 pub mod Reading

@@ -1,24 +1,38 @@
-//! A SARIF log that we wrote reads back as one report for each result: its severity and its code; its URL, where that is
-//! the rule's; the rows of the message, without links and with single braces; each label with its place and text; each
-//! fix. Each law is the contract of a function that does nothing; a caller cites it by calling it.
+//! A SARIF log that we wrote reads back as one report for each result: with its severity and its code; with its URL,
+//! where that is the rule's; with the rows of the message, without links and with single braces; with each label's
+//! place and text; with each fix. Each law is the contract of a function that does nothing; a caller cites it by
+//! calling it.
 //!
-//! Of a place what is kept is the whole characters of a region, as it was written. A URL that isn't the rule's, causes,
-//! help and fixes that can't be applied are rows of the message; a text without a place, and one at a place that was
-//! refused, is a cause text, with the name of its source.
+//! What is rounded: a place to whole characters, as the log has it. What is equal: places over the same bytes are one
+//! label, of fixes that are written alike the first stays. What has no source: a text without a place, or over a label
+//! that was refused, is a cause text, with the name of its source. A URL that isn't the rule's, causes, help, and fixes
+//! that can't be applied are rows of the message, and how sure a fix is isn't kept.
 
 ghost use Rattle.std.specs.Prelude.{◌≡◌, ℕ, List, Option, Some, map};
 ghost use Rattle.std.specs.List.{AllByRecursion};
-ghost use Rattle.miette_protocol.specs.rules.Reading.{Source};
+ghost use Rattle.miette_json.specs.rules.Denotes.{Denotes};
+ghost use Rattle.miette_json.specs.rules.Json.{Json};
+ghost use Rattle.miette_positions.specs.declared.place.PositionEncoding.TheVariants.{Utf16};
+ghost use Rattle.miette_positions.specs.declared.place.Stretch.{Stretch};
+ghost use Rattle.miette_positions.specs.rules.Regions.{stretch_of};
+ghost use Rattle.miette_protocol.specs.rules.Reading.{Source, Span};
 ghost use Rattle.miette_sarif.specs.rules.Artifacts.{all_named, artifacts_in};
 ghost use Rattle.miette_sarif.specs.rules.Findings.{Finding};
 ghost use Rattle.miette_sarif.specs.rules.Log.{ToolName, log};
+ghost use Rattle.miette_sarif.specs.rules.LogText.{IsLogOf};
+ghost use Rattle.miette_sarif.specs.rules.Uris.{name_uri};
 ghost use Rattle.miette_sarif_reader.specs.rules.Logs.{sarif_trees};
 ghost use Rattle.miette_sarif_reader.specs.rules.Proposals.{drafts_of};
 ghost use Rattle.miette_sarif_reader.specs.rules.Results.{said_of, told_of};
-ghost use Rattle.miette_log_reading_laws.specs.laws.Data.{data_of};
+ghost use Rattle.miette_sarif_reader.specs.rules.Uris.{name_of};
+ghost use Rattle.miette_tree.specs.rules.Tree.{Trees};
+ghost use Rattle.miette_log_reading_laws.specs.laws.Data.{NumbersFit, data_of};
 ghost use Rattle.miette_log_reading_laws.specs.laws.Files.{AreFindingsOver};
 ghost use Rattle.miette_log_reading_laws.specs.laws.Kept.{fixes_kept, report_kept, said_kept, told_kept};
-ghost use Rattle.miette_log_reading_laws.specs.laws.Reading.{result_data, result_ground};
+ghost use Rattle.miette_log_reading_laws.specs.laws.NamesBack.{IsPlainAddress, IsPlainName};
+ghost use Rattle.miette_log_reading_laws.specs.laws.Reading.{ReadsBack, result_data, result_ground};
+ghost use Rattle.miette_log_reading_laws.specs.laws.RegionsBack.{lines_back, offsets_of};
+ghost use Rattle.miette_log_reading_laws.specs.laws.Sources.{AreFilesOf};
 
 /// What each result says is read as it was found: message, severity, code and URL (`said_kept`).
 pub fn what_is_said_reads_back()
@@ -28,7 +42,7 @@ pub fn what_is_said_reads_back()
 {}
 
 /// What each result tells at places is read as it was found (`told_kept`): over the same bytes of its file, where that
-/// has the text over which the log was made.
+/// is found and has the text over which the log was made.
 pub fn what_is_told_reads_back()
     ensures { (files : List ℕ → Option Source) (tool : ToolName) (fs : List Finding) → AreFindingsOver files fs
         → AllByRecursion (λ f. told_of (result_ground files tool fs f) (result_data fs f)
@@ -46,4 +60,25 @@ pub fn what_is_proposed_reads_back()
 pub fn logs_read_back()
     ensures { (files : List ℕ → Option Source) (tool : ToolName) (fs : List Finding) → AreFindingsOver files fs
         → sarif_trees files (data_of (log tool fs)) ≡ Some (map (report_kept files fs) fs) }
+{}
+
+/// The text of a log, parsed and read over files that have the texts of the reports' sources, is one report for each
+/// finding of the reports, in their order. Its numbers are to fit 64 bits, as those of all sources in memory do.
+pub fn texts_of_logs_read_back()
+    ensures { (files : List ℕ → Option Source) (tool : ToolName) (reports : Trees) (text : List ℕ) (value : Json)
+        → IsLogOf tool reports text → Denotes text value → NumbersFit value → AreFilesOf files reports
+        → ReadsBack files reports text }
+{}
+
+/// The lines and columns of a label's region are read as the bytes that it was written for, whatever bytes they are.
+pub fn regions_read_back()
+    ensures { (bytes : List ℕ) (span : Span) (s : Stretch) → stretch_of Utf16 bytes span ≡ Some s
+        → lines_back bytes s ≡ Some (offsets_of s) }
+{}
+
+/// The name of a source is read as it was, where it is no address (`names`), and where it is one without escapes, but
+/// for a `file:` one (`addresses`).
+pub fn names_read_back()
+    ensures names { (name : List ℕ) → IsPlainName name → name_of (name_uri name) ≡ name }
+    ensures addresses { (name : List ℕ) → IsPlainAddress name → name_of (name_uri name) ≡ name }
 {}
