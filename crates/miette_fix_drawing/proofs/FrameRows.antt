@@ -15,7 +15,7 @@ use Rattle.miette_fix_rows.specs.rules.DiffRows.{frame_width, largest, rows_of_l
 use Rattle.miette_fix_drawing.specs.declared.frames.FixDrawing.{FixDrawing}
 use Rattle.miette_fix_drawing.specs.steps.Framing.{context_over, drawn_frame, drawn_frames}
 
--- the rows of a frame whose numbers have so many columns
+-- the rows of a frame whose numbers have `w` columns
 framed : FixDrawing → DiffFrame → ℕ → Place → List Row
 framed d f w place =
     top_row_of (settings_of d.settings) w (option_copied d.name) true (Some place)

@@ -41,7 +41,7 @@ pub(crate) fn part_in<'a>(line: &ChangedLine, span: &SourceSpan) -> PlacedLabel<
     }
 }
 
-// Puts a part of a span behind others, if it has a byte.
+// Puts a part of a span after others, if it has a byte.
 fn push_part<'a>(parts: &mut Vec<PlacedLabel<'a>>, part: PlacedLabel<'a>) -> Outcome
     ensures { OnOk result (parts.new.items ≡ parts.old.items
         ++ (if has_bytes (drawn_of part.entry) then part.entry ∷ [] else [])) }
@@ -98,7 +98,7 @@ pub(crate) fn edit_marks<'a>(
     )
 }
 
-// A row of marks, each behind the spaces before it: `  ---  --`.
+// A row of marks, each after the spaces before it: `  ---  --`.
 fn push_sign_runs<O: Canvas>(page: &mut Page<O>, sign: char, marks: &[Mark]) -> Outcome
     ensures { OnOk result ((s : RuledSettings) →
         page.new ≡ page.old ⊕ row_tokens (sign_runs s sign 0 (map mark_of marks.now))) }
