@@ -193,7 +193,7 @@ fn all_snippets<'b, S: SourceCode, H: Highlighter, O: Canvas + Drop>(
     snippets_around(highlighter, &settings, source, labels, page)
 }
 
-/// Prints the rows of a diagnostic's snippets, whose labels are given over its source, behind what the page holds:
+/// Prints the rows of a diagnostic's snippets, whose labels are given over its source, after what the page holds:
 /// frames, numbered lines, marks and the labels' texts; or the one row of the first label that is refused. A
 /// highlighter styles the lines: it is restarted for each snippet with the contents of the snippet's read, and is then
 /// given the text of each line in order, decoded. Where labels at the source's end are drawn, and one of them asks for

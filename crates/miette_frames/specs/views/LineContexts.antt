@@ -36,7 +36,7 @@ abbrev pub text_line : LineContext → List Mark → Mark → List ℕ → List 
 text_line context earlier mark front part = before_marks context
     ++ text_row (settings context) earlier mark front part
 
--- a row of the text of a label that ends on the line, in a gutter of so many columns
+-- a row of the text of a label that ends on the line, in a gutter of `columns` columns
 abbrev pub part_line : LineContext → GutterEnd → ℕ → DrawnLabel → ℕ → List ℕ → Row
 part_line context end columns label bar part =
     other_start (settings context) context.frame.number_width
