@@ -226,8 +226,8 @@ impl<'a> Columns<'a> {
         self.column_of(Rounding::Up, offset)
     }
 
-    /// The column at which a label's mark begins, unless the mark before it ends after that: the first one after the
-    /// text, or that of the label's first byte. `AllocError` as of `first_column`.
+    /// The column at which a label's mark begins, unless the mark before it ends later: the first one after the text,
+    /// or that of the label's first byte. `AllocError` as of `first_column`.
     pub(crate) fn label_column(&self, label: &PlacedLabel<'_>) -> Result<usize, AllocError>
         ensures { IfOk result (λ column. column ≡ label_from self.now (drawn_of label.now)) }
     {

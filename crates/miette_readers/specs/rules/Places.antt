@@ -55,7 +55,7 @@ is_same s t = (s.start == t.start) && (s.end == t.end)
 abbrev pub holds : Stretch → Stretch → Bool
 holds s t = nat_le s.start t.start && nat_le t.end s.end
 
--- a place is in its file where it ends after its beginning, and not after the file's end
+-- a place is in its file where it ends after its beginning, and not past the file's end
 abbrev pub is_within : List ℕ → Stretch → Bool
 is_within bytes s = nat_le s.start s.end && nat_le s.end (length bytes)
 

@@ -12,8 +12,8 @@ abbrev pub HasByte : Cell → ℕ → Type 0
 HasByte cell offset = (cell.start ≤ offset) × (offset < cell.after)
 
 -- Where the mark before it ends at a column, a mark begins at the first column of the cell that has its label's first
--- byte, or at that one, if it is later. It ends after the last column of the cell that has the label's last byte, or
--- has one column, if that is more; an empty label's mark has one.
+-- byte, or at that one, if it is later. It ends with the last column of the cell that has the label's last byte, or has
+-- one column, if that is more; an empty label's mark has one.
 pub record StandsUnder (cells : List Cell) (reached : ℕ) (mark : Mark) : Type 0 where
   pub first : (cell : Cell) → Contains cells cell → HasByte cell mark.label.start → mark.label.behind ≡ false →
       mark.from ≡ max cell.from reached
@@ -29,7 +29,7 @@ StandUnder cells reached (mark ∷ marks) = StandsUnder cells reached mark × St
 -- Of a text that ends at an offset and has `width` columns: where the mark before it ends at a column, a mark whose
 -- label begins where the text ends begins in the column after the text, one whose label begins after that offset one
 -- column further on, or each where that other mark ends, if that is later. A mark whose label ends after the text ends
--- after the column after it, or has one column, if that is more.
+-- with the column after the text, or has one column, if that is more.
 pub record StandsPast (text_end width reached : ℕ) (mark : Mark) : Type 0 where
   pub at_end : mark.label.start ≡ text_end → mark.label.behind ≡ false → mark.from ≡ max width reached
   pub behind_end : text_end < mark.label.start → mark.label.behind ≡ false → mark.from ≡ max (width + 1) reached
