@@ -110,7 +110,7 @@ impl Runs {
         Ok(())
     }
 
-    // A sign behind the last character.
+    // A sign after the last character.
     fn push_tag(&mut self, sign: Rc<Sign>) -> Result<(), AllocError>
         ensures tokens { OnOk result (self.new ≡ self.old ++ Sequence (sign_text sign.value) ∷ []) }
         ensures text { OnOk result (spell self.new ≡ spell self.old ++ sign_text sign.value) }

@@ -87,7 +87,7 @@ impl Output {
         Ok(())
     }
 
-    /// Takes room for so many copies of a character at once. What was appended stays.
+    /// Takes room for `many` copies of a character at once. What was appended stays.
     ///
     /// # Errors
     /// `AllocError` where memory is refused, or the copies have more bytes than a `usize` counts.
