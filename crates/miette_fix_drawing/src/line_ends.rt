@@ -2,7 +2,7 @@
 
 ghost use Rattle.std.specs.Prelude.{◌≡◌, ◌+◌, [], ◌++◌, ◌<◌, ◌^◌, length, if◌then◌else◌, IfOk, OnOk};
 ghost use Rattle.std.specs.List.{filter};
-ghost use Rattle.miette_snippet_rules.specs.views.SettingsView.{settings_of};
+ghost use Rattle.miette_snippet_rules.specs.views.Settings.{settings_of};
 ghost use Rattle.miette_fix_rows.specs.rules.DiffTexts.{is_on, line_ends, text_of_line};
 ghost use Rattle.miette_fix_drawing.specs.steps.Ends.{all_ends, span_ends};
 ghost use Rattle.miette_fix_drawing.specs.steps.Spans.{AreApart};

@@ -4,7 +4,7 @@ ghost use Rattle.std.specs.Prelude.{◌≡◌, ◌++◌, replicate, IfOk, OnOk};
 ghost use Rattle.std.specs.Option.{option_map};
 ghost use Rattle.std.specs.Str.{bytes_eq};
 ghost use Rattle.miette_cells.specs.views.Walking.{cell_of};
-ghost use Rattle.miette_snippet_rules.specs.views.SettingsView.{settings_of};
+ghost use Rattle.miette_snippet_rules.specs.views.Settings.{settings_of};
 ghost use Rattle.miette_fix_rows.specs.rules.DiffTexts.{look, look_alike, seen, without_blanks};
 ghost use Rattle.miette_fix_drawing.specs.steps.Looks.{seen_of_cell};
 

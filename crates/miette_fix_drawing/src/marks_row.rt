@@ -7,7 +7,7 @@ ghost use Rattle.miette_label_rules.specs.views.GivenLabels.{drawn_of};
 ghost use Rattle.miette_snippet_rules.specs.rules.Frames.{other_start};
 ghost use Rattle.miette_snippet_rules.specs.rules.Settings.{SnippetSettings as RuledSettings};
 ghost use Rattle.miette_snippet_rules.specs.views.MadeMarks.{mark_of};
-ghost use Rattle.miette_snippet_rules.specs.views.SettingsView.{settings_of};
+ghost use Rattle.miette_snippet_rules.specs.views.Settings.{settings_of};
 ghost use Rattle.miette_fix_rows.specs.rules.DiffRows.{before_some, row_if_some};
 ghost use Rattle.miette_fix_rows.specs.rules.DiffTexts.{edit_marks, has_bytes, part_in, parts_in, sign_runs};
 ghost use Rattle.miette_fix_drawing.specs.steps.Spans.{AreApart};

@@ -2,7 +2,7 @@
 
 ghost use Rattle.std.specs.Prelude.{◌≡◌, ◌≤◌, Some, IfOk, false, true, chars, string_bytes};
 ghost use Rattle.miette_picture_rules.specs.views.Handling.{laid_out, without_highlighter, wrapped_by};
-ghost use Rattle.miette_picture_rules.specs.views.SettingsView.{handler_settings};
+ghost use Rattle.miette_picture_rules.specs.views.Settings.{handler_settings};
 ghost use Rattle.miette_picture_rules.specs.rules.Settings.{default_settings, links_shown, urls_shown};
 ghost use Rattle.miette_style.specs.rules.Themes.{terminal_theme, theme_of};
 
@@ -29,7 +29,7 @@ pub struct GraphicalReportHandler<H = Box<dyn Highlighter>> {
 impl<H> Model for GraphicalReportHandler<H> {
     ghost use Rattle.std.specs.Prelude.{◌≤◌};
     ghost use Rattle.miette_picture_rules.specs.views.Handling.{Handling};
-    ghost use Rattle.miette_picture_rules.specs.views.SettingsView.{handler_settings};
+    ghost use Rattle.miette_picture_rules.specs.views.Settings.{handler_settings};
 
     ghost Value = { Handling H };
 

@@ -6,7 +6,7 @@ ghost use Rattle.miette_labels.specs.views.Placing.{told_end};
 ghost use Rattle.miette_labels.specs.views.Reads.{IsRead, name_of as name_of_reason};
 ghost use Rattle.miette_layout.specs.views.Outcomes.{GivesAround, MayGive, RefusesWith, printing_of};
 ghost use Rattle.miette_layout.specs.views.SourceEnds.{AreEndLines};
-ghost use Rattle.miette_snippet_rules.specs.views.SettingsView.{settings_of};
+ghost use Rattle.miette_snippet_rules.specs.views.Settings.{settings_of};
 ghost use Rattle.miette_label_rules.specs.views.GivenLabels.{label_at};
 ghost use Rattle.miette_label_rules.specs.rules.Groups.{in_order};
 ghost use Rattle.miette_snippet_rules.specs.rules.Highlighting.{leaves_plain};

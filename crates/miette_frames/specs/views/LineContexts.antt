@@ -8,7 +8,7 @@ use Rattle.miette_page.specs.rules.Rows.{Row}
 use Rattle.miette_snippet_rules.specs.rules.Marks.{Mark}
 use Rattle.miette_snippet_rules.specs.rules.Drawing.{text_row}
 use Rattle.miette_label_rules.specs.rules.Labels.{DrawnLabel}
-use Rattle.miette_snippet_rules.specs.views.SettingsView.{settings_of}
+use Rattle.miette_snippet_rules.specs.views.Settings.{settings_of}
 use Rattle.miette_label_rules.specs.views.GivenLabels.{drawn_of}
 use Rattle.miette_snippet_rules.specs.rules.Gutters.{other_gutter, part_run}
 use Rattle.miette_snippet_rules.specs.rules.Frames.{other_start}
