@@ -1,6 +1,6 @@
 -- What is shown of rows.
 use Rattle.std.specs.Prelude.{◌≡◌, ℕ, ◌+◌, List, [], ◌∷◌, ◌++◌, Option, Some, None, Bool, true, false, IsUtf8}
-use Rattle.std.specs.Prelude.{option_and_then, option_map, is_some, if◌then◌else◌, map}
+use Rattle.std.specs.Prelude.{◌||◌, option_and_then, option_map, is_some, if◌then◌else◌, map}
 use Rattle.std.specs.List.{All, flat_map, list_any}
 use Rattle.serde_json.specs.Data.{Data}
 use Rattle.serde_json.specs.Find.{as_array}
