@@ -56,8 +56,7 @@ pub(crate) fn sort(edits: &mut Vec<&Edit>) -> Result<(), AllocError>
     if ascend(edits) {
         return Ok(());
     }
-    edits.sort_by_key(|edit| *edit.span())?;
-    Ok(())
+    edits.sort_by_key(|edit| *edit.span())
 }
 
 /// The edits by offset, then by length, ties as given.

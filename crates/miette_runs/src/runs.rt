@@ -92,8 +92,7 @@ impl Runs {
         ensures tokens { OnOk result (self.new ≡ self.old ++ map Character codes.now) }
         ensures text { OnOk result (spell self.new ≡ spell self.old ++ codes.now) }
     {
-        self.codes.extend_from_slice(codes)?;
-        Ok(())
+        self.codes.extend_from_slice(codes)
     }
 
     /// Appends the characters of a text.
@@ -280,8 +279,7 @@ impl Canvas for Runs {
     ghost written = { λ runs. spell runs };
 
     fn reserve(&mut self, _c: char, many: usize) -> Result<(), AllocError> {
-        self.codes.reserve(many)?;
-        Ok(())
+        self.codes.reserve(many)
     }
 
     fn push(&mut self, c: char) -> Result<(), AllocError> {

@@ -50,8 +50,7 @@ fn print_link(out: &mut String, url: &str) -> Result<(), AllocError>
 {
     out.push_str("\u{1B}]8;;")?;
     out.push_str(url)?;
-    out.push_str("\u{1B}\\")?;
-    Ok(())
+    out.push_str("\u{1B}\\")
 }
 
 impl Output {
