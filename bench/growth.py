@@ -5,7 +5,7 @@
 
 Of each series whose name has a NAME, or of all, five sizes are counted, each twice the one before,
 in instructions as by count.py. A row has the largest size, its count in millions, the bytes of its
-text, and of each doubling how often as much it takes and how often as long the text is. Behind a
+text, and of each doubling how often as much it takes and how often as long the text is. After a
 doubling that takes more than 2.2 times as much, and 1.15 times what the text grows by, stands `!`.
 A series ends before a size that is refused: a description nests no deeper than 127. FILE keeps all
 counts as JSON: what stands there isn't counted again.
@@ -55,14 +55,14 @@ def over(labels, text, **others):
 
 
 def labels_apart(lines, length=3, **others):
-    """Labels that begin so many lines apart."""
+    """Labels that begin `lines` lines apart."""
     return lambda n: over(
         [label(i * lines * WIDE, length, "x", **others) for i in range(n)], LINE * (lines * n)
     )
 
 
 def own_contexts(lines):
-    """Labels that begin so many lines apart, with contexts of their own."""
+    """Labels that begin `lines` lines apart, with contexts of their own."""
     context = lambda i: 1 + i % OWN_CONTEXTS
     return lambda n: over(
         [label(i * lines * WIDE, 3, "x", context=context(i)) for i in range(n)], LINE * (lines * n)
@@ -82,7 +82,7 @@ def crossing(n):
 
 
 def many_rows(n):
-    """A label's text of so many lines, behind ten other labels."""
+    """A label's text of `n` lines, after ten other labels."""
     labels = [label(i * 3, 1, "y") for i in range(10)]
     return over([*labels, label(31, 1, "row\n" * n)], LINE * 2)
 
@@ -199,7 +199,7 @@ def at_the_end(n):
 
 
 def behind_tabs(n):
-    """A label behind so many tabs."""
+    """A label after `n` tabs."""
     return over([label(n, 1, "x")], "\t" * n + "x")
 
 

@@ -363,7 +363,7 @@ def compiled():
 
 
 def short_lines(count):
-    """A message of so many lines."""
+    """A message of `count` lines."""
     return {"message": "line of text\n" * count}
 
 
@@ -385,7 +385,7 @@ def text_causes():
 
 
 def compiler_error(count):
-    """The typical report's labels far behind in a source of so many lines."""
+    """The typical report's labels far into a source of `count` lines."""
     report, text = typical(), sample()
     before = (text * (count // 60 + 1))[: len(text) * (count // 60 * 2 // 3)]
     for label in report["labels"]:
@@ -394,7 +394,7 @@ def compiler_error(count):
 
 
 def table_row(count):
-    """A label near the end of so many rows of a table."""
+    """A label near the end of `count` rows of a table."""
     row = "{:05d},some name of a thing,12.50,2026-11-29,another longer column of text,yes\n"
     text = "".join(row.format(it) for it in range(count))
     return labelled("no such name", [{"offset": len(text) - 2000, "length": 9, "label": "here"}], text, "t.csv")
@@ -413,19 +413,19 @@ def apart(count):
 
 
 def marked_line(count, end=""):
-    """`count` labels without texts on one line of letters, with something behind them."""
+    """`count` labels without texts on one line of letters, with `end` after them."""
     places = range(5, 100 * count, 100)
     labels = [{"offset": at, "length": 3} for at in places]
     return findings(labels, "abcdefghij" * (10 * count) + end)
 
 
 def accented_end(kilobytes):
-    """A label near the head of a line of this many kilobytes of words, with an accent behind them."""
+    """A label near the head of a line of this many kilobytes of words, with an accent after them."""
     report = long_line(kilobytes, True)
     report["source"]["text"] += "é"
     return report
 
 
 def controls(count):
-    """A message of so many control characters."""
+    """A message of `count` control characters."""
     return {"message": "\x01" * count}

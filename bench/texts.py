@@ -60,7 +60,7 @@ def escaped(first, size):
 
 
 def sentences(first, size):
-    """Chinese of about `size` bytes: clauses of 4 to 15 characters, some in brackets or behind a
+    """Chinese of about `size` bytes: clauses of 4 to 15 characters, some in brackets or after a
     word of Latin letters."""
     numbers, found, length = Numbers(first), [], 0
     while length < size:

@@ -168,7 +168,7 @@ def fixes():
 
 
 def linted(count, found):
-    """So many lines, with findings in those of these numbers."""
+    """`count` lines, with findings in those of the numbers `found`."""
     line = b"    let value = compute(that, other);"
     return b"".join(line + (b" \n" if number in found else b"\n") for number in range(count))
 

@@ -1,7 +1,7 @@
 #!/usr/bin/env python3
 """cut_cases.py: writes the cases of `job --line-columns` and `--fit-lines` (job-cut.jsonl) to standard output.
 
-Sources and labels are drawn by chance from a fixed seed, with the picture that the rules ask for (model.py). Behind 400
+Sources and labels are drawn by chance from a fixed seed, with the picture that the rules ask for (model.py). After 400
 there are 40 in which labels at the end of the source are drawn, and 40 whose lines fit the width. What a line holds:
 run.py."""
 import json

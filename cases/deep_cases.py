@@ -37,7 +37,7 @@ def labels_of(dice, source):
 
 
 def report_of(dice, inherited, depth):
-    """A report that may stand under another one, with what stands under it down to so many levels."""
+    """A report that may stand under another one, with what stands under it down to `depth` levels."""
     report = {"message": dice.choice(MESSAGES)}
     if dice.random() < 0.2:
         report["code"] = dice.choice(["app::code", "c"])

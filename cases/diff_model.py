@@ -66,7 +66,7 @@ class Block(NamedTuple):
         return text + source.data[at : start_of(source, self.last + 1)]
 
     def meets_return(self, source):
-        """Whether its new text begins with a line feed behind a carriage return: both become one terminator."""
+        """Whether its new text begins with a line feed after a carriage return: both become one terminator."""
         before = source.data[: start_of(source, self.first)]
         return before.endswith(b"\r") and self.new_text(source).startswith(b"\n")
 
@@ -307,7 +307,7 @@ def place_of(source, change):
 
 
 class Shown(NamedTuple):
-    """The stretches of changes in a frame, and the unchanged lines before, between and behind them."""
+    """The stretches of changes in a frame, and the unchanged lines before, between and after them."""
 
     stretches: list
     unchanged: list

@@ -23,7 +23,7 @@ def line_text(dice, most=3):
 
 
 def source_of(dice, most, long=0.0):
-    """Up to so many lines; so many of them are long."""
+    """Up to `most` lines, each of them long with the chance `long`."""
     ends, rows = dice.choice(ENDS), []
     for _ in range(dice.randint(0, most)):
         again = rows and dice.random() < 0.2
@@ -113,7 +113,7 @@ def at_boundary(data, offset):
 
 
 def edits_of(dice, data, kinds, most, bad):
-    """Edits as they are given: by offset or not; with so many of a hundred fixes some overlap or go past the end."""
+    """Edits as they are given: by offset or not; of `bad` fixes in a hundred some overlap or go past the end."""
     splits = dice.random() < 0.1
     found = []
     for _ in range(dice.randint(1, most)):

@@ -18,7 +18,7 @@ OTHER = [b"[]\n", b'[{"message":"m"}]\n', b"[ {}]\n", b"[1]\n", b"compilation te
 
 
 def recorded(name):
-    """What GCC wrote of a program: an array in one row, and maybe rows behind it."""
+    """What GCC wrote of a program: an array in one row, and maybe rows after it."""
     with open(os.path.join(FOLDER, f"{name}.json"), "rb") as file:
         return file.read()
 

@@ -13,8 +13,8 @@ class NoReports(Exception):
 
 
 def offset(data, line, before):
-    """The byte of a line (from 1) with so many bytes in front of it, at most the end of the line's text. Lines end with
-    LF, CR LF or a lone CR, as GCC counts them."""
+    """The byte of a line (from 1) with `before` bytes in front of it, at most the end of the line's text. Lines end
+    with LF, CR LF or a lone CR, as GCC counts them."""
     ends = list(re.finditer(rb"\r\n|\n|\r", data))
     starts = [0, *(it.end() for it in ends)]
     if not 1 <= line <= len(starts):
@@ -24,7 +24,7 @@ def offset(data, line, before):
 
 
 def at(point, origin, files, further=0):
-    """The byte that stands so many behind a point, where it is in a file."""
+    """The byte that stands `further` bytes after a point, where it is in a file."""
     name, line, column = text(point, "file"), member(point, "line", int), member(point, "byte-column", int)
     if name not in files or line is None or column is None or column < origin:
         return None
@@ -32,7 +32,7 @@ def at(point, origin, files, further=0):
 
 
 def span(start, end, origin, files, further):
-    """A span in rustc's form, from one point up to what stands so many bytes behind another one."""
+    """A span in rustc's form, from one point up to what stands `further` bytes after another one."""
     it = {"file_name": text(start, "file")}
     it.update(line_start=member(start, "line", int) or 0, column_start=member(start, "column", int) or 0)
     begin, last = at(start, origin, files), at(end, origin, files, further)

@@ -289,15 +289,16 @@ def row_columns(parts, wide):
 
 
 def cut_stretches(line, limit, ends, wide):
-    """The stretches of a line that is cut, with dots of so many columns; none where it isn't. Shown is what is within its
-    reach of an end: the most columns by which the row is no wider than the limit. Without ends it is the first cells."""
+    """The stretches of a line that is cut, with dots of `wide` columns; none where it isn't. Shown is what is within
+    its reach of an end: the most columns by which the row is no wider than the limit. Without ends it is the first
+    cells."""
     if limit is None or line.width <= max(limit, LEAST):
         return None
     return cut_by(line, limit, reach_of(line, limit, ends, wide), ends, wide)
 
 
 def cut_by(line, limit, reach, ends, wide):
-    """The stretches of a line that is cut so many columns around its ends."""
+    """The stretches of a line that is cut `reach` columns around its ends."""
     if not ends:
         return parted(line, wide, lambda cell: cell.next_column + wide <= max(limit, LEAST))
     return parted(line, wide, lambda it: any(it.column - reach <= end < it.next_column + reach for end in ends))

@@ -46,8 +46,8 @@ class Unread(Exception):
 
 
 def hunk_of(rows, moved, most):
-    """A frame's rows (number, sign, text) as a hunk, where the lines before it have moved by so many, and by how many
-    those behind it have. The source has at most so many lines."""
+    """A frame's rows (number, sign, text) as a hunk, where the lines before it have moved by `moved`, and by how many
+    those after it have. The source has `most` lines."""
     number, sign, _ = rows[0] if rows else (0, "", "")
     old = number - moved if sign == "+" else number
     if not 1 <= old <= most + 1:
@@ -64,7 +64,7 @@ def hunk_of(rows, moved, most):
 
 
 def patch_of(rows, most):
-    """The frames of a fix as a unified diff of a source of so many lines; empty where there are none."""
+    """The frames of a fix as a unified diff of a source of `most` lines; empty where there are none."""
     hunks, frame, moved = [], [], 0
     for row in rows:
         found = ROW.fullmatch(row)

@@ -3,7 +3,7 @@
 
 Sources are drawn by chance from a fixed seed: with LF, CR LF and lone CR, characters past U+FFFF, marks, byte order
 marks, and in half of them bytes that are no UTF-8. SARIF logs, whose lines end as those of pictures, point to two
-places in each, some behind a line's text or inside a character, in columns of UTF-16 units or of characters. `--json`
+places in each, some after a line's text or inside a character, in columns of UTF-16 units or of characters. `--json`
 says which bytes these are, `--github` gives their lines and columns in UTF-16 units, and `--brief` line and column of
 the first in bytes. All are those of a model of the rules (docs/RULES.md, 'Positions'), made without the program.
 
@@ -51,7 +51,7 @@ def characters(text):
 
 
 def lines_of(data):
-    """Where each line begins, and its text; a line is there behind a last terminator."""
+    """Where each line begins, and its text; a line is there after a last terminator."""
     found, begin = [], 0
     for end in re.finditer(rb"\r\n|\n|\r", data):
         found.append((begin, data[begin : end.start()]))

@@ -47,7 +47,7 @@ def spread(value, end=b"\n"):
 
 
 def spread_and_cut(value):
-    """The log over many rows, cut at every 50th byte; behind each there is a quote, so that a value that is cut ends."""
+    """The log over many rows, cut at every 50th byte; after each there is a quote, so that a value that is cut ends."""
     rows = spread(value)
     return b"".join(rows[:end] + b'\n"\n' for end in range(1, len(rows), 50))
 
@@ -107,7 +107,7 @@ def recorded(name):
 
 
 def cut_rows(given):
-    """What a tool wrote, cut at every 50th byte, with a quote behind each."""
+    """What a tool wrote, cut at every 50th byte, with a quote after each."""
     return b"".join(given[:end] + b'\n"\n' for end in range(1, len(given), 50))
 
 

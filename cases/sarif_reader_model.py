@@ -21,7 +21,7 @@ def first(*found):
 
 
 def full_uri(bases, location, most=16):
-    """The URI of a location, behind those of its bases, of which so many at most may stand on each other."""
+    """The URI of a location, after those of its bases, of which `most` at most may stand on each other."""
     uri = member(location, "uri", str) or ""
     if re.match(r"/|[^/]*:", uri):
         return uri
@@ -35,7 +35,7 @@ def full_uri(bases, location, most=16):
 
 
 def columns_behind(data, start, end, columns, units):
-    """The byte behind so many columns of a line's text, at most its end; inside a character its start."""
+    """The byte after `columns` columns of a line's text, at most its end; inside a character its start."""
     at = start
     for it in data[start:end].decode(errors="surrogateescape"):
         size = len(it.encode(errors="surrogateescape"))
@@ -47,7 +47,8 @@ def columns_behind(data, start, end, columns, units):
 
 
 def offset(data, line, columns, units, ends):
-    """The byte of so many columns on a line (from 1); the first of the sequences that stands somewhere ends a line."""
+    """The byte `columns` columns after the beginning of a line (from 1); the first of the sequences that stands
+    somewhere ends a line."""
     ends = list(re.finditer(b"|".join(map(re.escape, ends)), data))
     starts = [0, *(it.end() for it in ends)]
     if not 1 <= line <= len(starts):
@@ -56,7 +57,7 @@ def offset(data, line, columns, units, ends):
 
 
 def chars_behind(data, start, count, units):
-    """The byte behind so many code units of characters, inside one its start; none where there are too few."""
+    """The byte after `count` code units of characters, inside one its start; none where there are too few."""
     total = sum(units(it) for it in data[start:].decode(errors="surrogateescape"))
     return None if count > total else columns_behind(data, start, len(data), count, units)
 

@@ -46,7 +46,7 @@ SCRIPTS["mixed"] = (" ".join(words for words, _ in SCRIPTS.values()) + MARKED,
 
 
 def text_of(dice, script):
-    """A text of so many words, sometimes of two lines."""
+    """A text of some words, sometimes of two lines."""
     words, between = SCRIPTS[script]
     words = words.split(" ")
     text = "".join(dice.choice(words) + dice.choice(between) for _ in range(dice.randint(2, 24)))

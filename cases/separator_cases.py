@@ -107,7 +107,7 @@ def may_break(text, place):
 
 
 def words(line, separator):
-    """The words of a line, each with the spaces behind it."""
+    """The words of a line, each with the spaces after it."""
     if separator == "ascii":
         return re.findall("[^ ]* +|[^ ]+", line)
     found, begin = [], 0
@@ -119,7 +119,7 @@ def words(line, separator):
 
 
 def cut(letters, narrow):
-    """A word's letters, cut behind hyphens, and where they are too wide."""
+    """A word's letters, cut after hyphens, and where they are too wide."""
     for piece in re.sub(r"(?<=[0-9A-Za-z])-(?=[0-9A-Za-z])", "-\0", letters).split("\0"):
         part, used = "", 0
         for c in piece:
@@ -131,7 +131,7 @@ def cut(letters, narrow):
 
 
 def parts(line, narrow, separator):
-    """What a line is cut into: letters, and the spaces behind them."""
+    """What a line is cut into: letters, and the spaces after them."""
     for word in words(line, separator):
         letters = word.rstrip(" ")
         pieces = list(cut(letters, narrow))

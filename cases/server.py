@@ -249,7 +249,7 @@ def read_frame(stream):
 
 
 def type_on(say, text):
-    """Tells so many changes of a document a second, whatever has been answered."""
+    """Tells `A_SECOND` changes of a document a second, whatever has been answered."""
     begun = time.monotonic()
     for version in range(1, CHANGES + 1):
         document = {"uri": "file:///a", "version": version}

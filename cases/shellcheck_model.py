@@ -14,8 +14,8 @@ class NoReports(Exception):
 
 
 def offset(data, line, column):
-    """The byte of a column of a line, both from 1, columns in characters; behind the line's text its end. Lines end
-    with LF, CR LF or a lone CR."""
+    """The byte of a column of a line, both from 1, columns in characters; after the line's text its end. Lines end with
+    LF, CR LF or a lone CR."""
     ends = list(re.finditer(rb"\r\n|\n|\r", data))
     starts = [0, *(it.end() for it in ends)]
     if not 1 <= line <= len(starts) or column < 1:

@@ -3,7 +3,7 @@
 on SARIF logs (`sarif_read/`), and compares it with the model of show_model.py, whose reports tree_model.py draws.
 
 The recorded rows are tried as they are, as cargo wraps them, cut at every 50th byte, with members removed or of other
-types, offsets, lines and columns that are off or behind the end, other files, files that are gone or shorter. Where
+types, offsets, lines and columns that are off or after the end, other files, files that are gone or shorter. Where
 rustc, gcc, shellcheck, clang 16 and flawfinder are installed, they are run anew. `--many` reads 100,000 messages, and
 looks at the memory.
 The last line is 'N passed, M failed', and the exit status is 0 only where nothing failed."""
@@ -293,7 +293,7 @@ def live_tried():
 
 
 def read_soon(stream, size):
-    """So many bytes of a stream, or those that came where none comes for ten seconds."""
+    """`size` bytes of a stream, or those that came where none comes for ten seconds."""
     got = b""
     while len(got) < size and select.select([stream], [], [], 10)[0]:
         more = os.read(stream.fileno(), size - len(got))
@@ -304,7 +304,7 @@ def read_soon(stream, size):
 
 
 def stream_tried():
-    """What is read is shown as soon as its last row has come, in one row or in many, also behind one that is cut off."""
+    """What is read is shown as soon as its last row has come, in one row or in many, also after one that is cut off."""
     row, files = b'{"message":"m","level":"error"}\n', files_in(gcc_cases.FOLDER)
     rows = gcc_cases.formatted(gcc_cases.array_of("fatal")).encode() + b"\n"
     done, words = [], [program("show"), "--root", gcc_cases.FOLDER, *WORDS]
@@ -319,7 +319,7 @@ def stream_tried():
 
 
 def most_memory(count):
-    """How the program ends that reads so many messages, with the bytes of memory that it takes at most."""
+    """How the program ends that reads `count` messages, with the bytes of memory that it takes at most."""
     rows = rows_of(recorded("borrow"))
     with tempfile.TemporaryDirectory() as folder:
         path = os.path.join(folder, "rows")
@@ -330,7 +330,7 @@ def most_memory(count):
 
 
 def memory_tried(count):
-    """So many messages take no more memory than a hundredth of them."""
+    """`count` messages take no more memory than a hundredth of them."""
     size_runs.wait_for_all()
     few, many = most_memory(count // 100), most_memory(count)
     kb = size_runs.KB

@@ -8,7 +8,7 @@ import sarif_reader_model
 import shellcheck_model
 from readers_model import NoMessage, member, report_of
 
-# what messages begin with: a bracket, and behind white space a quote, a bracket or nothing
+# what messages begin with: a bracket, and after white space a quote, a bracket or nothing
 BEHIND = rb'[ \t\r\n]*(?:["{}\[\]]|\Z)'
 BEGINNING = {form: re.compile(bracket + BEHIND) for form, bracket in (("auto", rb"[\[{]"), ("gcc", rb"\["))}
 BEGINNING.update(dict.fromkeys(("rustc", "sarif", "shellcheck"), re.compile(rb"{" + BEHIND)))
@@ -29,7 +29,7 @@ def rows_of(given):
 
 
 def depth_behind(depth, row):
-    """How many brackets are open behind a row that begins beside texts; none where it ends within one."""
+    """How many brackets are open after a row that begins beside texts; none where it ends within one."""
     beside = re.sub(rb'"(?:[^"\\]|\\.)*"', b"", row, flags=re.S)
     if b'"' in beside:
         return 0

@@ -33,7 +33,7 @@ class Family(NamedTuple):
     # Whether by rule a picture's text grows with the square of the size.
     is_square: bool = False
     gate_ways: tuple = ()
-    # Peak memory is at most so many times the text, or so many bytes for each item, and 4 MB more.
+    # Peak memory is at most `memory_times` times the text, or `memory_each` bytes for each item, and 4 MB more.
     memory_times: int = 8
     memory_each: int = 0
 
@@ -182,17 +182,17 @@ def labels_on(unit, head=b""):
 
 
 def far_labels(lines, over):
-    """n labels, one behind the other, each over so many of the lines that it has."""
+    """n labels, one after the other, each over `over` of the `lines` lines that it has."""
     return lambda size: labelled("ab\n" * lines * size, far_spans(size, 3 * lines, 3 * over - 1), "x")
 
 
 def far_spans(size, step, length):
-    """n spans of this length, so many bytes one behind the other."""
+    """n spans of this length, each `step` bytes after the one before."""
     return ((step * i, length) for i in range(size))
 
 
 def long_line(unit, times, end=""):
-    """A line of n times so many units, with a label on one unit of all these, and an end."""
+    """A line of n times `times` units, with a label on one unit of all these, and an end."""
     length = len(unit.encode())
     return lambda size: labelled(unit * times * size + end, far_spans(size, times * length, length))
 

@@ -126,7 +126,7 @@ def with_growths(case, row, before, asked):
 
 
 def most_memory(case, text):
-    """How much memory a run may take at its peak, where its text has so many bytes."""
+    """How much memory a run may take at its peak, where its text has `text` bytes."""
     family = case.family
     return max(family.memory_times * text, family.memory_each * case.size) + MEMORY_MORE
 

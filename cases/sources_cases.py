@@ -36,7 +36,7 @@ def section_of(dice):
 
 
 def report_of(dice, inherited, depth):
-    """A report that may stand under another one, with what stands under it down to so many levels."""
+    """A report that may stand under another one, with what stands under it down to `depth` levels."""
     report = {"message": dice.choice(MESSAGES)}
     if dice.random() < 0.4:
         report["severity"] = dice.choice(["error", "warning", "advice"])
@@ -85,7 +85,7 @@ def coloured(number):
 
 
 def coloured_rows(section, before):
-    """The rows of one source, its first mark in the highlight after so many labels."""
+    """The rows of one source, its first mark in the highlight after `before` labels."""
     labels = section["labels"]
     if not labels:
         return []
@@ -99,7 +99,7 @@ def coloured_rows(section, before):
 
 
 def large_source(dice, size, is_cut):
-    """A source of so many bytes and a few more: of short lines, of some wide ones, or of one where lines are cut."""
+    """A source of `size` bytes and a few more: of short lines, of some wide ones, or of one where lines are cut."""
     kind = dice.choice(["short", "short", "wide", "one"] if is_cut else ["short", "short", "wide"])
     ends = dice.choice([["\n"], ["\n"], ["\r\n"], ["\n", "\r\n", "\r"]])
     rows, length = [], 0
@@ -113,7 +113,7 @@ def large_source(dice, size, is_cut):
 
 
 def large_labels(dice, source, count, is_folded):
-    """So many labels over a source, most of them in a line; some of hundreds of lines where these are folded."""
+    """`count` labels over a source, most of them in a line; some of hundreds of lines where these are folded."""
     length, labels = len(source["text"].encode()), []
     lengths = [0, 1, 1, 3, 3, 7, 12, dice.randint(1, 60)] + ([dice.randint(2_000, 9_000)] if is_folded else [])
     for at in range(count):
@@ -185,7 +185,7 @@ def coloured_section(dice, name):
 
 
 def in_colours(plain, before):
-    """The plain rows of such labels in colour, the first mark in the highlight after so many labels."""
+    """The plain rows of such labels in colour, the first mark in the highlight after `before` labels."""
     rows, styles = [], (HIGHLIGHTS[at % len(HIGHLIGHTS)] for at in range(before, 10_000))
     for row in plain:
         if "╭─[" in row:

@@ -48,7 +48,7 @@ def shown_labels(name, handler):
 
 
 def fixed_outcome(name, handler, reads):
-    """What a report comes to behind its labels: where it has fixes, its source is read for them. A picture asks it too
+    """What a report comes to after its labels: where it has fixes, its source is read for them. A picture asks it too
     which line a fix stands in that is far down; where that read fails, it counts the lines."""
     if "fixes" not in STOPPED[name]:
         return WHOLE

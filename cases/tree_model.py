@@ -2,7 +2,7 @@
 without the programs.
 
 It draws the picture of a report with its causes and related reports in plain Unicode characters: what stands under an
-arrow is drawn by itself for the width that is left, and wrapped behind the arrow and its bar, level by level. The
+arrow is drawn by itself for the width that is left, and wrapped after the arrow and its bar, level by level. The
 snippets are those of model.py, the rows of fixes those of diff_model.py. deep_cases.py and fix_pictures.py make reports
 by chance, and write them as cases; those in another theme than `unicode_nocolor` have no labels."""
 import re
@@ -63,7 +63,7 @@ def columns_of(characters):
 
 
 def words_of(characters):
-    """The words of a line as letters and the spaces behind them."""
+    """The words of a line as letters and the spaces after them."""
     words, letters, spaces = [], [], []
     for it in characters:
         if it.code != " " and spaces:
@@ -113,7 +113,7 @@ def without_last_spaces(characters):
 
 
 def wrapped_rows(text, rooms, page):
-    """The rows of a text; the first of all and the others have so many columns."""
+    """The rows of a text; the first of all and the others have the columns of `rooms`."""
     rows = []
     for line in text.split("\n"):
         characters, rest = characters_of(line)
@@ -142,7 +142,7 @@ def whole_rows(text, first, further):
 
 
 def wrapped(text, first, further, page):
-    """A text behind what stands in front of its first row and of the others."""
+    """A text after what stands in front of its first row and of the others."""
     if not page.wraps:
         return "\n".join(whole_rows(text, first, further))
     width = max(page.width - 2, 0)

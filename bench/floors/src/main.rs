@@ -3,7 +3,7 @@
 //!     floors WHAT TIMES < DESCRIPTION
 //!     floors WHAT show < DESCRIPTION
 //!
-//! The first makes WHAT so many times, and writes how many bytes one has; the second writes it. A
+//! The first makes WHAT TIMES times, and writes how many bytes one has; the second writes it. A
 //! description is one of those that `bench` reads. WHAT is:
 //!
 //! - `picture`: what `bench --theme unicode_nocolor` makes of reports with labels, help, causes that

@@ -313,7 +313,7 @@ impl Row<'_> {
         }
     }
 
-    /// The row of one of the texts that hang from marks, behind the stems of those before it.
+    /// The row of one of the texts that hang from marks, after the stems of those before it.
     fn push_hung(&self, out: &mut String, text: usize) {
         self.push_front(out);
         self.push_gutters(out);

@@ -11,14 +11,14 @@ pub fn columns(text: &str) -> usize {
     }
 }
 
-/// What stands in front of a text's first row and of the others, all of so many columns.
+/// What stands in front of a text's first row and of the others, all of `columns` columns.
 pub struct Indent {
     pub first: &'static str,
     pub other: &'static str,
     pub columns: usize,
 }
 
-/// Each line behind its indent, and not wrapped; white lines have the indent without spaces at its
+/// Each line after its indent, and not wrapped; white lines have the indent without spaces at its
 /// end. Then a line feed.
 pub fn push_lines(out: &mut String, text: &str, indent: &Indent) {
     let mut own = indent.first;
@@ -41,7 +41,7 @@ fn push_line(out: &mut String, line: &str, indent: &str) {
     out.push_str(line);
 }
 
-/// Rows of at most so many columns, cut at spaces alone, each behind its indent and with a line
+/// Rows of at most `width` columns, cut at spaces alone, each after its indent and with a line
 /// feed. A word that is wider than a row isn't cut.
 pub fn push_rows(out: &mut String, text: &str, width: usize, indent: &Indent) {
     let room = width - indent.columns;

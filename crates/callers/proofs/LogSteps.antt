@@ -29,7 +29,7 @@ module _ {T W F : Type 0} (how : Behaviour T W) (stays : (a b : T) → how.keeps
       → IsReported how answer old t new → new.handler ≡ old.handler
   handler_stays answer old new t one = ⊎_elim (λ same. same) (λ kept. stays old.handler new.handler kept) one.settings
 
-  -- behind a run without a failure this text was told, and before there was none either
+  -- after a run without a failure this text was told, and before there was none either
   one_logged : (answer : Result (Unit {0}) PrintError) (old new : Run T W F) (t : Tree) (text : List ℕ)
       → old.form ≡ Brief → ((own : List ℕ) → how.gives old.handler t own → own ≡ text)
       → IsReported how answer old t new → new.failure ≡ None

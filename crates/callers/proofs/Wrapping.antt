@@ -3,7 +3,7 @@ use Rattle.std.proofs.Common.{◌≡◌, Option, Some, Result, Ok, Err, IfErr, r
 use Rattle.std.specs.Option.{IsNone}
 use Rattle.std.specs.Result.{IsErrAnd, result_ok}
 
--- the error's own report stands behind the message, as the error converts to it alone
+-- the error's own report stands after the message, as the error converts to it alone
 pub told_behind : {A B R : Type 0} (outcome : Result A R) (result : Result B R) (converts : R → R → Type 0)
     (tells : Option R → R → Type 0) (Q : R → R → Type 0) → ((e r : R) → converts e r → r ≡ e)
     → ((report r : R) → tells (Some report) r → Q report r)

@@ -65,7 +65,7 @@ abbrev pub TextHangs : Settings → Type 0
 TextHangs s = AllByRecursion (SnippetHangs s settings_file (name_label ∷ []))
     (groups_of s settings_file (name_label ∷ []))
 
--- the row of the second line, with the line feed behind it
+-- the row of the second line, with the line feed after it
 abbrev pub host_row : List ℕ
 host_row = encode_utf8_all (codes " 2 │ host = x\n")
 

@@ -81,7 +81,7 @@ abbrev pub cause_text : List ℕ
 cause_text = fed_rows (map print (drawn_rows (settings_under narrow (cause_arrow ∷ [])) (Some depth_file)
     (head depth_tree) nothing_listed))
 
--- Those that have at most 192 columns stand in a text one after the other, each behind six spaces.
+-- Those that have at most 192 columns stand in a text one after the other, each after six spaces.
 abbrev pub CauseStands : List ℕ → Type 0
 CauseStands text = (rows : List (List ℕ)) → AreAmong cause_text (cause_arrow ∷ []) rows
     → AllByRecursion IsShownRow rows → AllByRecursion (FitsRow 192) rows
@@ -113,8 +113,8 @@ abbrev pub EndStandsBehind : Type 0
 EndStandsBehind = EndsBehind narrow sum_file sum_labels
 
 -- Rows that stand in a text, by their bytes: of the long line what is shown, and the row below it with the mark of the
--- sum and, behind what is shown, that of the label at the end; the break in the call, with the call's bar; the first
--- row of the cause's source, under the arrow.
+-- sum and, after what is shown, that of the label at the end; the break in the call, with the call's bar; the first row
+-- of the cause's source, under the arrow.
 pub record NamesRows (text : List ℕ) : Type 0 where
   pub cut : StandsIn (encode_utf8_all (codes " 7 │     … total …+\n")) text
   pub end : StandsIn (encode_utf8_all (codes "   ·       ──┬──   ▲\n")) text

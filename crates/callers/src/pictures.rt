@@ -86,7 +86,7 @@ pub fn draw_sum(alloc: Global, report: &Report) -> Result<String, RenderError>
     ensures cut { IfOk result (λ text. IsCut) }
     // its cause is drawn as without a limit: by `fits`
     ensures cause { IfOk result (λ text. CauseStays) }
-    // the label at the end stands behind what is shown of the long line: by `ends`
+    // the label at the end stands after what is shown of the long line: by `ends`
     ensures end { IfOk result (λ text. EndStandsBehind) }
     // the third line and the fourth one are left out, inside the call: by `folds`
     ensures folded { IfOk result (λ text. IsLeftOut) }

@@ -13,8 +13,8 @@ use std::alloc::{AllocError, Global};
 /// A run whose reports stand in a log, in rows as compilers write them.
 pub type Log = Reporter<BriefReportHandler, Vec<u8>, Vec<u8>>;
 
-/// A log of two reports: their rows, one behind the other, and nothing else, unless the run says
-/// why one isn't there.
+/// A log of two reports: their rows, one after the other, and nothing else, unless the run says why
+/// one isn't there.
 pub fn failed_twice(alloc: Global) -> Result<Log, AllocError>
     ensures { IfOk result (λ log. log.failure ≡ None → log.outputs.writer.items ≡ both_rows) }
 {

@@ -89,7 +89,7 @@ fn row_by(alloc: Global, row: &mut Rows, (name, example): (&str, Example), by: (
     row.end(called)
 }
 
-/// The text `> ` and what the handler puts behind it, of a report that was made.
+/// The text `> ` and what the handler puts after it, of a report that was made.
 ///
 /// # Errors
 /// Where memory is refused for the handler, or was for the report.
@@ -103,7 +103,7 @@ pub fn render_made(
     tell(alloc, row, by, &report?, lines)
 }
 
-/// The same of a report that is lent.
+/// The same of a report that is borrowed.
 fn tell(alloc: Global, row: &mut Rows, by: By, report: &Made<'_>, lines: usize) -> Called {
     match by {
         By::Narrated => {
@@ -125,7 +125,7 @@ fn tell(alloc: Global, row: &mut Rows, by: By, report: &Made<'_>, lines: usize) 
     }
 }
 
-/// All lines in red, or one, behind which memory is refused.
+/// All lines in red, or one, after which memory is refused.
 fn red_of(by: By) -> Red {
     match by {
         By::Wanting | By::NestedWanting | By::ChosenWanting => Red(2),

@@ -46,7 +46,7 @@ fn colon(alloc: Global) -> Result<Edit, AllocError> {
 /// The message `m`, with a colon inserted.
 pub static COLON: Mended<'static> = ("m", 4, 0, ":");
 
-/// With a colon behind, and without the first byte.
+/// With a colon after it, and without the first byte.
 fn with_edits(alloc: Global) -> Result<Fix, AllocError> {
     let edits = vec![in alloc; colon(alloc)?, Edit::delete(alloc, (0, 1))]?;
     Fix::new(alloc, "m")?.with_edits_from(alloc, edits)

@@ -67,7 +67,7 @@ fn report_with_source(alloc: Global) -> Result<Report, AllocError> {
     Ok(full_report(alloc)?.with_owned_source(source))
 }
 
-/// The text `> ` and what the call puts behind it.
+/// The text `> ` and what the call puts after it.
 fn render(alloc: Global, call: Call, row: &mut Rows, report: &Report) -> Called {
     match call {
         Call::DebugGraphical => render_by(alloc, row, plain_drawing(alloc, 1), report),

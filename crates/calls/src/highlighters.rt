@@ -88,7 +88,7 @@ fn highlighter_by_rule(alloc: Global) -> Result<PatternHighlighter, AllocError> 
     Ok(PatternHighlighter::new(vec![in alloc; rule(alloc)?]?))
 }
 
-/// The pieces of a line that leaves a comment open, and the highlighter behind it; after a refusal that is as before.
+/// The pieces of a line that leaves a comment open, and the highlighter after it; after a refusal that is as before.
 fn open_comment(alloc: Global, row: &mut Rows, mut highlighter: PatternHighlighter) {
     row.value(&highlighter);
     match highlighter.highlight_line(alloc, "a /*b") {

@@ -3,7 +3,7 @@
 //! reports over sources that stop.
 //!
 //! A row has the call's name, what it is given, and what it gave, with tabs between them. Where memory is refused it
-//! says `refused`, and behind that what was handed back, or what the text holds that the call appends to.
+//! says `refused`, and after that what was handed back, or what the text holds that the call appends to.
 #![tactic(auto)]
 
 mod attached;

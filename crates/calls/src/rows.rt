@@ -57,7 +57,7 @@ impl Rows {
         self.is_full = self.is_full || self.out.write_all(text.as_bytes()).is_err();
     }
 
-    /// A value, behind its name.
+    /// A value, after its name.
     pub fn part<T: Debug>(&mut self, name: &str, value: &T) {
         self.is_full = self.is_full || write!(self.out, "{name}{value:?}").is_err();
     }
@@ -111,7 +111,7 @@ impl Rows {
         Ok(())
     }
 
-    /// The parts of a report, behind a text.
+    /// The parts of a report, after a text.
     pub fn report(&mut self, before: &str, report: &Report) {
         self.part(before, report);
         self.part(", code ", &report.code());

@@ -59,7 +59,7 @@ const MOST: usize = 99;
 
 const NINE: &[u8] = b"1\n2\n3\n4\n5\n6\n7\n8\n9\n";
 
-/// So many lines that a picture asks their source which one a fix stands in.
+/// Enough lines that a picture asks their source which one a fix stands in.
 static MANY: [u8; 1200] = [b'\n'; 1200];
 
 static PLAIN: Written<'static> = M;
@@ -87,7 +87,7 @@ static OWN: Written<'static> = Written {
 /// A fix of the fifth line.
 static FIFTH: Mended<'static> = ("five", 8, 1, "five");
 
-/// A fix of a line behind many.
+/// A fix of a line after many.
 static FAR_DOWN: Mended<'static> = ("five", 1150, 0, "five");
 
 /// A row for each handler, each number of context lines and each read that fails, alone or with those after it. The

@@ -72,7 +72,7 @@ static OPTIONS: WrapOptions<'static> = WrapOptions {
     splitter: WordSplitter::HyphenSplitter,
 };
 
-/// The text `> `, and what the call puts behind it.
+/// The text `> `, and what the call puts after it.
 fn appended(alloc: Global, call: Call, row: &mut Rows) -> Called {
     let mut text = String::from_str(alloc, "> ")?;
     row.value(&text);

@@ -95,7 +95,7 @@ static MANY: Written<'static> = Written {
     ..M
 };
 
-/// A fix of a word, and one that ends behind the source.
+/// A fix of a word, and one that ends after the source.
 static MENDED: [Mended<'static>; 2] = [("a longer word", 9, 4, "a text"), ("far off", 99, 1, "")];
 
 static REFUSED: Written<'static> = Written {

@@ -9,7 +9,7 @@ use std::io::{Eprint, Print};
 use std::process::ExitCode;
 use std::{fs, io};
 
-/// Runs the example with the words behind its name.
+/// Runs the example with the words after its name.
 pub fn main<R: Files + Print + Eprint + AllocGlobal>(rt: &R, mut words: Args) -> ExitCode {
     let name = words.next();
     match run(rt, name.as_deref()) {

@@ -17,7 +17,7 @@ use std::env::Args;
 use std::io::Print;
 use std::process::ExitCode;
 
-/// Runs the example with the words behind its name.
+/// Runs the example with the words after its name.
 pub fn main<R: Host>(rt: &R, mut words: Args) -> ExitCode {
     let text = words.next();
     match run(rt, text.as_deref()) {
@@ -45,7 +45,7 @@ fn report_of(alloc: Global, text: &str, fault: Fault) -> Result<Report, AllocErr
     Ok(miette!(in alloc; label = label, "{}", fault.reason).with_owned_source(source))
 }
 
-/// The text with a line feed behind it, so that a label behind its last word is shown: one at the very end of a source
+/// The text with a line feed after it, so that a label after its last word is shown: one at the very end of a source
 /// isn't.
 fn source_of(alloc: Global, text: &str) -> Result<OwnedSource, AllocError> {
     OwnedSource::new(alloc, format!(in alloc; "{text}\n")?.into_bytes())

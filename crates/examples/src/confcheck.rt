@@ -17,7 +17,7 @@ use std::process::ExitCode;
 use toml::Table;
 use toml::de::Error;
 
-/// Runs the example with the words behind its name.
+/// Runs the example with the words after its name.
 pub fn main<R: Host>(rt: &R, mut words: Args) -> ExitCode {
     let (name, other) = (words.next(), words.next());
     match run(rt, name.as_deref(), other.as_deref()) {

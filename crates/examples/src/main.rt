@@ -1,5 +1,5 @@
 //! Six examples in one program, whose first word names one: `examples confcheck settings.toml`. Each takes the words
-//! behind its name, and could be a program of its own.
+//! after its name, and could be a program of its own.
 #![tactic(auto)]
 
 mod breaks;

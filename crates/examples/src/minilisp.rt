@@ -13,7 +13,7 @@ use std::fs::Files;
 use std::io::Input;
 use std::process::ExitCode;
 
-/// Runs the example with the words behind its name.
+/// Runs the example with the words after its name.
 pub fn main<R: Host>(rt: &R, words: Args) -> ExitCode {
     let done = match words_of(rt.alloc(), words) {
         Ok(words) => check_all(rt, &words),

@@ -11,7 +11,7 @@ use std::fs::Files;
 use std::io::Print;
 use std::process::ExitCode;
 
-/// Runs the example with the words behind its name.
+/// Runs the example with the words after its name.
 pub fn main<R: Host>(rt: &R, words: Args) -> ExitCode {
     let (form, expected, actual) = words_of(words);
     match run(rt, form, expected.as_deref(), actual.as_deref()) {

@@ -16,7 +16,7 @@ const WORDS: [(&str, &str); 4] = [
     ("seperate", "separate"),
 ];
 
-/// Runs the example with the words behind its name.
+/// Runs the example with the words after its name.
 pub fn main<R: Host>(rt: &R, words: Args) -> ExitCode {
     let (is_fixing, name) = words_of(words);
     match run(rt, name.as_deref(), is_fixing) {

@@ -48,7 +48,7 @@ where
 /// An input of this name as text. Where it is UTF-8 that takes no memory.
 ///
 /// # Errors
-/// A report over the input, `NAME isn't UTF-8`, with a label on the byte behind the longest beginning that is text; or
+/// A report over the input, `NAME isn't UTF-8`, with a label on the byte after the longest beginning that is text; or
 /// that of refused memory.
 pub fn text_of<D: Diagnostic, S: SourceCode>(
     alloc: Global,

@@ -80,7 +80,7 @@ impl<'a> Model for PieceLines<'a> {
     ghost invariant = { λ it. it.start + length it.rest.now < 2 ^ 64 };
 }
 
-// What stands before the first LF of a text, or all of it, and what stands behind that LF.
+// What stands before the first LF of a text, or all of it, and what stands after that LF.
 fn parted(text: &str) -> (&str, &str)
     ensures line { result.0.now ≡ before_first is_lf text.now }
     ensures rest { result.1.now ≡ after_first is_lf text.now }

@@ -45,7 +45,7 @@ one_more at source all left (tree m s c r) own labels further primary place mess
     ∙ rows_joined (cause_row place m.message ∷ []) (cause_rows at source more c))
     (e ∙ ap (λ x. now ++ rows_text (cause_row place x ∷ [])) et)
 
--- the texts behind the last report
+-- the texts after the last report
 pub all_told : (at : Place) (source : Option Source) (all left : Cause) (ts : List (List ℕ)) (old now new : List ℕ)
     → CausesSoFar at source all left old now → left ≡ texts ts → new ≡ now
     ++ rows_text (cause_rows at source unlisted (texts ts)) → AppendsCauses true at source all old new

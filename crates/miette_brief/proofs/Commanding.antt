@@ -114,7 +114,7 @@ said_end said xs i out goal none end h =
 three_texts : (old x y z : List ℕ) → ((old ++ x) ++ y) ++ z ≡ old ++ (x ++ (y ++ z))
 three_texts old x y z = simp append_assoc
 
--- three lists, one behind the other
+-- three lists, one after the other
 pub three_said : (xs ys zs : List Saying) (old a b new : List ℕ) → a ≡ old ++ sayings_text xs
     → b ≡ a ++ sayings_text ys → new ≡ b ++ sayings_text zs → new ≡ old ++ sayings_text (xs ++ (ys ++ zs))
 three_said xs ys zs old a b new e f g =

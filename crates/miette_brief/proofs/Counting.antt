@@ -53,7 +53,7 @@ note_counted : (at : Place) (text : Option (List ℕ)) → length (note_rows_of 
 note_counted at None = refl
 note_counted at (Some text) = refl
 
--- so many behind others
+-- `k` after `n` others
 pub counted_behind : {A : Type 0} (xs ys : List A) (n k : ℕ) → length xs ≡ n → length ys ≡ k
     → length (xs ++ ys) ≡ n + k
 counted_behind xs ys n k e f = length-append xs ys ∙ ap₂ (λ x y. x + y) e f

@@ -20,7 +20,7 @@ use Rattle.miette_brief.proofs.Clean.{decimal_all, both_pass}
 
 -- ---- bytes
 
--- these stand for a byte: a reader of a text gives it, and goes on behind them
+-- these stand for a byte: a reader of a text gives it, and goes on after them
 abbrev IsBack : ℕ → List ℕ → Type 0
 IsBack b spelled = (more : List ℕ) → (text_to_quote as_it_is (spelled ++ more) ≡ b ∷ text_to_quote as_it_is more)
     × (behind_quote as_it_is (spelled ++ more) ≡ behind_quote as_it_is more)
@@ -159,15 +159,15 @@ position_back end none at rest small =
 
 -- ---- rows
 
--- behind `}`
+-- after `}`
 abbrev text_part : FixIt → List ℕ
 text_part it = 58 ∷ 34 ∷ (escaped it.text ++ 34 ∷ [])
 
--- behind `-`
+-- after `-`
 abbrev end_part : FixIt → List ℕ
 end_part it = position_text it.end ++ 125 ∷ text_part it
 
--- behind `{`
+-- after `{`
 abbrev start_part : FixIt → List ℕ
 start_part it = position_text it.start ++ 45 ∷ end_part it
 

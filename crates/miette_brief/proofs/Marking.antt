@@ -62,7 +62,7 @@ module _ {X : Type 0} (value : X → Section) (xs : List X) (i : ℕ) where
 abbrev failing : {X : Type 0} → (X → Bool) → List X → ℕ
 failing p xs = prefix_len (λ x. not (p x)) xs
 
--- behind an element that fails
+-- after an element that fails
 pub from_later : {X Y : Type 0} (p : Y → Bool) (f : X → Y) (xs : List X) (i : ℕ) (x : X) (at : ℕ) (goal : Option ℕ)
     → i < length xs → x ≡ get_or xs i x → p (f x) ≡ false → position_from p at (map f (drop i xs)) ≡ goal
     → position_from p (at + 1) (map f (drop (i + 1) xs)) ≡ goal
@@ -79,7 +79,7 @@ from_here p f xs i x at goal lt is passes h =
     sym (ap (λ b. cond b (Some at) (position_from p (at + 1) (map f (drop (suc i) xs)))) passes)
     ∙ ap (λ ys. position_from p at (map f ys)) (sym (drop-cons xs i x lt ∙ ap (λ y. y ∷ drop (suc i) xs) (sym is))) ∙ h
 
--- behind the last one
+-- after the last one
 pub from_none : {X Y : Type 0} (p : Y → Bool) (f : X → Y) (xs : List X) (i at : ℕ) (goal : Option ℕ) → length xs ≤ i
     → position_from p at (map f (drop i xs)) ≡ goal → None ≡ goal
 from_none p f xs i at goal le h = ap (λ ys. position_from p at (map f ys)) (sym (drop_all i xs le)) ∙ h

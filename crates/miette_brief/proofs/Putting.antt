@@ -1,4 +1,4 @@
--- Parts of rows, and rows, put one behind the other.
+-- Parts of rows, and rows, put one after the other.
 use Rattle.std.proofs.Common.{ℕ, suc, ◌+◌, ◌≡◌, ◌<◌, List, [], ◌∷◌, ◌++◌, length, get_or, drop, add-one, refl, sym, ap}
 use Rattle.std.proofs.Common.{◌∙◌, append_assoc}
 use Rattle.std.proofs.Math.Seq.{drop-cons}
@@ -11,7 +11,7 @@ pub row_put : (out a b c new place kind text : List ℕ) → a ≡ out ++ place 
 row_put out a b c new place kind text e f g h =
     h ∙ ap (λ l. l ++ 10 ∷ []) (g ∙ ap (λ l. l ++ text) (f ∙ ap (λ l. l ++ kind) e)) ∙ simp append_assoc
 
--- the text of rows and of rows behind them
+-- the text of rows and of rows after them
 pub rows_joined : (rows more : List ReportRow) → rows_text (rows ++ more) ≡ rows_text rows ++ rows_text more
 rows_joined [] more = refl
 rows_joined (row ∷ rows) more =

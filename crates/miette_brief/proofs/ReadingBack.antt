@@ -49,7 +49,7 @@ shape_alone n rest = simp append_assoc
 digit_no_space : (d : ℕ) → d < 10 → not ((48 + d) == 32) ≡ true
 digit_no_space d h = grind (arith, nat_tests)
 
--- no position stands behind a space, and one behind anything else
+-- no position stands after a space, and one after anything else
 position_there : (ds rest : List ℕ) → 0 < length ds → list_all (λ b. not (b == 32)) ds ≡ true
     → position_in (ds ++ rest) ≡ Some (numbers_in (ds ++ rest))
 position_there [] rest some h = absurd (omega arith)

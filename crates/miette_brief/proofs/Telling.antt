@@ -108,7 +108,7 @@ labelled source m labels order further at old mid more new el eo ef placed e f a
           (g ∙ ap (λ ss. more ++ rows_text (further_notes ss)) ef);
     }
 
--- help, and fixes behind it
+-- help, and fixes after it
 pub advised : (at : Place) (source : Option Source) (m : Diagnosis) (given : Option (List ℕ)) (fixes : List Proposal)
     (old mid new : List ℕ) → given ≡ m.help → fixes ≡ m.fixes → mid ≡ old ++ rows_text (help_rows at given)
     → AppendsFixes at source fixes mid new → AppendsAdvice at source m old new
@@ -152,7 +152,7 @@ commands_joined (c ∷ cs) more =
     ap (λ x. command_text c ++ (10 ∷ x)) (commands_joined cs more)
     ∙ sym (append_assoc (command_text c) (10 ∷ commands_text cs) (commands_text more))
 
--- a report is told as its own part, and behind it those related to it
+-- a report is told as its own part, and after it those related to it
 report_joined : (f : Form) (chain : Bool) (inherited : Option Source) (a : Answers) (m : Diagnosis)
     (s : Option Source) (c : Cause) (rs : Trees) → text_in f chain inherited a (tree m s c rs)
     ≡ own_text f chain (effective s inherited) a m c ++ related_text f chain (effective s inherited) (related_answers a)

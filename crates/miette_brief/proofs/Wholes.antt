@@ -116,7 +116,7 @@ site_unread (Some source) span Unread h e = record {
 }
 site_unread (Some source) span (Read text) h e = absurd (some_not_none _ e)
 
--- a label at a place of a list of which so many lie over a source
+-- a label at a place of a list of which the first `n` lie over a source
 pub label_over : {X : Type 0} (f : X → Mark) (source : Option Source) (n : ℕ) (xs : List X) (at : ℕ) (x : X)
     → AreOver source n (map f xs) → slice_get xs at ≡ Some x → nat_lt at n ≡ true → (f x).source ≡ source
 label_over f source n xs at x h e t =

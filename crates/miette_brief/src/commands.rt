@@ -33,7 +33,7 @@ fn push_keyed(out: &mut String, key: &str, number: usize) -> Result<(), AllocErr
     push_number(out, number)
 }
 
-/// A number as a property, behind others.
+/// A number as a property, after others.
 fn push_numbered(out: &mut String, key: &str, number: usize) -> Result<(), AllocError>
     ensures { OnOk result (string_bytes out.new
         ≡ string_bytes out.old ++ further_property (record { key = key.now; value = decimal number })) }
@@ -103,7 +103,7 @@ fn push_site(out: &mut String, site: Option<Site<'_>>) -> Result<(), AllocError>
     push_region(out, site.region)
 }
 
-/// `,title=oops%3A%3Amy%3A%3Abad` behind a file, with a space before it without one.
+/// `,title=oops%3A%3Amy%3A%3Abad` after a file, with a space before it without one.
 fn push_title(
     out: &mut String,
     site: Option<Site<'_>>,

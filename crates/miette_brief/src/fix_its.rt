@@ -43,7 +43,7 @@ fn push_octal(out: &mut String, byte: u8) -> Result<(), AllocError>
     out.push(octal_digit(byte % 8))
 }
 
-/// Appends a byte behind a backslash, as itself, or as digits.
+/// Appends a byte after a backslash, as itself, or as digits.
 fn push_byte(out: &mut String, byte: u8) -> Result<(), AllocError>
     ensures { OnOk result (string_bytes out.new ≡ string_bytes out.old ++ escaped_byte byte) }
 {

@@ -60,7 +60,7 @@ fn byte_of(source: &IndexedSource, at: usize) -> Result<Position, AllocError>
     Ok(Position { line, column })
 }
 
-/// The row of an edit that doesn't end behind the source's end.
+/// The row of an edit that doesn't end after the source's end.
 fn push_edit(text: FixText<'_>, edit: &Edit, out: &mut String) -> Result<(), AllocError>
     requires { ends_behind (length text.lines.now) edit.now ≡ false }
     ensures { OnOk result (string_bytes out.new ≡ string_bytes out.old
@@ -77,7 +77,7 @@ fn push_edit(text: FixText<'_>, edit: &Edit, out: &mut String) -> Result<(), All
     out.push_str("\n")
 }
 
-/// The rows of edits in their order, none of which ends behind the source's end.
+/// The rows of edits in their order, none of which ends after the source's end.
 fn push_edits(text: FixText<'_>, edits: &[&Edit], out: &mut String) -> Result<(), AllocError>
     requires { list_any (ends_behind (length text.lines.now)) (edits_of edits.now) ≡ false }
     ensures { OnOk result (string_bytes out.new ≡ string_bytes out.old
@@ -111,7 +111,7 @@ fn push_failed(
     push_row(out, at, Kind::Failure, reason)
 }
 
-/// A fix of edits in their order, none of which ends behind the source's end: it lies at the first of them.
+/// A fix of edits in their order, none of which ends after the source's end: it lies at the first of them.
 fn push_applied(
     at: Place<'_>,
     text: FixText<'_>,

@@ -68,7 +68,7 @@ fn push_notes<S: SourceCode>(out: &mut String, marks: &[Mark<'_, S>]) -> Result<
     Ok(())
 }
 
-/// The label at a place, those before it, and those behind it.
+/// The label at a place, those before it, and those after it.
 fn parted<'m, 'a, S: SourceCode>(
     marks: &'m [Mark<'a, S>],
     at: usize,

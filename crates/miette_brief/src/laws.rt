@@ -38,7 +38,7 @@ pub fn each_diagnostic_has_one_command()
 {}
 
 /// In a row with a name that has no colon the place reads back, but for an edit's: up to the first colon stands the
-/// name as it is spelled, and behind it the line and the column, each up to the next one, or a space where the row has
+/// name as it is spelled, and after it the line and the column, each up to the next one, or a space where the row has
 /// no position.
 pub fn a_place_reads_back()
     ensures { (row : ToldRow) (name : List ℕ) → row.place.name ≡ Some name → has_no_colon (one_row name) ≡ true →

@@ -128,8 +128,8 @@ fn label_site<'a, S: SourceCode>(
     }
 }
 
-/// Where a diagnostic lies with this primary label, or without one, over a source that was read as a whole, where so
-/// many labels lie over it; `Refused` where a source can't be read.
+/// Where a diagnostic lies with this primary label, or without one, over a source that was read as a whole, where the
+/// first `own` labels lie over it; `Refused` where a source can't be read.
 pub(crate) fn chosen_site<'a, S: SourceCode>(
     source: Option<SourceRef<'a, S>>,
     whole: &Whole<'a>,

@@ -16,7 +16,7 @@ fn push_gap(out: &mut String, goes_on: bool) -> Result<(), AllocError>
     out.push(' ')
 }
 
-/// Appends what stands for a character, behind a control character or not.
+/// Appends what stands for a character, after a control character or not.
 fn push_character(out: &mut String, goes_on: bool, c: char) -> Result<(), AllocError>
     ensures { OnOk result (string_bytes out.new ≡ string_bytes out.old ++ encode_utf8_all (shown_for goes_on c)) }
 {

@@ -69,7 +69,7 @@ plain_width tab column b h =
 plain_hides : (b : ℕ) → is_printable b ≡ true → false ≡ hides_next false b
 plain_hides b h = let p = plain_byte b h in rw (p.escape) refl
 
--- so many of them come first among the cells of a text
+-- `n` of them come first among the cells of a text
 pub printable_then : (tab offset column n : ℕ) (bs : List ℕ) → n ≤ length bs → list_all is_printable (take n bs) ≡ true
     → cells_from width_of tab false offset column (characters bs) ≡ plain_cells offset column (take n bs)
     ++ cells_from width_of tab false (offset + n) (column + n) (characters (drop n bs))
@@ -92,7 +92,7 @@ printable_then tab offset column (suc n) (b ∷ bs) le h =
     ∙ ap₂ (λ x y. first ∷ plain_cells (offset + 1) (column + 1) (take n bs)
     ++ cells_from width_of tab false x y (characters (drop n bs))) at here
 
--- the columns of an ASCII character, below the printable ones, among them, and behind them
+-- the columns of an ASCII character, below the printable ones, among them, and after them
 pub control_width : (b : ℕ) → b < 32 → 0 ≡ width_of b
 unfolding char_width
 control_width b h = rw (lt-ltb b 127 (omega (arith, h)), lt-leb 32 b h) refl

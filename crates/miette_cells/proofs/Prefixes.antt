@@ -20,7 +20,7 @@ pub prefix_all : {X : Type 0} (p : X → Bool) (xs : List X) → eqb (prefix_len
 prefix_all p [] = refl
 prefix_all p (x ∷ xs) = one_more (p x) (prefix_len p xs) (length xs) (list_all p xs) (prefix_all p xs)
 
--- so many that pass come before the others
+-- `n` that pass come before the others
 pub prefix_passed : {X : Type 0} (p : X → Bool) (n : ℕ) (xs : List X) → n ≤ length xs → list_all p (take n xs) ≡ true
     → n + prefix_len p (drop n xs) ≡ prefix_len p xs
 prefix_passed p zero xs le h = omega arith

@@ -22,15 +22,15 @@ pub struct Cell {
     pub code: char,
     /// The offset of its first byte in the source.
     pub start: usize,
-    /// The offset behind its last byte.
+    /// The offset after its last byte.
     pub after: usize,
     /// Its first column, counted from 0.
     pub from: usize,
-    /// The column behind its last one; `from` where it has none.
+    /// The column after its last one; `from` where it has none.
     pub until: usize,
 }
 
-/// Cells of printable ASCII, one behind the other: each is one byte and has one column.
+/// Cells of printable ASCII, one after the other: each is one byte and has one column.
 #[derive(Clone, Copy, Debug, PartialEq, Eq, Drop)]
 pub struct PlainCells {
     /// The offset of the first one in the source.
@@ -81,7 +81,7 @@ fn hides_later(hidden: bool, character: char) -> bool
     hides(hidden, character) && character != 'm'
 }
 
-// The columns of a character that stands at a column and has so many by itself.
+// The columns of a character that stands at `column` and has `columns` by itself.
 #[inline(always)]
 fn width_there(tab: usize, hidden: bool, column: usize, character: char, columns: usize) -> usize
     requires { columns ≡ width_of character }
@@ -143,7 +143,7 @@ fn measured(bytes: &[u8]) -> (char, usize, usize)
 }
 
 impl<'a> Walk<'a> {
-    /// The cells of a text that begins at an offset of the source, with tabs of so many columns.
+    /// The cells of a text that begins at an offset of the source, with tabs of `tab` columns.
     pub fn new(text: &'a [u8], offset: usize, tab: usize) -> Self
         requires { offset + length text.now < 2 ^ 64 }
         ensures { result ≡ cells_from width_of tab false offset 0 (characters text.now) }
@@ -206,7 +206,7 @@ impl<'a> Walk<'a> {
         Ok(Some(cell))
     }
 
-    /// Goes past the cells of printable ASCII that come next, at most so many. Columns past the largest `usize` are
+    /// Goes past the cells of printable ASCII that come next, at most `most`. Columns past the largest `usize` are
     /// refused as want of memory.
     pub fn pass_plain(&mut self, most: usize) -> Result<PlainCells, AllocError>
         ensures few { IfOk result (λ passed. passed.many ≤ most) }

@@ -225,7 +225,7 @@ tifinagh_plain c h =
       | inr e ↦ subst (λ x. is_emoji (kind x) ≡ false) (sym (eqb-true c 0x2D6F e)) tifinagh_mark
     ]
 
--- ---- what a character that closes leaves, behind which nothing is selected or modified
+-- ---- what a character that closes leaves, after which nothing is selected or modified
 
 plain_kind : (c : ℕ) (k : Kind) → is_mild_kind k ≡ true → is_emoji k ≡ false → before afters.Nothing
     ≡ (of_kind false c k).1
@@ -265,12 +265,12 @@ literal : (k : ℕ) (after : After) → before after ≡ (alone false k).1 → (
     ≡ (alone false c).1
 literal k after own c e = subst (λ x. before after ≡ (alone false x).1) (sym (eqb-true c k e)) own
 
--- the flag that tags stand behind
+-- the flag that tags stand after
 own_flag : before afters.Emoji ≡ (alone false 0x1F3F4).1
 unfolding unicode_width
 own_flag = refl
 
--- vowels, an alef and other letters that are joined to what stands behind them, and leave nothing by themselves
+-- vowels, an alef and other letters that are joined to what stands after them, and leave nothing by themselves
 record OwnNothing : Type 0 where
   kirat_ai : before afters.Nothing ≡ (alone false 0x16D63).1
   kirat_au : before afters.Nothing ≡ (alone false 0x16D69).1

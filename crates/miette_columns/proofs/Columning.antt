@@ -24,7 +24,7 @@ pub begins : (bytes left : List ℕ) (code size : ℕ) → 0 < length bytes → 
     → code ≡ or_replacement (decoded bytes).char → size ≡ (decoded bytes).size → IsFirst bytes left code size
 begins bytes left code size some l c s = record { some = some; left_is = l; code_is = c; size_is = s }
 
--- what is known of a character that was read behind so many bytes of a text
+-- what is known of a character that was read after `bytes` bytes of a text
 abbrev pub IsRead : List ℕ → ℕ → ℕ → ℕ → Type 0
 IsRead text bytes c s = record {
   code : c ≡ or_replacement (decoded (take (length text - bytes) (drop bytes text))).char;
@@ -45,8 +45,7 @@ is_next text bytes code size h read =
       within = omega (arith, read.within, all, h);
     }
 
--- some characters are over, and so many bytes of the rest are left; the characters and the sum of widths began with
--- some
+-- some characters are over, and `left` bytes of the rest are left; the characters and the sum of widths began with some
 pub record IsOver (front : List ℕ) (first : ℕ) (text : List ℕ) (bytes : ℕ) (over : List ℕ) (sum : ℕ) (rest : List ℕ)
     (left : ℕ) : Type 0 where
   pub all : chars over ++ begun_text left (characters rest) ≡ front ++ begun_text bytes (characters text)

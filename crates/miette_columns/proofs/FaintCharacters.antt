@@ -1,4 +1,4 @@
--- Characters that take no columns, one behind another at the end of a text: only the first one is seen from before it.
+-- Characters that take no columns, one after another at the end of a text: only the first one is seen from before it.
 use Rattle.std.proofs.Common.{ℕ, ◌+◌, ◌<◌, ◌≡◌, Bool, true, false, cond, ◌==◌, nat_lt, List, [], ◌∷◌}
 use Rattle.std.proofs.Common.{◌++◌, None, refl, sym, ap, subst, add-zero, ◌∙◌, arith, eqb-true, inl, inr}
 use Rattle.std.specs.List.{list_all}

@@ -1,5 +1,5 @@
--- Skin tones, and letters that nothing behind them joins: they leave the same to be read, whatever stands behind them
--- but a selector or a skin tone.
+-- Skin tones, and letters that nothing after them joins: they leave the same to be read, whatever stands after them but
+-- a selector or a skin tone.
 use Rattle.std.proofs.Common.{ℕ, ◌≡◌, true, false, not, ◌&&◌, ◌||◌, ◌==◌, nat_le, List, [], ◌∷◌, Some, None, refl}
 use Rattle.std.proofs.Common.{sym, ap, subst, ◌∙◌, arith, inl, inr}
 use Rattle.std.specs.Int.{is_in_range}

@@ -1,4 +1,4 @@
--- Characters that join nothing that stands behind them: behind such a one widths add up.
+-- Characters that join nothing that stands after them: after such a one widths add up.
 use Rattle.std.proofs.Common.{ℕ, zero, suc, ◌+◌, ◌<◌, ◌≤◌, ◌≡◌, Bool, true, false, cond, not, ◌||◌, ◌==◌, nat_le}
 use Rattle.std.proofs.Common.{List, [], ◌∷◌, ◌++◌, None, refl, sym, ap, ◌∙◌, add-one, inl, inr}
 use Rattle.std.specs.Prelude.{if◌then◌else◌}
@@ -191,7 +191,7 @@ read_spaces zero = refl
 read_spaces (suc n) = ap (step false 0x20) (read_spaces n) ∙ step_lone 0x20 n plain refl
     ∙ ap (λ m. (m, plain)) (add-one n)
 
--- what is read before so many columns
+-- what is read before `n` columns
 pub shifted : (xs : List ℕ) (n : ℕ) → (read_before false xs (n, plain)).0 ≡ str_width false xs + n
 unfolding str_width
 shifted xs n =

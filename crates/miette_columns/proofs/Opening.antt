@@ -1,5 +1,5 @@
 -- A character that is no selector and no skin tone leaves a state that selects and modifies nothing, whatever stands
--- behind it.
+-- after it.
 use Rattle.std.proofs.Common.{ℕ, ◌+◌, ◌≡◌, Bool, true, false, cond, not, ◌&&◌, ◌||◌, ◌==◌, nat_le, List, [], ◌∷◌}
 use Rattle.std.proofs.Common.{Option, Some, None, refl, sym, ap, subst, ◌∙◌}
 use Rattle.std.specs.Prelude.{if◌then◌else◌}
@@ -112,7 +112,7 @@ own_open : (c : ℕ) → opens c ≡ true → IsOpen (alone false c).1
 unfolding alone
 own_open c h = kind_open c (kind c) h (no_tone c h)
 
--- ---- what it leaves where it joins what stands behind it
+-- ---- what it leaves where it joins what stands after it
 
 abbrev JoinsOpen : Option (Change × After) → Type 0
 JoinsOpen None = Unit {0}

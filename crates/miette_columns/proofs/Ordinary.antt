@@ -60,7 +60,7 @@ unselected c h =
       double_quote = (first_range (0x201C, 0x201D) [] c single.1).0;
     }
 
--- what no selector is, and none changes, is read as if no selector stood behind it
+-- what no selector is, and none changes, is read as if no selector stood after it
 pub past_context : (c t : ℕ) (s : State) → (c == 0xFE0F) ≡ false → (c == 0xFE01) ≡ false → (c == 0xFE0E) ≡ false
     → IsUnselected c → in_context false c t s ≡ past_selectors false c t s.after
 unfolding in_context

@@ -1,4 +1,4 @@
--- A character that closes leaves the same to be read, whatever stands behind it but a selector or a skin tone.
+-- A character that closes leaves the same to be read, whatever stands after it but a selector or a skin tone.
 use Rattle.std.proofs.Common.{ℕ, ◌+◌, ◌<◌, ◌≤◌, ◌≡◌, Bool, true, false, cond, ◌&&◌, ◌==◌, nat_le}
 use Rattle.std.proofs.Common.{Option, Some, None, refl, sym, ap, ◌∙◌, arith, inl, inr}
 use Rattle.std.specs.Prelude.{if◌then◌else◌}

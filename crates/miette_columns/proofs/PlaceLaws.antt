@@ -57,7 +57,7 @@ first_place text place b c w f d = (
   ),
 )
 
--- the column of an offset that lies behind a place
+-- the column of an offset that lies after a place
 pub column_from : (text : List ℕ) (place : PartingPlace) (bytes result : ℕ) → IsPlace text place → place.bytes ≤ bytes
     → result ≡ told_column place (bytes - place.bytes) (characters (drop place.bytes text)) →
     result ≡ column bytes (characters text)
@@ -69,7 +69,7 @@ column_from text place bytes result is le h =
 
 -- ---- from one place to the next
 
--- so many bytes of a text are over since a place
+-- the bytes of a text from a place up to `bytes` are over
 pub record IsSince (text : List ℕ) (from : PartingPlace) (over : List ℕ) (sum bytes : ℕ) : Type 0 where
   pub behind : from.bytes ≤ bytes
   pub within : bytes ≤ length text
@@ -112,7 +112,7 @@ one_since text from over new sum wider bytes code size h next u v e w =
           wider (drop size (drop bytes text)) k) left step));
     }
 
--- the same of the texts that a walk had before and behind a character that it read
+-- the same of the texts that a walk had before and after a character that it read
 pub since_read : {Z : Type 0} (text : List ℕ) (from : PartingPlace) (over new : String Z)
     (sum wider bytes code size : ℕ)
     → IsSince text from (string_bytes over) sum bytes → bytes < length text → IsRead text bytes code size
@@ -138,7 +138,7 @@ ends_twice old new last code u v e ends = record {
 abbrev pub EndsByEmoji : List ℕ → ℕ → ℕ → Type 0
 EndsByEmoji text before last = is_emoji_variation_base before ≡ true → EndsIn text (before ∷ last ∷ [])
 
--- behind a text that ends before a character widths are told from that of what begins with what is overlap
+-- after a text that ends before a character widths are told from that of what begins with what is overlap
 abbrev pub IsPart : List ℕ → ℕ → Overlap → Type 0
 IsPart over code first = (later : List ℕ) → str_width false (chars over ++ code ∷ later)
     + str_width false (overlap_text first) ≡ str_width false (chars over)
@@ -191,7 +191,7 @@ parted_begun over first code size (suc more) bytes after is part =
     ap (λ o. str_width false (chars over ++ o) + str_width false (overlap_text first)) step ∙ part later
     ∙ ap (λ o. str_width false (chars over) + str_width false (overlap_text first ++ o)) (sym step)
 
--- what is counted twice at a place is counted in the columns behind it
+-- what is counted twice at a place is counted in the columns after it
 counted : (text : List ℕ) (from : PartingPlace) (over : List ℕ) (sum bytes : ℕ) → IsPlace text from
     → IsSince text from over sum bytes → from.twice ≤ from.column + str_width false (chars over)
 counted text from over sum bytes is h =

@@ -39,7 +39,7 @@ plain_widths (b ∷ bs) h =
     let more : widths bs ≡ length bs = plain_widths bs parts.1 in
     omega (arith, one, more)
 
--- so many bytes are as many columns, up to the text's end
+-- `k` bytes are `k` columns, up to the text's end
 pub plain_column : (k : ℕ) (bs : List ℕ) → list_all is_printable bs ≡ true → min k (length bs)
     ≡ column k (characters bs)
 plain_column k bs h =

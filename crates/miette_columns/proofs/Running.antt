@@ -125,7 +125,7 @@ all_faint text from bytes h =
       ),
     )
 
--- ---- a trail behind its first character
+-- ---- a trail after its first character
 
 pub first_trail : (text : List ℕ) (from : PartingPlace) (over : List ℕ) (last : ℕ) (trail : Trail) → IsPlace text from
     → IsSince text from over trail.widths trail.bytes → EndsIn over (last ∷ []) → is_faint last ≡ true →

@@ -1,6 +1,5 @@
--- Characters behind which what they leave to be read is the same: the width of a text and theirs are together the width
--- of what ends with
--- them and that of what begins with them.
+-- Characters after which what they leave to be read is the same: the width of a text and theirs are together the width
+-- of what ends with them and that of what begins with them.
 use Rattle.std.proofs.Common.{ℕ, ◌+◌, ◌≡◌, Bool, true, false, cond, ◌&&◌, ◌||◌, ◌==◌, List, [], ◌∷◌, ◌++◌, Option, Some}
 use Rattle.std.proofs.Common.{None, refl, sym, ap, subst, add_comm, ◌∙◌, eqb-true, inl, inr}
 use Rattle.std.specs.Prelude.{chars, if◌then◌else◌}
@@ -23,7 +22,7 @@ use Rattle.miette_columns.proofs.Opening.{IsOpen, plain_open, step_opens}
 use Rattle.miette_columns.proofs.Overlaps.{own_state, step_closing, held_no_indicator}
 use Rattle.miette_columns.proofs.Keeping.{step_keeping, no_indicator}
 
--- what some characters leave to be read is the same, whatever state that selects and modifies nothing is behind them
+-- what some characters leave to be read is the same, whatever state that selects and modifies nothing is after them
 abbrev pub Settles : List ℕ → Type 0
 Settles cs = (left : State) × ((t : ℕ) (s : State) → IsOpen s → (read_before false cs (t, s)).1 ≡ left)
 

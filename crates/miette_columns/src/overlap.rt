@@ -5,6 +5,6 @@
 pub(crate) enum Overlap {
     Nothing,
     One(char),
-    /// An emoji, and U+FE0F behind it.
+    /// An emoji, and U+FE0F after it.
     Selected(char),
 }

@@ -24,7 +24,7 @@ macro_rules! lies_in {
     };
 }
 
-/// Whether a character joins nothing that stands behind it. Those that are looked for are ASCII characters and letters.
+/// Whether a character joins nothing that stands after it. Those that are looked for are ASCII characters and letters.
 fn is_lone(character: char) -> bool
     ensures { result ≡ is_lone character }
 {
@@ -46,7 +46,7 @@ fn is_joining(character: char) -> bool
     )
 }
 
-/// Whether only a joiner before a character joins it to what stands there, whatever stands behind it.
+/// Whether only a joiner before a character joins it to what stands there, whatever stands after it.
 fn is_closing(character: char) -> bool
     ensures { result ≡ is_closing character }
 {
@@ -78,7 +78,7 @@ fn may_part_flags(last: char, is_half: bool, next: char) -> bool
     !is_half && is_indicator(last) && is_indicator(next)
 }
 
-/// Whether a character is a skin tone, or a letter that nothing behind it joins though it may join those before it.
+/// Whether a character is a skin tone, or a letter that nothing after it joins though it may join those before it.
 fn is_keeping(character: char) -> bool
     ensures { result ≡ is_keeping character }
 {
@@ -109,7 +109,7 @@ fn end_overlap(before: char, last: char) -> Option<Overlap>
 }
 
 /// What a place between two neighbours holds, if one may lie there: nothing where the text may be parted, else its last
-/// characters, from whose columns those behind are told.
+/// characters, from whose columns those after them are told.
 pub(crate) fn overlap_between(
     before: char,
     last: char,

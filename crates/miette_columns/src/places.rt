@@ -68,8 +68,8 @@ pub(crate) fn overlap_text(alloc: Global, first: Overlap) -> Result<String, Allo
     Ok(text)
 }
 
-/// The column behind a place's own and a text's, which begins with what the place holds; past the largest `usize` it
-/// is refused as want of memory.
+/// The column after a place's own and a text's, which begins with what the place holds; past the largest `usize` it is
+/// refused as want of memory.
 pub(crate) fn column_after(from: PartingPlace, text: &str) -> Result<usize, AllocError>
     ensures { IfOk result (λ column. column ≡ (from.column + str_width false (chars text.now)) - from.twice) }
 {
@@ -77,7 +77,7 @@ pub(crate) fn column_after(from: PartingPlace, text: &str) -> Result<usize, Allo
     Ok(both.saturating_sub(from.twice))
 }
 
-// The place where a walk stops behind another place, since which a text is over.
+// The place where a walk stops after another place, since which a text is over.
 fn place_at(
     alloc: Global,
     from: PartingPlace,
@@ -103,7 +103,7 @@ fn place_at(
     })
 }
 
-// The next place behind one, if there is one.
+// The next place after one, if there is one.
 fn next_place(
     alloc: Global,
     text: &[u8],
@@ -142,7 +142,7 @@ fn next_place(
     Ok(None)
 }
 
-/// Places of a text, in order, each where the text may first be parted after so many bytes more.
+/// Places of a text, in order, each where the text may first be parted after a number of bytes more.
 pub(crate) fn places(alloc: Global, text: &[u8]) -> Result<Vec<PartingPlace>, AllocError>
     ensures { IfOk result (λ places. All (IsPlace text.now) places.items) }
 {
@@ -155,7 +155,7 @@ pub(crate) fn places(alloc: Global, text: &[u8]) -> Result<Vec<PartingPlace>, Al
     Ok(places)
 }
 
-/// The last place that lies so many bytes from the start or fewer, found by halving.
+/// The last place that lies at most `bytes` bytes from the start, found by halving.
 pub(crate) fn place_before(text: &[u8], places: &[PartingPlace], bytes: usize) -> PartingPlace
     requires { All (IsPlace text.now) places.now }
     ensures place { IsPlace text.now result }

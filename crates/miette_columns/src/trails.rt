@@ -13,7 +13,7 @@ use miette_basics::sums::sum;
 use miette_cells::cells::{columns_of, first_character};
 use std::alloc::{AllocError, Global};
 
-/// Bytes of a text whose characters take no columns: the column behind each of them, and what the characters before it
+/// Bytes of a text whose characters take no columns: the column after each of them, and what the characters before it
 /// have each by itself, which is the column within it.
 #[derive(Clone, Copy, Drop)]
 pub(crate) struct Trail {
@@ -86,7 +86,7 @@ fn push_parts(trails: &mut Vec<Trail>, text: &[u8], whole: Trail) -> Result<(), 
     Ok(())
 }
 
-// Appends the trails behind a place, up to so many bytes, that are a good part of the bytes behind it.
+// Appends the trails after a place, up to `end` bytes, that are a good part of the bytes after it.
 fn push_trails(
     alloc: Global,
     text: &[u8],
@@ -149,7 +149,7 @@ pub(crate) fn trails(
     Ok(trails)
 }
 
-/// The trail in which so many bytes end, if there is one, found by halving.
+/// The trail in which the first `bytes` bytes end, if there is one, found by halving.
 pub(crate) fn trail_at(text: &[u8], trails: &[Trail], bytes: usize) -> Option<Trail>
     requires { All (IsTrail text.now) trails.now }
     ensures { IfSome result (λ trail. IsTrail text.now trail × ((trail.bytes ≤ bytes) × (bytes ≤ trail.until))) }
@@ -166,7 +166,7 @@ pub(crate) fn trail_at(text: &[u8], trails: &[Trail], bytes: usize) -> Option<Tr
     }
 }
 
-/// The column behind so many bytes that end in a trail.
+/// The column after `bytes` bytes that end in a trail.
 pub(crate) fn column_in(text: &[u8], whole: Trail, bytes: usize) -> usize
     requires trail { IsTrail text.now whole }
     requires before { whole.bytes ≤ bytes }

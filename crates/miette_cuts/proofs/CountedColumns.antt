@@ -81,7 +81,7 @@ one_far dots room es p b o c cells f =
     let one : p + ((c + 1) - c) ≡ p + 1 = omega arith in
     rw (apart c, own) (ap (λ k. columns_from dots (near_by room es) k cells) one)
 
--- the cells of these bytes, behind the first so many of them
+-- the cells of these bytes, after the first `n` of them
 abbrev left_of : ℕ → ℕ → ℕ → List ℕ → List Cell → List Cell
 left_of n o c bs cs = plain_cells (o + n) (c + n) (drop n bs) ++ cs
 
@@ -228,7 +228,7 @@ line_more dots limit own line walk left cell count next whole e step le counts h
     ≡ whole_count dots (near_by v.room v.ends) count (cell ∷ left)) e (counts left)
     ∙ ap (whole_count dots (near_by line.room line.ends) count) (sym step) ∙ h.all le
 
--- behind the cells of printable ASCII that come next
+-- after the cells of printable ASCII that come next
 pub line_counted : (dots : ℕ) (near : Cell → Bool) (limit : ℕ) (first : PlainCells) (walk left : List Cell)
     (count next : Count) (whole : ℕ) → (f : ComeFirst first walk left) →
     ((bytes : List ℕ) (rest : List Cell) → list_all is_printable bytes ≡ true → length bytes ≡ first.many →

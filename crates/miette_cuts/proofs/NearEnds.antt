@@ -28,7 +28,7 @@ passed_start reach es many reached column start anew on h =
     (λ n x lo. h x (omega (arith, lo, ltb-false column reached n))
     ∙ ap (λ k. end_ahead reach x (drop k es)) (sym (on (ltb-false column reached n))))
 
--- so many ends are, and one more that is too far in front
+-- after `many` ends one more is passed that is too far in front
 pub passed_more : (reach : ℕ) (es : List ℕ) (many column d : ℕ) → many < length es → reach < column - get_or es many d
     → ArePassed reach es many column → ArePassed reach es (many + 1) column
 passed_more reach es many column d lt far h = λ x lo.
@@ -37,7 +37,7 @@ passed_more reach es many column d lt far h = λ x lo.
     h x lo ∙ at_drop_more (end_ahead reach x) es many d lt
     ∙ ap (λ b. cond b (end_ahead reach x (drop (many + 1) es)) (Some e)) past
 
--- the first end behind those that are passed is the one that is looked for
+-- the first end after those that are passed is the one that is looked for
 pub ahead_here : (reach : ℕ) (es : List ℕ) (many column d : ℕ) → many < length es → column ≤ get_or es many d + reach
     → ArePassed reach es many column → Some (get_or es many d) ≡ end_ahead reach column es
 ahead_here reach es many column d lt near h =
@@ -108,7 +108,7 @@ met_by reach cell (Some end) = is_within reach cell end
 later_ends : (e : ℕ) (es : List ℕ) → IsNonDecreasing (e ∷ es) → IsNonDecreasing es
 later_ends e es up = λ i j d le lt. up (suc i) (suc j) d (omega (arith, le)) (omega (arith, lt))
 
--- ends behind one that a cell doesn't reach
+-- ends after one that a cell doesn't reach
 pub none_within : (reach : ℕ) (cell : Cell) (e : ℕ) (es : List ℕ) → cell.until + reach ≤ e → IsNonDecreasing (e ∷ es)
     → list_any (is_within reach cell) es ≡ false
 none_within reach cell e [] far up = refl

@@ -41,7 +41,7 @@ place_found dots cut place at column anew on h =
     let own : at.before ≡ place.before = ap (λ (p : Place). p.before) same in
     (subst (λ (p : Place). IsPlace dots cut p) (sym same) h, omega (arith, own, le)))
 
--- the place behind one more
+-- the place after one more
 pub place_more : (dots : ℕ) (cut : List Stretch) (place next : Place) (d : Stretch) → place.passed < length cut
     → next.passed ≡ place.passed + 1 → next.before ≡ place.before + (get_or cut place.passed d).columns →
     next.row ≡ place.row + made_columns dots (get_or cut place.passed d) → IsPlace dots cut place → IsPlace dots cut
@@ -70,7 +70,7 @@ place_here dots cut place column own found d lt b inside o f h =
     inside o
     (sym (h.stand column b))
 
--- a column behind all of them
+-- a column after all of them
 pub place_end : (dots : ℕ) (cut : List Stretch) (place : Place) (column found : ℕ) → length cut ≤ place.passed
     → place.before
     ≤ column → found ≡ place.row + (column - place.before) → IsPlace dots cut place → found ≡ made_column dots cut

@@ -93,7 +93,7 @@ pub record IsEven (room : Room) (es : List ℕ) (column most : ℕ) (s : MadeStr
   pub within : column + s.cells ≤ most
   pub alike : (x : ℕ) → column ≤ x → x < column + s.cells → near_by room es (cell_at x) ≡ s.shown
 
--- the stretches of those of these cells that stand from a column on, and of the cells behind them
+-- the stretches of those of these cells that stand from a column on, and of the cells after them
 abbrev pub behind : Room → List ℕ → Bool → PlainCells → List ℕ → List Cell → ℕ → List MadeStretch
 behind room es near first bs cs column = map measure (stretches (near_by room es) near
     (plain_cells (first.start + (column - first.from)) column (drop (column - first.from) bs) ++ cs))
@@ -128,7 +128,7 @@ even_more room es first bs cs column made new whole reached next later h from is
     ∙ ap (λ r. made ++ onto_made reached r) (sym (found_even room es reached.shown first bs cs column next h from is))
     ∙ inv
 
--- what is put behind the last stretch that was reached
+-- what is put after the last stretch that was reached
 abbrev pub PutsPlain : LineEnds → PlainCells → List MadeStretch → List MadeStretch → MadeStretch → MadeStretch → Type 0
 PutsPlain ends first made new reached later = (bytes : List ℕ) (rest : List Cell) → list_all is_printable bytes ≡ true
     → length bytes ≡ first.many → new ++ onto_made later (map measure
@@ -142,7 +142,7 @@ pub puts_plain : (ends whole : LineEnds) (first : PlainCells) (made new : List M
 puts_plain ends whole first made new reached later e h =
     subst (λ (v : LineEnds). PutsPlain v first made new reached later) e h
 
--- a line's stretches behind those of these cells
+-- a line's stretches after those of these cells
 pub plain_put : (room : Room) (es : List ℕ) (first : PlainCells) (walk left : List Cell)
     (made new whole : List MadeStretch) (reached later : MadeStretch) → (f : ComeFirst first walk left) →
     ((bytes : List ℕ) (rest : List Cell) → list_all is_printable bytes ≡ true → length bytes ≡ first.many →

@@ -9,7 +9,7 @@ use Rattle.miette_snippet_rules.proofs.TextColumns.{shown_columns, text_columns_
 
 -- ---- more near cells have no fewer columns
 
--- also behind fewer columns that aren't near
+-- also after fewer columns that aren't near
 grows : (many : ℕ) (near more : Cell → Bool) (p q : ℕ) (cells : List Cell) → q ≤ p
     → ((cell : Cell) → near cell ≡ true → more cell ≡ true)
     → shown_columns many near p cells + min q many ≤ shown_columns many more q cells + min p many
@@ -30,7 +30,7 @@ grows many near more p q (c ∷ cs) le also =
     (λ y. rw (n, f, y) (omega (arith, grows many near more (p + w) 0 cs (omega arith) also)))
     (λ g. rw (n, f, g) (omega (arith, le, grows many near more (p + w) (q + w) cs (omega (arith, le)) also)))))
 
--- a cell within so many columns of an end is within more of them
+-- a cell within `x` columns of an end is within `y`, where these are no fewer
 within_more : (x y : ℕ) (cell : Cell) (end : ℕ) → x ≤ y → is_within x cell end ≡ true → is_within y cell end ≡ true
 within_more x y cell end le h =
     let parts = and_parts (leb cell.from (end + x)) (ltb end (cell.until + x)) h in

@@ -25,7 +25,7 @@ use Rattle.miette_cuts.specs.steps.Windows.{StandsTo}
 use Rattle.miette_cuts.proofs.CountedColumns.{apart, byte_cell}
 use Rattle.miette_cuts.proofs.NearEnds.{none_within}
 
--- ---- cells one behind the other
+-- ---- cells one after the other
 
 stand_from : (column : ℕ) (cells : List Cell) → AreColumns column cells → StandFrom column cells
 stand_from column [] h = tt
@@ -37,7 +37,7 @@ text_stands text cells is =
     subst (λ (cs : List Cell). StandFrom 0 cs) (sym is) (stand_from 0 (text_cells text)
     (cells_stand width_of text.tab false text.start 0 (characters text.bytes.now)))
 
--- behind cells of printable ASCII
+-- after cells of printable ASCII
 plain_stand : (column start from : ℕ) (bytes : List ℕ) (later : List Cell)
     → StandFrom column (plain_cells start from bytes ++ later) → StandFrom (column + length bytes) later
 plain_stand column start from [] later h =
@@ -62,7 +62,7 @@ stand_later cell cells left step h =
     let own : StandFrom h.0 (cell ∷ left) = subst (λ (cs : List Cell). StandFrom h.0 cs) step h.1 in
     (cell.until, own.2)
 
--- ---- behind the last near cell
+-- ---- after the last near cell
 
 past_counted : (dots stop : ℕ) (near : Cell → Bool) (passed column : ℕ) (cells : List Cell) → StandFrom column cells
     → stop ≤ column → dots ≤ passed → NoneFrom stop near → columns_from dots near passed cells ≡ dots

@@ -18,14 +18,14 @@ use miette_cells::cells::{Cell, PlainCells};
 use std::alloc::AllocError;
 
 // The columns of a row's text as far as its line was gone through: those of what is shown and of dots, and those of the
-// cells behind it that aren't near.
+// cells after it that aren't near.
 #[derive(Clone, Copy, Drop)]
 struct Count {
     shown: usize,
     passed: usize,
 }
 
-// Columns more, of cells that are near or aren't, with dots of so many columns.
+// Columns more, of cells that are near or aren't, with dots of `dots` columns.
 fn counted(count: &Count, near: bool, columns: usize, dots: usize) -> Result<Count, AllocError>
     ensures { IfOk result (λ next. next ≡ counted dots near columns count.now) }
 {
@@ -88,7 +88,7 @@ fn count_plain(
     Ok(count)
 }
 
-// Whether no cell from this one on is near, behind as many columns that aren't as dots have: so these are all that
+// Whether no cell from this one on is near, after as many columns that aren't near as dots have: so these are all that
 // follows.
 fn is_past(window: &Window<'_>, room: &Room, count: &Count, cell: &Cell) -> bool
     ensures { result ≡ (nat_le window.now.stop cell.now.from && nat_le room.now.dots count.now.passed) }

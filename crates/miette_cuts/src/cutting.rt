@@ -20,7 +20,7 @@ use miette_snippet_rules::marks::Mark;
 use miette_snippet_rules::stretch::Cut;
 use std::alloc::{AllocError, Global};
 
-// A smaller limit counts as so many columns: a shorter row says nothing.
+// A smaller limit counts as this one: a shorter row says nothing.
 const FEWEST: usize = 8;
 
 // The columns of a line.
@@ -63,7 +63,7 @@ fn cut_within(
     Ok(None)
 }
 
-/// The stretches of a line's text around its ends, with dots of so many columns, where it has more columns than it may
+/// The stretches of a line's text around its ends, with dots of `dots` columns, where it has more columns than it may
 /// have; none where no number of columns is set. `AllocError` where memory is refused, or a column or a count is past
 /// the largest `usize`.
 pub fn cut_at_ends(
@@ -83,7 +83,7 @@ pub fn cut_at_ends(
     cut_within(alloc, text, ends, limit, dots)
 }
 
-/// Whether a line's text has more columns than a row may have of at most so many; a limit below 8 counts as 8.
+/// Whether a line's text has more columns than a row of at most `limit` may have; a limit below 8 counts as 8.
 /// `AllocError` where a column is past the largest `usize`.
 pub fn is_wide(text: &LineText, limit: usize) -> Result<bool, AllocError>
     requires { text.now.start + length text.now.bytes.now < 2 ^ 64 }
@@ -95,9 +95,9 @@ pub fn is_wide(text: &LineText, limit: usize) -> Result<bool, AllocError>
     Ok(most < width)
 }
 
-/// How far around its ends a line's text is shown in a row of at most so many columns, with dots of so many: by as many
-/// as have room. A limit below 8 counts as 8. `AllocError` where memory is refused, or a column or a count is past the
-/// largest `usize`.
+/// How far around its ends a line's text is shown in a row of at most `limit` columns, with dots of `dots` columns: by
+/// as many as have room. A limit below 8 counts as 8. `AllocError` where memory is refused, or a column or a count is
+/// past the largest `usize`.
 pub fn reach_of_ends(
     alloc: Global,
     text: &LineText,
@@ -145,7 +145,7 @@ pub fn cut_in_room(
     Ok(Some(made))
 }
 
-/// The marks of a line, by the columns of its row, with dots of so many columns. `AllocError` where memory is refused,
+/// The marks of a line, by the columns of its row, with dots of `dots` columns. `AllocError` where memory is refused,
 /// or a column is past the largest `usize`.
 pub fn marks_shown<'a>(
     alloc: Global,

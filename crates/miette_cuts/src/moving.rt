@@ -40,7 +40,7 @@ fn place_for(place: &Place, column: usize) -> Place
     if column < place.before { START } else { *place }
 }
 
-// Where a column of a line stands in the row of its stretches, with dots of so many columns. The place goes on to the
+// Where a column of a line stands in the row of its stretches, with dots of `dots` columns. The place goes on to the
 // column's stretch: columns that ascend pass each stretch once.
 fn row_column_of(
     cut: &[Stretch],
@@ -93,7 +93,7 @@ fn row_mark_of<'a>(
     })
 }
 
-/// Marks in the row of a line's stretches, with dots of so many columns. `AllocError` where memory is refused, or a
+/// Marks in the row of a line's stretches, with dots of `dots` columns. `AllocError` where memory is refused, or a
 /// column is past the largest `usize`.
 pub(crate) fn row_marks<'a>(
     alloc: Global,

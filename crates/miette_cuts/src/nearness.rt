@@ -41,7 +41,7 @@ impl<'a> Model for Nearness<'a> {
     ghost invariant = { λ n. IsSearched n.room.reach n.ends.now n.passed n.column };
 }
 
-// Whether some column of a cell is at most so many columns away from this one.
+// Whether some column of a cell is at most `reach` columns away from this one.
 fn is_within_of(reach: usize, cell: &Cell, column: usize) -> bool
     ensures { result ≡ is_within reach (cell_of cell.now) column }
 {
@@ -49,7 +49,7 @@ fn is_within_of(reach: usize, cell: &Cell, column: usize) -> bool
         && (column < cell.until || column - cell.until < reach)
 }
 
-// Whether a cell stands, with the dots behind it, within the limit.
+// Whether a cell stands, with the dots after it, within the limit.
 fn has_room_in(room: &Room, cell: &Cell) -> bool
     ensures { result ≡ has_room room.now.limit room.now.dots (cell_of cell.now) }
 {
@@ -57,7 +57,7 @@ fn has_room_in(room: &Room, cell: &Cell) -> bool
 }
 
 // Whether the cell of one column that stands at a column has room, and the column, at most `len`, up to which those
-// behind it have room where it does.
+// after it have room where it does.
 fn turn_at(room: &Room, column: usize, len: usize) -> (bool, usize)
     requires { column < len }
     ensures more { column < result.1 }
@@ -73,7 +73,7 @@ fn turn_at(room: &Room, column: usize, len: usize) -> (bool, usize)
 }
 
 // Whether the cell of one column that stands at a column is near an end that isn't too far in front of it, and the
-// column, at most `len`, up to which those behind it are near where it is.
+// column, at most `len`, up to which those after it are near where it is.
 fn turn_by(reach: usize, end: usize, column: usize, len: usize) -> (bool, usize)
     requires some { column < len }
     requires ahead { column ≤ end + reach }
@@ -90,7 +90,7 @@ fn turn_by(reach: usize, end: usize, column: usize, len: usize) -> (bool, usize)
     (true, behind.min(len))
 }
 
-// How many ends are passed before any more is looked at: those that are at another column, unless that stands behind.
+// How many ends are passed before any more is looked at: those that are at another column, unless that stands after it.
 fn start_at(column: usize, reached: usize, passed: usize) -> usize
     ensures anew { column < reached → result ≡ 0 }
     ensures on { reached ≤ column → result ≡ passed }
@@ -98,7 +98,7 @@ fn start_at(column: usize, reached: usize, passed: usize) -> usize
     if column < reached { 0 } else { passed }
 }
 
-// How many ends are too far in front of a column, where the first so many are, and the first one that isn't.
+// How many ends are too far in front of a column, where the first `start` are, and the first one that isn't.
 fn passed_at(ends: &[usize], reach: usize, column: usize, start: usize) -> (usize, Option<usize>)
     requires { ArePassed reach ends.now start column }
     ensures passed { ArePassed reach ends.now result.0 column }
@@ -158,7 +158,7 @@ impl<'a> Nearness<'a> {
     }
 
     /// Whether the cell of one column that stands at a column is near, and the column, at most `len`, up to which those
-    /// behind it are near where it is.
+    /// after it are near where it is.
     pub(crate) fn turn_behind(&mut self, column: usize, len: usize) -> (bool, usize)
         requires { column < len }
         ensures more { column < result.1 }

@@ -36,7 +36,7 @@ pub(crate) fn even_stretch(nearness: &mut Nearness<'_>, column: usize, len: usiz
     }
 }
 
-/// Puts the stretches of cells of printable ASCII, in a line with these ends, behind the last one that was reached.
+/// Puts the stretches of cells of printable ASCII, in a line with these ends, after the last one that was reached.
 /// `AllocError` where memory is refused, or a column or a count is past the largest `usize`.
 pub(crate) fn put_plain(
     made: &mut Vec<Stretch>,

@@ -17,7 +17,7 @@ use miette_cells::cells::Walk;
 use miette_snippet_rules::stretch::Stretch;
 use std::alloc::{AllocError, Global};
 
-// Stretches, of which the short ones are shown too, with dots of so many columns; those that are shown side by side are
+// Stretches, of which the short ones are shown too, with dots of `dots` columns; those that are shown side by side are
 // one.
 fn join_short(alloc: Global, stretches: &[Stretch], dots: usize) -> Result<Vec<Stretch>, AllocError>
     ensures { IfOk result (λ made. made.items ≡ made_with_short dots stretches.now) }

@@ -7,7 +7,7 @@ use miette_basics::sums::sum;
 use miette_snippet_rules::stretch::Stretch;
 use std::alloc::AllocError;
 
-// A stretch and the one behind it, shown as the first is.
+// A stretch and the one after it, shown as the first is.
 fn grown_stretch(first: &Stretch, next: &Stretch) -> Result<Stretch, AllocError>
     ensures { IfOk result (λ both. both ≡ grown_stretch first.now next.now) }
 {
@@ -19,7 +19,7 @@ fn grown_stretch(first: &Stretch, next: &Stretch) -> Result<Stretch, AllocError>
     })
 }
 
-/// Puts a stretch behind the last one that was reached, which goes on into it where both are shown, or neither.
+/// Puts a stretch after the last one that was reached, which goes on into it where both are shown, or neither.
 pub(crate) fn put_stretch(
     made: &mut Vec<Stretch>,
     reached: &mut Stretch,
@@ -39,7 +39,7 @@ pub(crate) fn put_stretch(
     Ok(())
 }
 
-/// A stretch that is shown too where it is short: so many dots would be no shorter.
+/// A stretch that is shown too where it is short: dots of `dots` columns would be no shorter.
 pub(crate) fn kept_stretch(stretch: &Stretch, dots: usize) -> Stretch
     ensures { result ≡ kept_made dots stretch.now }
 {

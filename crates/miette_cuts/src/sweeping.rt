@@ -34,7 +34,7 @@ fn lone_stretch(nearness: &mut Nearness<'_>, before: bool, cell: &Cell) -> Stret
     }
 }
 
-// The stretches of cells behind this one in a line with these ends, and it in front.
+// The stretches of this cell and of those after it, in a line with these ends.
 fn stretches_behind(
     alloc: Global,
     walk: Walk<'_>,

@@ -63,7 +63,7 @@ pub none_read : {A : Type 0} (reads : Data → Option A) (vs : List (Value Globa
 none_read reads vs old e =
     itself (all_of reads (list_data vs)) ∙ ap (λ xs. option_map (λ r. xs ++ r) (all_of reads (list_data vs))) (sym e)
 
--- behind the last item
+-- after the last item
 pub all_read : {A : Type 0} (reads : Data → Option A) (vs : List (Value Global)) (old : List A) (i : ℕ)
     → length vs ≤ i → ReadSoFar reads vs old i → all_of reads (list_data vs) ≡ Some old
 all_read reads vs old i h inv =

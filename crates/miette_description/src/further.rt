@@ -160,7 +160,7 @@ fn edit_from(alloc: Global, value: &Value<'_>) -> Built<Edit>
     Ok(Edit::replace((offset as usize, length as usize), text))
 }
 
-/// A fix with these edits behind those that it has.
+/// A fix with these edits after those that it has.
 fn with_edits(alloc: Global, fix: Fix, list: &[Value<'_>]) -> Built<Fix>
     ensures ok { IfOk result (λ it. option_map (edited fix) (all_of edit_of (list_data list.now)) ≡ Some it) }
     ensures description { (result ≡ Err BuildError.Description) → all_of edit_of (list_data list.now) ≡ None }
@@ -199,7 +199,7 @@ fn applicability_at(value: &Value<'_>, key: &str) -> Option<Option<Applicability
     }
 }
 
-/// A fix with the edits that stand at a key, behind those that it has.
+/// A fix with the edits that stand at a key, after those that it has.
 fn with_edits_at(alloc: Global, fix: Fix, value: &Value<'_>, key: &str) -> Built<Fix>
     ensures ok { IfOk result (λ it.
         option_map (λ edits. edited fix (unwrap_or edits []))

@@ -47,7 +47,7 @@ fn items_at(value: &Value<'_>, key: &str) -> usize
     }
 }
 
-/// Whether a list of more than so many items stands at a key.
+/// Whether a list of more than `few` items stands at a key.
 fn has_more(value: &Value<'_>, key: &str, few: usize) -> bool
     ensures { result ≡ nat_lt few (items_at (at_key key.now (value_data value.now))) }
 {

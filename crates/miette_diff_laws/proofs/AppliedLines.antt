@@ -30,7 +30,7 @@ use Rattle.miette_fix_rows.proofs.Texts.{bytes_of-take, bytes_of_texts, texts_dr
 six : (xs ps ms qs rs : List (List ℕ)) → xs ++ ((ps ++ (ms ++ qs)) ++ rs) ≡ (xs ++ ps) ++ (ms ++ (qs ++ rs))
 six xs ps ms qs rs = simp append_assoc
 
--- a block's new text and what stands behind it meet where a line ends
+-- a block's new text and what stands after it meet where a line ends
 new_meets : (source : List ℕ) (before : ℕ) (block : List Replacement) (bs : List (List Replacement))
     → Chain source before (block ∷ bs)
     → Meet (text_between source (block_from source block) (block_to source block) block)

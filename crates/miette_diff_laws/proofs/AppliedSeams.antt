@@ -189,7 +189,7 @@ joined_before source e es t =
     ap (λ m. line_start source (m - 1)) (sym same) in
     omega (arith, lt, a, b, c, from)
 
--- the new text of a block that begins where it is touched doesn't begin with LF behind CR
+-- the new text of a block that begins where it is touched doesn't begin with LF after CR
 unjoined : (source : List ℕ) (e : Replacement) (es : List Replacement) (k : ℕ)
     → joins_terminator source (e ∷ es) ≡ false → suc k ≡ touched_from source (e ∷ es)
     → ((slice_index source k == CR) && (slice_index (text_between source (touched_from source (e ∷ es))

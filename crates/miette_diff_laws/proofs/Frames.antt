@@ -159,7 +159,7 @@ near behind at hunk hunks shown frames h =
 kept_parts : (ls : List (List ℕ)) (n : ℕ) → kept_lines ls ≡ kept_lines (take n ls) ++ kept_lines (drop n ls)
 kept_parts ls n = ap kept_lines (sym (take-append-drop n ls)) ∙ map-append DiffLine.kept (take n ls) (drop n ls)
 
--- a frame with its hunk, among the lines behind those that are left out
+-- a frame with its hunk, among the lines after those that are left out
 framed : (behind : List (List ℕ)) (hunk : Hunk) (hunks : List Hunk) (n : ℕ) (shown rest : List DiffLine)
     → lines_with behind hunks ≡ shown ++ rest
     → kept_lines (drop n hunk.kept) ++ (changed_lines hunk.changes ++ lines_with behind hunks)

@@ -13,7 +13,7 @@ use Rattle.miette_fix_rows.specs.rules.Hunks.{Change, change_of, changes, change
 use Rattle.miette_fix_rows.specs.rules.Hunks.{common_behind, onto_changes, parted}
 use Rattle.miette_fix_rows.proofs.Commons.{common_within, common_within_other}
 
--- nothing is common behind what is common
+-- nothing is common after what is common
 common_rest : (ls ms : List (List ℕ)) → common (drop (common ls ms) ls) (drop (common ls ms) ms) ≡ 0
 common_rest [] ms = refl
 common_rest (l ∷ ls) [] = refl
@@ -56,7 +56,7 @@ reverse_behind k ls =
     sym (ap (take (length ls - k)) (behind_is k ls)
     ∙ take_at (reverse (drop k ls)) (reverse (take k ls)) (length ls - k) m)
 
--- at most all lines stay behind a change
+-- at most all lines stay after a change
 pub behind_within : (olds news : List (List ℕ)) → (common_behind olds news ≤ length olds)
     × (common_behind olds news ≤ length news)
 behind_within olds news = (

@@ -1,4 +1,4 @@
--- Lines that are left out behind one that is left out have no rows, and none is asked for without a highlighter.
+-- Lines that are left out after one that is left out have no rows, and none is asked for without a highlighter.
 use Rattle.miette_page.specs.views.Printouts.{Printout, ◌⊕◌}
 use Rattle.std.proofs.Common.{ℕ, ◌+◌, ◌-◌, ◌≤◌, ◌≡◌, Bool, true, false, List, [], ◌∷◌, ◌++◌, length, drop, refl, sym}
 use Rattle.std.proofs.Common.{ap, ◌∙◌, subst, arith}
@@ -113,7 +113,7 @@ run_skipped s spreads w columns drawn start bytes ahead first blank begun now ne
     (subst (λ (n : ℕ). AreLinedBefore out true s w columns drawn start bytes first blank begun now rest n before page)
     sums passed)
 
--- the lines before the place are drawn to which a program goes on behind a line
+-- the lines before the place are drawn to which a program goes on after a line
 pub lines_run : (s : SnippetSettings) (spreads : List Spread) (left jumps : Bool) (w columns : ℕ)
     (drawn : List DrawnLabel) (start : ℕ) (bytes : List ℕ) (ahead first : ℕ) (blank : Bool)
     (begun now : List Call → Type 0) (near far : LineStart) (before page : Printout) →

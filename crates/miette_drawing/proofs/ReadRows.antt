@@ -1,4 +1,4 @@
--- The rows that are drawn from what a read lent are those of the definition, which has the whole source.
+-- The rows that are drawn from a read's contents are those of the definition, which has the whole source.
 use Rattle.miette_page.proofs.Paging.{put_append, put_nil}
 use Rattle.miette_page.specs.views.Printouts.{Printout, ◌⊕◌}
 use Rattle.std.proofs.Common.{ℕ, ◌+◌, ◌-◌, ◌^◌, ◌<◌, ◌≤◌, ◌≡◌, max, Bool, true, false, cond, eqb, ltb, List}
@@ -113,7 +113,7 @@ lines_inside bytes from to =
     (cut_from from bits (from + length bits) refl) (omega arith)
     (omega (arith, length-take (to - from) (drop from bytes)))
 
--- a snippet from what its read lent
+-- a snippet from its read's contents
 abbrev pub lent_lines : SnippetSettings → List Spread → List DrawnLabel → Contents → List (List Highlight) → List Row
 lent_lines s spreads drawn lent pieces = rows_of_lines (left_out s lent.line (lines_of_contents lent) spreads) false
     (snippet_context s (number_width lent) (gutter_columns drawn (lines_of_contents lent)) drawn

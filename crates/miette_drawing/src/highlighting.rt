@@ -14,7 +14,7 @@ use miette_style::laws::comparison_laws;
 use miette_style::style::Style;
 use std::alloc::{AllocError, Global};
 
-/// Begins a new snippet, of what its read lent.
+/// Begins a new snippet, of its read's contents.
 pub(crate) fn restart<H: Highlighter>(highlighter: &mut Option<H>, lent: &MietteSpanContents<'_>)
     ensures calls { AreCallsOn H.may_follow highlighter.old highlighter.new (restarted lent.now ∷ []) }
     ensures stays { leaves_plain H.is_blank highlighter.new ≡ leaves_plain H.is_blank highlighter.old }
@@ -80,7 +80,7 @@ pub(crate) fn pieces_of<H: Highlighter>(
     }
 }
 
-/// Whether the lines behind a line may be passed over: it is left out, and there is no highlighter, which is asked for
+/// Whether the lines after a line may be passed over: it is left out, and there is no highlighter, which is asked for
 /// each of them.
 pub(crate) fn may_pass<H: Highlighter>(highlighter: &Option<H>, left_out: bool) -> bool
     ensures out { result ≡ true → left_out ≡ true }

@@ -15,7 +15,7 @@
 //! 2. `push_framed` counts lines and the widest gutter (`miette_folds::extent`), and puts the frame around
 //!    (`miette_frames::frame`).
 //! 3. `push_lines` goes on line by line: which labels lie on it (the sweep), a highlighter's pieces, whether it is left
-//!    out inside a folded label (`miette_folds::left_out`). Those left out behind such a line are passed over at once,
+//!    out inside a folded label (`miette_folds::left_out`). Those left out after such a line are passed over at once,
 //!    where no highlighter is to be asked for them (`miette_folds::gaps`).
 //! 4. `push_line_or_break` (`line.rt`) puts the rows of a line: its number row over the gutter, the marks, the texts
 //!    with their leaders, and the texts of labels that end there (`gutters`, `strokes`, `texts` and `closings` of
@@ -26,7 +26,7 @@ ghost use Rattle.std.specs.Prelude.{◌≡◌, ◌∷◌, ◌+◌, ◌<◌, ◌^
 ghost use Rattle.miette_highlight.specs.rules.HighlighterCalls.{restarted};
 ghost use Rattle.miette_folds.specs.views.Folding.{fold_in};
 ghost use Rattle.miette_folds.specs.views.Spreads.{spread_of, AreNumbered};
-ghost use Rattle.miette_snippet_rules.specs.views.SettingsView.{settings_of};
+ghost use Rattle.miette_snippet_rules.specs.views.Settings.{settings_of};
 ghost use Rattle.miette_snippet_rules.specs.rules.SnippetLayout.{left_out, rows_of_lines, snippet_context};
 ghost use Rattle.miette_labels.specs.views.Sweeping.{IsAt, AreSorted};
 ghost use Rattle.miette_frames.specs.views.Widths.{width_of_count, gutter_of};
@@ -70,10 +70,10 @@ pub struct Drawing<'a> {
     pub spreads: &'a Spreads,
 }
 
-/// A snippet: what its read lent, and the line and column that its frame points to.
+/// A snippet: its read's contents, and the line and column that its frame points to.
 #[derive(Clone, Copy)]
 pub struct Snippet<'a> {
-    /// What its read lent.
+    /// Its read's contents.
     pub contents: &'a MietteSpanContents<'a>,
     /// The line and column, both counted from 0; none where it points nowhere.
     pub place: Option<(usize, usize)>,
@@ -109,7 +109,7 @@ fn digits(number: usize) -> usize
     buffer.format(number).len()
 }
 
-// The number of the line with this place, where so many lines stand before the first.
+// The number of the line with this place, where `before` lines stand before the first.
 fn number_of(before: usize, place: usize) -> Result<usize, AllocError>
     ensures { IfOk result (λ number. number ≡ before + place + 1) }
 {
@@ -117,7 +117,7 @@ fn number_of(before: usize, place: usize) -> Result<usize, AllocError>
     Ok(number)
 }
 
-// The digits of the number of the last of so many lines, where this many stand before the first; 1 where there is none.
+// The digits of the number of the last of `lines` lines, where `before` stand before the first; 1 where there is none.
 fn number_width(before: usize, lines: usize) -> Result<usize, AllocError>
     ensures { IfOk result (λ w. w ≡ width_of_count before lines) }
 {
@@ -130,7 +130,7 @@ fn number_width(before: usize, lines: usize) -> Result<usize, AllocError>
     }
 }
 
-// The columns of a gutter with room for so many labels.
+// The columns of a gutter with room for `most` labels.
 fn gutter_width(most: usize) -> Result<usize, AllocError>
     ensures { IfOk result (λ columns. columns ≡ gutter_of most) }
 {
@@ -229,7 +229,7 @@ fn push_lines<'a, H: Highlighter, O: Canvas>(
     Ok(())
 }
 
-// The rows of a snippet, where the sweep has come to what its read lent.
+// The rows of a snippet, where the sweep has come to its read's contents.
 fn push_framed<'a, H: Highlighter, O: Canvas>(
     drawing: &Drawing<'a>,
     highlighter: &mut Option<H>,
@@ -285,8 +285,8 @@ fn push_framed<'a, H: Highlighter, O: Canvas>(
 }
 
 /// The rows of a snippet: its frame, and its lines in the pieces of the highlighter, which is restarted. The sweep over
-/// the labels comes to where the lent bytes end. `AllocError` where memory is refused, to the highlighter too, or an
-/// offset, a line's number or a column is past the largest `usize`.
+/// the labels comes to where the bytes of the contents end. `AllocError` where memory is refused, to the highlighter
+/// too, or an offset, a line's number or a column is past the largest `usize`.
 pub fn push_snippet<'a, H: Highlighter, O: Canvas>(
     drawing: &Drawing<'a>,
     highlighter: &mut Option<H>,

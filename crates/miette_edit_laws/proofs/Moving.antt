@@ -101,7 +101,7 @@ get_take (suc n) (x ∷ xs) (suc i) lt = get_take n xs i (omega (arith, lt))
 abbrev weight : (Replacement → ℕ) → ℕ → Replacement → ℕ
 weight f k edit = cond (leb edit.span.offset k) (f edit) 0
 
--- edits behind a place don't count
+-- edits after a place don't count
 none_counts : (f : Replacement → ℕ) (n a k : ℕ) (edits : List Replacement) → FitFrom n a edits → k < a
     → sum_by (weight f k) edits ≡ 0
 none_counts f n a k [] h lt = refl
@@ -113,7 +113,7 @@ none_counts f n a k (e ∷ es) h lt =
     let s : sum_by (weight f k) (e ∷ es) ≡ weight f k e + sum_by (weight f k) es = sum_by-cons (weight f k) e es in
     omega (arith, w, rest, s)
 
--- one more edit that begins at or before a place counts, and one behind it doesn't
+-- one more edit that begins at or before a place counts, and one after it doesn't
 counts : (f : Replacement → ℕ) (k : ℕ) (e : Replacement) (es : List Replacement) → e.span.offset ≤ k
     → sum_by (weight f k) (e ∷ es) ≡ f e + sum_by (weight f k) es
 counts f k e es le =

@@ -1,4 +1,4 @@
--- Spans one behind the other, and which of them have a byte of a cell.
+-- Spans one after the other, and which of them have a byte of a cell.
 use Rattle.std.proofs.Common.{ℕ, zero, suc, ◌+◌, ◌-◌, ◌<◌, ◌≤◌, ◌≡◌, min, Bool, true, false, eqb, List, [], ◌∷◌, length}
 use Rattle.std.proofs.Common.{drop, get_or, refl, sym, ap, ◌∙◌, arith}
 use Rattle.std.specs.List.{filter, list_any}
@@ -20,7 +20,7 @@ apart_drop zero spans h = h
 apart_drop (suc i) [] h = tt
 apart_drop (suc i) (s ∷ ss) h = apart_drop i ss (apart_from (s.offset + s.len) ss h.1)
 
--- a span that ends before a cell has no byte of it, nor one that begins behind it
+-- a span that ends before a cell has no byte of it, nor one that begins after it
 pub ended : (cell : Cell) (span : Span) (offset : ℕ) → nat_le (span.offset + span.len) offset ≡ true → offset ≤
     cell.start
     → holds_byte cell span ≡ false
@@ -71,7 +71,7 @@ none_at p [] (suc i) le = refl
 none_at p (s ∷ ss) zero le = absurd (omega (arith, le))
 none_at p (s ∷ ss) (suc i) le = none_at p ss i (omega (arith, le))
 
--- ---- spans in front that are left out, and those behind
+-- ---- spans in front that are left out, and those after them
 
 begins_behind : (at : ℕ) (spans : List Span) (i : ℕ) (d : Span) → AreApartFrom at spans → i < length spans
     → at ≤ (get_or spans i d).offset
@@ -104,7 +104,7 @@ left_out f offset step spans many d h some le e =
     ap (λ k. f (drop k spans)) next
     ∙ left_next f offset step spans (many - 1) d h (omega (arith, some, le)) e
 
--- and the same with those that begin behind an offset
+-- and the same with those that begin after an offset
 nothing_from : {B : Type 0} (f : List Span → List B) (end : ℕ) → f [] ≡ []
     → ((s : Span) (ss : List Span) → end < s.offset → f (s ∷ ss) ≡ f ss) → (at : ℕ) (spans : List Span)
     → AreApartFrom at spans → end < at → f spans ≡ []
@@ -140,7 +140,7 @@ pub on_later : (offset : ℕ) (line : List ℕ) (s : Span) (ss : List Span) → 
 on_later offset line s ss lt =
     let before : nat_le offset (s.offset + s.len) ≡ false = grind (arith, nat_tests) in rw before refl
 
--- nor has one that begins behind it
+-- nor has one that begins after it
 pub parts_before : (start bytes : ℕ) (style : Style) (s : Span) (ss : List Span) → start + bytes < s.offset
     → parts_in start bytes style (s ∷ ss) ≡ parts_in start bytes style ss
 parts_before start bytes style s ss lt =

@@ -114,7 +114,7 @@ plain_come : (o c : ℕ) (bs : List ℕ) → ComeFrom o (plain_cells o c bs)
 plain_come o c [] = tt
 plain_come o c (b ∷ bs) = (omega arith, omega arith, plain_come (o + 1) (c + 1) bs)
 
--- the bytes from an offset on, where spans that end before it are left behind
+-- the bytes from an offset on, where spans that end before it are dropped
 pub run_next : (text : LineText) (left spans : List Span) (at : ℕ) (next : MadePainted)
     → list_all is_printable text.bytes.now ≡ true → text.start ≤ at → AlikeFrom at left spans
     → AreAlike left at (text.start + length text.bytes.now) next

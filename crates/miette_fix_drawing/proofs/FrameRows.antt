@@ -6,7 +6,7 @@ use Rattle.miette_page.specs.views.Printouts.{Printout, ◌⊕◌}
 use Rattle.miette_page.specs.views.Tokens.{rows_tokens}
 use Rattle.miette_source_lines.specs.rules.Lines.{column_of, line_of}
 use Rattle.miette_snippet_rules.specs.rules.Frames.{Place, bottom_row, top_row_of}
-use Rattle.miette_snippet_rules.specs.views.SettingsView.{settings_of}
+use Rattle.miette_snippet_rules.specs.views.Settings.{settings_of}
 use Rattle.miette_frames.proofs.TextRows.{rows_then}
 use Rattle.miette_frames.specs.views.Places as made
 use Rattle.miette_fix_rows.specs.rules.Hunks.{Hunk}
@@ -15,7 +15,7 @@ use Rattle.miette_fix_rows.specs.rules.DiffRows.{frame_width, largest, rows_of_l
 use Rattle.miette_fix_drawing.specs.declared.frames.FixDrawing.{FixDrawing}
 use Rattle.miette_fix_drawing.specs.steps.Framing.{context_over, drawn_frame, drawn_frames}
 
--- the rows of a frame whose numbers have so many columns
+-- the rows of a frame whose numbers have `w` columns
 framed : FixDrawing → DiffFrame → ℕ → Place → List Row
 framed d f w place =
     top_row_of (settings_of d.settings) w (option_copied d.name) true (Some place)

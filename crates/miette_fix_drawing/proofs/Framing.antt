@@ -47,7 +47,7 @@ largest_append at (l ∷ a) b =
     ap (max (number_of at l)) (largest_append (past at l) a b)
     ∙ max_turned (number_of at l) (largest (past at l) a) (largest (past_lines (past at l) a) b)
 
--- the rows of lines behind others, once those of the others are put
+-- the rows of lines after others, once those of the others are put
 pub rows_on : (c : DiffContext) (at next : Standing) (a b : List DiffLine) (p q : Printout) → next ≡ past_lines at a
     → q ≡ p ⊕ rows_tokens (rows_of_lines c at a)
     → q ⊕ rows_tokens (rows_of_lines c next b) ≡ p ⊕ rows_tokens (rows_of_lines c at (a ++ b))
@@ -56,7 +56,7 @@ rows_on c at next a b p q e h =
     ∙ ap (λ s. p ⊕ rows_tokens (rows_of_lines c at a ++ rows_of_lines c s b)) e
     ∙ ap (λ rows. p ⊕ rows_tokens rows) (sym (rows_append c at a b))
 
--- rows behind others, once the others are put
+-- rows after others, once the others are put
 pub rows_done : (rows more all : List Row) (p q r : Printout) → q ≡ p ⊕ rows_tokens rows → all ≡ rows ++ more
     → p ⊕ rows_tokens all ≡ r → q ⊕ rows_tokens more ≡ r
 rows_done rows more all p q r h e g =
@@ -121,7 +121,7 @@ far_frames context behind at (hunk ∷ more) far =
     (frame_at context at hunk (behind_hunk context behind more) ∷ frames_from context behind true (past_hunk at hunk)
     more)) far
 
--- lines with those of a hunk that is near, and what goes on behind it
+-- lines with those of a hunk that is near, and what goes on after it
 pub near_lines : (context : ℕ) (behind : List (List ℕ)) (hunk : Hunk) (more : List Hunk) (made next : List DiffLine)
     → is_near context hunk ≡ true → next ≡ made ++ (kept_lines hunk.kept ++ changed_lines hunk.changes)
     → next ++ behind_hunk context behind more ≡ made ++ behind_hunk context behind (hunk ∷ more)
@@ -176,7 +176,7 @@ segments_pushed : (ss : List Segment) (s : Segment)
 segments_pushed ss s =
     flat_map-append lines_of_segment ss (s ∷ []) ∙ ap (λ x. lines_of_segments ss ++ x) (append-nil (lines_of_segment s))
 
--- the lines of changes, behind a segment more
+-- the lines of changes, after a segment more
 lines_more : (ss next : List Segment) (own : Segment) (lines more all : List DiffLine) → next ≡ ss ++ own ∷ []
     → lines_of_segment own ≡ lines → lines_of_segments ss ++ (lines ++ more) ≡ all
     → lines_of_segments next ++ more ≡ all
@@ -288,7 +288,7 @@ hunks_drop zero xs = refl
 hunks_drop (suc n) [] = refl
 hunks_drop (suc n) (x ∷ xs) = hunks_drop n xs
 
--- what is left behind some of what is left
+-- what is left after some of what is left
 pub left_behind : {A : Type 0} (xs : List A) (at n : ℕ)
     → drop n (take (length xs - at) (drop at xs)) ≡ drop (at + n) xs
 left_behind xs at n = ap (drop n) (take_rest xs at) ∙ drop-drop n at xs

@@ -43,7 +43,7 @@ kept_before : (lines : List (List ℕ)) (changes : List Change) (d : Diff)
     → with_kept lines (headed [] changes d) ≡ headed lines changes d
 kept_before lines changes d = ap (λ ls. headed ls changes d) (append-nil lines)
 
--- what stands behind the first hunk of changes, where they begin with this one
+-- what stands after the first hunk of changes, where they begin with this one
 abbrev pub after : List ℕ → ℕ → List Change → Diff
 after source at changes = diff_from source (joined_end at changes) (drop (joined at changes) changes)
 
@@ -86,7 +86,7 @@ first_hunk source at c (d ∷ ds) h =
     ∙ no_more source c.to c d ds f)
     ∙ kept_before ls (c ∷ take (joined c.to (d ∷ ds)) (d ∷ ds)) (after source c.to (d ∷ ds)))
 
--- ---- the first hunk of changes, and those behind it
+-- ---- the first hunk of changes, and those after it
 
 abbrev pub first_from : List Change → ℕ
 first_from [] = 0

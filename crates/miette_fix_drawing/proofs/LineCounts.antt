@@ -7,7 +7,7 @@ use Rattle.miette_source_lines.specs.views.Walking.{IsFirst}
 use Rattle.miette_fix_rows.specs.rules.Blocks.{bytes_of, line_texts}
 use Rattle.miette_fix_rows.proofs.Texts.{first_text}
 
--- what is left behind the first line
+-- what is left after the first line
 pub rest_of : (rest : List ℕ) (line : LineOfText) → IsFirst (record { start = 0; bytes = rest }) line
     → line_texts rest ≡ take line.end rest ∷ line_texts (take (length rest - line.end) (drop line.end rest))
 rest_of rest line h =

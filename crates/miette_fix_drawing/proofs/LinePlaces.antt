@@ -28,7 +28,7 @@ starts (suc k) (b ∷ bs) =
     ap suc (starts (cond (ends_line b (slice_index bs 0)) k (suc k)) bs)
     ∙ sym (starts-step (ends_line b (slice_index bs 0)) b k (line_texts bs))
 
--- a line begins behind the bytes of those before it
+-- a line begins after the bytes of those before it
 pub start_is : (bs : List ℕ) (k : ℕ) → line_start bs k ≡ bytes_of (take k (line_texts bs))
 start_is bs k = line_start-is bs k ∙ starts k bs
 
@@ -113,7 +113,7 @@ lines_all (b ∷ bs) some =
 
 -- ---- the last lines
 
--- where the last so many lines begin, found from the line of the last byte back
+-- where the last `many` lines begin, found from the line of the last byte back
 pub last_begin : (bs : List ℕ) (many start : ℕ) → 0 < length bs → 0 < many
     → start ≡ line_start bs (line_of bs (length bs - 1) - (many - 1))
     → start ≡ bytes_of (take (length (line_texts bs) - many) (line_texts bs))
@@ -141,7 +141,7 @@ some_bytes bs [] k e more some = absurd (omega (arith, some))
 some_bytes bs (l ∷ ls) zero e more some = absurd (omega (arith, more))
 some_bytes bs (l ∷ ls) (suc k) e more some = omega (arith, first_some bs l ls e)
 
--- there are no more lines than so many where nothing stands before the last so many
+-- there are at most `many` lines where nothing stands before the last `many`
 pub at_most : (bs : List ℕ) (many before : ℕ)
     → before ≡ bytes_of (take (length (line_texts bs) - many) (line_texts bs))
     → nat_eq before 0 ≡ nat_le (length (line_texts bs)) many

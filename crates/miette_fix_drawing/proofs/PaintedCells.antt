@@ -1,4 +1,4 @@
--- A line's characters in pieces, cell by cell, as spans that end before them are left behind.
+-- A line's characters in pieces, cell by cell, as spans that end before them are dropped.
 use Rattle.std.proofs.Common.{ℕ, ◌≤◌, ◌≡◌, List, [], ◌∷◌, ◌++◌, map, refl, sym, ap, subst, ◌∙◌, arith}
 use Rattle.std.specs.List.{list_any}
 use Rattle.std.proofs.lemmas.List.{map-append}
@@ -29,7 +29,7 @@ painted_alike at low left spans (cell ∷ cells) alike le come =
     ∙ ap (onto_painted (list_any (holds_byte cell) spans) (text_bytes cell.code))
     (painted_alike at cell.after left spans cells alike (omega (arith, le, come.0, come.1)) come.2)
 
--- the first cell, and those behind it
+-- the first cell, and those after it
 pub painted_next : (left spans : List Span) (cell : Cell) (walk later : List Cell) (next : MadePainted)
     → walk ≡ cell ∷ later → ComeFrom 0 walk → AlikeFrom cell.start left spans
     → next.changed ≡ list_any (holds_byte cell) left → next.bytes ≡ text_bytes cell.code

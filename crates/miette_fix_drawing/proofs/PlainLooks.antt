@@ -10,7 +10,7 @@ use Rattle.miette_cells.proofs.Plaining.{plain_byte}
 use Rattle.miette_cells.specs.views.Printable.{is_printable, plain_cells}
 use Rattle.miette_snippet_rules.proofs.PlainCells.{printable_cells}
 use Rattle.miette_snippet_rules.specs.declared.options.SnippetSettings as made
-use Rattle.miette_snippet_rules.specs.views.SettingsView.{settings_of}
+use Rattle.miette_snippet_rules.specs.views.Settings.{settings_of}
 use Rattle.miette_fix_rows.specs.rules.DiffTexts.{look, seen, text_of_line, without_blanks}
 
 -- a character of one column in front of what is seen

@@ -1,4 +1,4 @@
--- What edits change comes one behind the other.
+-- What edits change comes one after the other.
 use Rattle.std.proofs.Common.{ℕ, ◌<◌, ◌≤◌, ◌≡◌, List, [], ◌∷◌, ◌&&◌, length, arith}
 use Rattle.std.specs.Prelude.{None}
 use Rattle.std.proofs.Math.Nat.{max-le}

@@ -4,7 +4,7 @@ ghost use Rattle.std.specs.Prelude.{◌≡◌, ◌+◌, ◌∷◌, [], ◌<◌, 
 ghost use Rattle.std.specs.Option.{option_map};
 ghost use Rattle.miette_page.specs.views.Printouts.{◌⊕◌};
 ghost use Rattle.miette_page.specs.views.Tokens.{row_tokens, rows_tokens};
-ghost use Rattle.miette_snippet_rules.specs.views.SettingsView.{settings_of};
+ghost use Rattle.miette_snippet_rules.specs.views.Settings.{settings_of};
 ghost use Rattle.miette_snippet_rules.specs.views.LineTexts.{text_cells};
 ghost use Rattle.miette_fix_rows.specs.rules.DiffRows.{changed_rows, line_reach, marks_row, pair_reach, sign_start};
 ghost use Rattle.miette_fix_rows.specs.rules.DiffRows.{text_row};

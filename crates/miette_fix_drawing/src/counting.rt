@@ -6,7 +6,7 @@ ghost use Rattle.miette_fix_rows.specs.rules.Blocks.{bytes_of, line_texts};
 use miette_source_lines::lines::first_line;
 use miette_source_lines::scan::start_before;
 
-/// How many bytes the first so many lines have.
+/// How many bytes the first `many` lines have.
 #[tactic(auto, using(crate::proofs::LineCounts::no_bytes, crate::proofs::LineCounts::no_lines))]
 pub fn first_lines(bytes: &[u8], many: usize) -> usize
     ensures size { result ≡ bytes_of (take many (line_texts bytes.now)) }
@@ -27,7 +27,7 @@ pub fn first_lines(bytes: &[u8], many: usize) -> usize
     size
 }
 
-/// How many bytes stand before the last so many lines, found from the end back.
+/// How many bytes stand before the last `many` lines, found from the end back.
 pub fn before_last_lines(bytes: &[u8], many: usize) -> usize
     ensures size { result ≡ bytes_of (take (length (line_texts bytes.now) - many) (line_texts bytes.now)) }
     ensures within { result ≤ length bytes.now }
@@ -38,7 +38,7 @@ pub fn before_last_lines(bytes: &[u8], many: usize) -> usize
     start_before(bytes, bytes.len() - 1, many - 1).0
 }
 
-/// Whether bytes have no more than so many lines: no more are looked at, from the end back.
+/// Whether bytes have at most `many` lines: no more are looked at, from the end back.
 pub fn has_at_most(bytes: &[u8], many: usize) -> bool
     ensures { result ≡ nat_le (length (line_texts bytes.now)) many }
 {

@@ -5,7 +5,7 @@ ghost use Rattle.std.specs.List.{list_all};
 ghost use Rattle.miette_protocol.specs.rules.Reading.{Source};
 ghost use Rattle.miette_page.specs.views.Printouts.{◌⊕◌};
 ghost use Rattle.miette_page.specs.views.Tokens.{rows_tokens, styled_tokens};
-ghost use Rattle.miette_snippet_rules.specs.views.SettingsView.{settings_of};
+ghost use Rattle.miette_snippet_rules.specs.views.Settings.{settings_of};
 ghost use Rattle.miette_fixes.specs.declared.error.FixError.TheVariants.{Memory};
 ghost use Rattle.miette_fixes.specs.rules.Applying.{by_offset, refusal};
 ghost use Rattle.miette_fixes.specs.views.Ordered.{edits_of};

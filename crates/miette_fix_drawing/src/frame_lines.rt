@@ -34,7 +34,7 @@ fn kept<'a>(lines: &'a [u8]) -> Segment<'a>
     }
 }
 
-// Puts the removed lines of changes behind others.
+// Puts the removed lines of changes after others.
 fn push_removed<'a>(list: &mut Vec<Segment<'a>>, changes: &'a [Change<'a>]) -> Outcome
     ensures { OnOk result (lines_of_segments list.new.items ≡ lines_of_segments list.old.items
         ++ removed_from 0 changes.now) }
@@ -64,7 +64,7 @@ fn removed_bytes(changes: &[Change<'_>]) -> Result<usize, AllocError>
     Ok(size)
 }
 
-// Puts the added lines of changes behind others.
+// Puts the added lines of changes after others.
 fn push_added<'a>(list: &mut Vec<Segment<'a>>, changes: &'a [Change<'a>]) -> Outcome
     ensures { OnOk result (lines_of_segments list.new.items ≡ lines_of_segments list.old.items
         ++ added_from (bytes_of (removed_lines changes.now)) changes.now) }
@@ -83,7 +83,7 @@ fn push_added<'a>(list: &mut Vec<Segment<'a>>, changes: &'a [Change<'a>]) -> Out
     Ok(())
 }
 
-/// Puts lines that stay behind others, and then those of changes, the removed ones first.
+/// Puts lines that stay after others, and then those of changes, the removed ones first.
 pub(crate) fn push_hunk<'a>(
     list: &mut Vec<Segment<'a>>,
     kept_before: &'a [u8],
@@ -97,7 +97,7 @@ pub(crate) fn push_hunk<'a>(
     push_added(list, changes)
 }
 
-/// Where stands what is behind lines, and the largest of their numbers.
+/// Where stands what comes after lines, and the largest of their numbers.
 #[tactic(auto, using(crate::proofs::Framing::past_of_segments, crate::proofs::Framing::largest_of_segments))]
 pub(crate) fn measured_all(at: &Standing, list: &[Segment]) -> Result<(Standing, usize), AllocError>
     ensures behind { IfOk result (λ it.
@@ -114,7 +114,7 @@ pub(crate) fn measured_all(at: &Standing, list: &[Segment]) -> Result<(Standing,
     Ok((at, most))
 }
 
-// Whether all lines before a hunk are shown behind the one before it.
+// Whether all lines before a hunk are shown after the one before it.
 fn is_near(context: usize, hunk: &Hunk) -> bool
     ensures { result ≡ is_near context (hunk_of hunk.now) }
 {
@@ -122,7 +122,7 @@ fn is_near(context: usize, hunk: &Hunk) -> bool
     has_at_most(hunk.kept, context.saturating_add(context))
 }
 
-/// How many of hunks go on with a frame; their lines are put behind others.
+/// How many of hunks go on with a frame; their lines are put after others.
 #[tactic(auto, using(crate::proofs::Framing::near_lines, crate::proofs::Framing::near_standing))]
 pub(crate) fn take_near<'a>(
     list: &mut Vec<Segment<'a>>,
@@ -155,7 +155,7 @@ fn kept_front<'a>(context: usize, lines: &'a [u8]) -> Segment<'a>
     kept(&lines[..first_lines(lines, context)])
 }
 
-/// The unchanged lines behind a frame that are shown in it.
+/// The unchanged lines after a frame that are shown in it.
 pub(crate) fn lines_behind<'a>(context: usize, rest: &[Hunk<'a>], behind: &'a [u8]) -> Segment<'a>
     requires { IsFar context (hunks_of rest.now) }
     ensures { lines_of_segment result ≡ behind_hunk context (line_texts behind.now) (hunks_of rest.now) }
@@ -166,7 +166,7 @@ pub(crate) fn lines_behind<'a>(context: usize, rest: &[Hunk<'a>], behind: &'a [u
     }
 }
 
-/// Where stands what is behind unchanged lines, told how many there are and how many bytes they have.
+/// Where stands what comes after unchanged lines, told how many there are and how many bytes they have.
 pub(crate) fn past_kept(at: &Standing, lines: usize, bytes: usize) -> Result<Standing, AllocError>
     ensures { IfOk result (λ behind. (kept : List (List ℕ)) → lines ≡ length kept → bytes ≡ bytes_of kept →
         standing_of behind ≡ past_kept (standing_of at.now) kept) }

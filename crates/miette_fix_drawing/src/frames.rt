@@ -53,7 +53,7 @@ struct FrameLines<'a> {
     largest: usize,
 }
 
-// How far frames are put: where stands what is behind the last change of them, and a place before the next one.
+// How far frames are put: where stands what comes after the last change of them, and a place before the next one.
 #[derive_where(Clone, Copy)]
 struct Progress<'a, S> {
     at: Standing,
@@ -170,8 +170,8 @@ fn first_hunk<'a, S: SourceCode>(
     Ok((from, lines))
 }
 
-// A frame that begins with a hunk, in front of others and lines behind the last of them; gives how many of the others
-// go on with it, and sets where stands what is behind its last change.
+// A frame that begins with a hunk, before others and lines after the last of them; gives how many of the others go on
+// with it, and sets where stands what comes after its last change.
 fn next_frame<'a, S: SourceCode>(
     drawing: &FixDrawing,
     progress: &mut Progress<'_, S>,
@@ -209,7 +209,7 @@ fn next_frame<'a, S: SourceCode>(
     Ok((frame, taken))
 }
 
-// The rows of the first frame of hunks; gives how many hunks it has, and sets where stands what is behind the last of
+// The rows of the first frame of hunks; gives how many hunks it has, and sets where stands what comes after the last of
 // them.
 fn push_next<'a, O: Canvas, S: SourceCode>(
     page: &mut Page<O>,
@@ -239,8 +239,8 @@ fn push_next<'a, O: Canvas, S: SourceCode>(
     Ok(taken + 1)
 }
 
-/// The rows of the frames of hunks, and of the unchanged lines behind the last of them. The source that is asked has
-/// the bytes that are drawn.
+/// The rows of the frames of hunks, and of the unchanged lines after the last of them. The source that is asked has the
+/// bytes that are drawn.
 pub(crate) fn push_frames<'a, O: Canvas, S: SourceCode>(
     page: &mut Page<O>,
     drawing: &FixDrawing,

@@ -1,4 +1,4 @@
-//! The changes of blocks with no unchanged line between them, behind unchanged lines.
+//! The changes of blocks with no unchanged line between them, after unchanged lines.
 
 ghost use Rattle.std.specs.Prelude.{◌≡◌, ◌≤◌, length, IfOk};
 ghost use Rattle.std.specs.List.{AllByRecursion};
@@ -11,7 +11,7 @@ ghost use Rattle.miette_fix_drawing.specs.views.Hunks.{hunks_of};
 use miette_fix_rows::changes::Change;
 use std::alloc::{AllocError, Global};
 
-/// Changes with no unchanged line between them, behind unchanged lines.
+/// Changes with no unchanged line between them, after unchanged lines.
 #[derive(Clone, Copy)]
 pub(crate) struct Hunk<'a> {
     /// Where the unchanged lines begin in the source.
@@ -51,7 +51,7 @@ fn joined(source: &[u8], at: usize, changes: &[Change]) -> (usize, usize)
     (many, end)
 }
 
-/// The hunks of changes, and the unchanged lines behind the last of them.
+/// The hunks of changes, and the unchanged lines after the last of them.
 pub(crate) fn hunks_of<'a>(
     alloc: Global,
     source: &'a [u8],

@@ -3,7 +3,7 @@
 ghost use Rattle.std.specs.Prelude.{◌≡◌, ◌∷◌, [], ◌+◌, ◌<◌, ◌^◌, length, OnOk};
 ghost use Rattle.miette_page.specs.views.Printouts.{◌⊕◌};
 ghost use Rattle.miette_page.specs.views.Tokens.{rows_tokens};
-ghost use Rattle.miette_snippet_rules.specs.views.SettingsView.{settings_of};
+ghost use Rattle.miette_snippet_rules.specs.views.Settings.{settings_of};
 ghost use Rattle.miette_fix_rows.specs.rules.DiffRows.{kept_row};
 ghost use Rattle.miette_fix_drawing.specs.views.Standings.{standing_of};
 

@@ -2,7 +2,7 @@
 
 ghost use Rattle.std.specs.Prelude.{◌≡◌, ◌+◌, [], ◌++◌, ◌<◌, ◌^◌, length, if◌then◌else◌, IfOk, OnOk};
 ghost use Rattle.std.specs.List.{filter};
-ghost use Rattle.miette_snippet_rules.specs.views.SettingsView.{settings_of};
+ghost use Rattle.miette_snippet_rules.specs.views.Settings.{settings_of};
 ghost use Rattle.miette_fix_rows.specs.rules.DiffTexts.{is_on, line_ends, text_of_line};
 ghost use Rattle.miette_fix_drawing.specs.steps.Ends.{all_ends, span_ends};
 ghost use Rattle.miette_fix_drawing.specs.steps.Spans.{AreApart};
@@ -17,7 +17,7 @@ use miette_snippet_rules::options::SnippetSettings;
 use miette_source_lines::lines::LineOfText;
 use std::alloc::{AllocError, Global};
 
-// Whether an edit is one of a line's, whose text is given: it touches the line, unless it begins behind a terminator.
+// Whether an edit is one of a line's, whose text is given: it touches the line, unless it begins after a terminator.
 fn is_on(line: &ChangedLine, text: &[u8], span: &SourceSpan) -> bool
     requires within { line.now.start + length line.now.text.now < 2 ^ 64 }
     requires text { text.now ≡ text_of_line line.now.text.now }
@@ -28,7 +28,7 @@ fn is_on(line: &ChangedLine, text: &[u8], span: &SourceSpan) -> bool
         && (span.offset() < end || (span.offset() == end && text.len() == line.text.len()))
 }
 
-// Puts the ends of what a span has in a line behind others, by the columns of the line's text.
+// Puts the ends of what a span has in a line after others, by the columns of the line's text.
 fn push_ends(
     ends: &mut Vec<usize>,
     columns: &Columns,

@@ -4,7 +4,7 @@ ghost use Rattle.std.specs.Prelude.{◌≡◌, ◌++◌, replicate, IfOk, OnOk};
 ghost use Rattle.std.specs.Option.{option_map};
 ghost use Rattle.std.specs.Str.{bytes_eq};
 ghost use Rattle.miette_cells.specs.views.Walking.{cell_of};
-ghost use Rattle.miette_snippet_rules.specs.views.SettingsView.{settings_of};
+ghost use Rattle.miette_snippet_rules.specs.views.Settings.{settings_of};
 ghost use Rattle.miette_fix_rows.specs.rules.DiffTexts.{look, look_alike, seen, without_blanks};
 ghost use Rattle.miette_fix_drawing.specs.steps.Looks.{seen_of_cell};
 
@@ -14,7 +14,7 @@ use miette_cells::plain::all_printable;
 use miette_snippet_rules::options::SnippetSettings;
 use std::alloc::{AllocError, Global};
 
-// Puts so many spaces behind what is seen.
+// Puts `many` spaces after what is seen.
 fn push_spaces(seen: &mut Vec<char>, many: usize) -> Result<(), AllocError>
     ensures { OnOk result (seen.new.items ≡ seen.old.items ++ replicate many 32) }
 {
@@ -26,7 +26,7 @@ fn push_spaces(seen: &mut Vec<char>, many: usize) -> Result<(), AllocError>
     Ok(())
 }
 
-// Puts what is seen of a character behind what is seen of those before it.
+// Puts what is seen of a character after what is seen of those before it.
 fn push_seen(seen: &mut Vec<char>, cell: &Cell) -> Result<(), AllocError>
     ensures { OnOk result (seen.new.items ≡ seen.old.items ++ seen_of_cell (cell_of cell.now)) }
 {

@@ -7,7 +7,7 @@ ghost use Rattle.miette_label_rules.specs.views.GivenLabels.{drawn_of};
 ghost use Rattle.miette_snippet_rules.specs.rules.Frames.{other_start};
 ghost use Rattle.miette_snippet_rules.specs.rules.Settings.{SnippetSettings as RuledSettings};
 ghost use Rattle.miette_snippet_rules.specs.views.MadeMarks.{mark_of};
-ghost use Rattle.miette_snippet_rules.specs.views.SettingsView.{settings_of};
+ghost use Rattle.miette_snippet_rules.specs.views.Settings.{settings_of};
 ghost use Rattle.miette_fix_rows.specs.rules.DiffRows.{before_some, row_if_some};
 ghost use Rattle.miette_fix_rows.specs.rules.DiffTexts.{edit_marks, has_bytes, part_in, parts_in, sign_runs};
 ghost use Rattle.miette_fix_drawing.specs.steps.Spans.{AreApart};
@@ -41,7 +41,7 @@ pub(crate) fn part_in<'a>(line: &ChangedLine, span: &SourceSpan) -> PlacedLabel<
     }
 }
 
-// Puts a part of a span behind others, if it has a byte.
+// Puts a part of a span after others, if it has a byte.
 fn push_part<'a>(parts: &mut Vec<PlacedLabel<'a>>, part: PlacedLabel<'a>) -> Outcome
     ensures { OnOk result (parts.new.items ≡ parts.old.items
         ++ (if has_bytes (drawn_of part.entry) then part.entry ∷ [] else [])) }
@@ -98,7 +98,7 @@ pub(crate) fn edit_marks<'a>(
     )
 }
 
-// A row of marks, each behind the spaces before it: `  ---  --`.
+// A row of marks, each after the spaces before it: `  ---  --`.
 fn push_sign_runs<O: Canvas>(page: &mut Page<O>, sign: char, marks: &[Mark]) -> Outcome
     ensures { OnOk result ((s : RuledSettings) →
         page.new ≡ page.old ⊕ row_tokens (sign_runs s sign 0 (map mark_of marks.now))) }

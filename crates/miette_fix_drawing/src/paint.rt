@@ -37,7 +37,7 @@ pub(crate) fn piece_of(style: Style, painted: &Painted) -> (usize, Style)
     (painted.bytes, style)
 }
 
-/// Puts characters behind those that were reached, which go on into them where both are changed, or neither; else the
+/// Puts characters after those that were reached, which go on into them where both are changed, or neither; else the
 /// piece of those that were reached is made. `AllocError` where memory is refused, or a count is past the largest
 /// `usize`.
 pub fn put_painted(
@@ -76,7 +76,7 @@ fn painted_cell(spans: &[SourceSpan], cell: &Cell) -> Painted
     }
 }
 
-// The pieces of cells behind these characters, and of them in front.
+// The pieces of these characters, and of the cells after them.
 fn pieces_behind(
     alloc: Global,
     style: Style,

@@ -48,7 +48,7 @@ fn told_line<S: SourceCode>(source: &S, offset: usize) -> Option<usize>
 }
 
 // The number of an offset's line, found from a place before it. The source is asked where at least a fifth of the bytes
-// before the offset stand behind that place: one without an index goes through all of them for its answer, and so the
+// before the offset stand after that place: one without an index goes through all of them for its answer, and so the
 // work for all places grows with the source alone.
 fn line_at<S: SourceCode>(source: &[u8], cursor: &Cursor<'_, S>, offset: usize) -> usize
     requires within { offset ≤ length source.now }

@@ -64,7 +64,7 @@ fn alike_from(spans: &[SourceSpan], at: usize, end: usize) -> Painted
     }
 }
 
-// The pieces of a line's text behind these bytes, and of them in front.
+// The pieces of these bytes, and of a line's text after them.
 fn pieces_past(
     alloc: Global,
     style: Style,
@@ -144,7 +144,7 @@ fn push_run<O: Canvas>(page: &mut Page<O>, style: Style, bytes: &[u8]) -> Outcom
     page.push_str(text)
 }
 
-// A text of printable ASCII in pieces, each a length in bytes and a style, and plain behind them.
+// A text of printable ASCII in pieces, each a length in bytes and a style, and plain after them.
 fn push_pieces<O: Canvas>(page: &mut Page<O>, text: &[u8], pieces: &[(usize, Style)]) -> Outcome
     requires { list_all is_printable text.now ≡ true }
     ensures { OnOk result (page.new ≡ page.old ⊕ pieces_told (map highlight_of pieces.now) text.now) }
@@ -158,7 +158,7 @@ fn push_pieces<O: Canvas>(page: &mut Page<O>, text: &[u8], pieces: &[(usize, Sty
     push_run(page, PLAIN, rest)
 }
 
-/// What is shown of a changed line's text in pieces, each a length in bytes and a style, and plain behind them: its
+/// What is shown of a changed line's text in pieces, each a length in bytes and a style, and plain after them: its
 /// stretches, with the theme's dots, or all of it where it isn't cut. `AllocError` where memory is refused, or a column
 /// or a count of bytes is past the largest `usize`.
 pub(crate) fn push_changed_text<O: Canvas>(

@@ -1,4 +1,4 @@
-//! Lines that stand one behind the other in a frame.
+//! Lines that stand one after the other in a frame.
 
 ghost use Rattle.std.specs.Prelude.{◌≡◌, ◌<◌, length, max, option_copied, [], None, IfOk, IfSome, OnOk};
 ghost use Rattle.std.specs.Option.{option_map};
@@ -48,15 +48,15 @@ pub(crate) struct ShownLine<'a> {
     pub(crate) other: Option<OtherText<'a>>,
 }
 
-/// The line that goes with a changed one, and where it stands among the changes: an added one behind so many bytes of
-/// added lines, a removed one so many bytes in front of the end of the removed ones.
+/// The line that goes with a changed one, and where it stands among the changes: an added one after `away` bytes of
+/// added lines, a removed one `away` bytes before the end of the removed ones.
 #[derive(Clone, Copy)]
 pub(crate) struct OtherText<'a> {
     pub(crate) text: &'a [u8],
     pub(crate) away: usize,
 }
 
-/// Lines one behind the other, and those of which the first goes with the first, and so on, with where the first of
+/// Lines one after the other, and those of which the first goes with the first, and so on, with where the first of
 /// these stands among the changes.
 #[derive(Clone, Copy)]
 pub(crate) struct Segment<'a> {
@@ -89,7 +89,7 @@ fn next_line<'a>(bytes: &mut &'a [u8]) -> Option<&'a [u8]>
     Some(&all[..end])
 }
 
-// Where the next of the others stands, behind one of so many bytes.
+// Where the next of the others stands, after one of `size` bytes.
 fn away_behind(kind: Kind, away: usize, size: usize) -> Result<usize, AllocError>
     ensures { IfOk result (λ next. next ≡ away_behind kind away size) }
 {
@@ -100,7 +100,7 @@ fn away_behind(kind: Kind, away: usize, size: usize) -> Result<usize, AllocError
     }
 }
 
-// Where they stand behind one of them, if there is one.
+// Where they stand after one of them, if there is one.
 fn away_past(kind: Kind, away: usize, other: Option<&[u8]>) -> Result<usize, AllocError>
     ensures { IfOk result (λ next. next ≡ away_past kind away (option_copied other.entry)) }
 {
@@ -143,7 +143,7 @@ impl<'a> Segment<'a> {
     }
 }
 
-/// Where stands what is behind a line.
+/// Where stands what comes after a line.
 pub(crate) fn past(at: &Standing, line: &ShownLine) -> Result<Standing, AllocError>
     ensures { IfOk result (λ behind. standing_of behind ≡ past (standing_of at.now) (line_of_shown line.now)) }
 {
@@ -248,7 +248,7 @@ fn removed_beside<'a>(
     Ok(Some(ChangedLine { start, ..line }))
 }
 
-// The rows of a line that is removed or added, where what is behind it stands so.
+// The rows of a line that is removed or added, where what comes after it stands so.
 fn push_changed_line<O: Canvas>(
     page: &mut Page<O>,
     drawing: &DiffDrawing,
@@ -276,7 +276,7 @@ fn push_changed_line<O: Canvas>(
     }
 }
 
-// The rows of a line; gives where stands what is behind it.
+// The rows of a line; gives where stands what comes after it.
 fn push_line<O: Canvas>(
     page: &mut Page<O>,
     drawing: &DiffDrawing,
@@ -294,7 +294,7 @@ fn push_line<O: Canvas>(
     Ok(behind)
 }
 
-/// The rows of lines one behind the other; gives where stands what is behind them.
+/// The rows of lines one after the other; gives where stands what comes after them.
 pub(crate) fn push_segment<O: Canvas>(
     page: &mut Page<O>,
     drawing: &DiffDrawing,
@@ -316,7 +316,7 @@ pub(crate) fn push_segment<O: Canvas>(
     Ok(at)
 }
 
-/// Where stands what is behind lines, and the largest of their numbers, if that is larger than this.
+/// Where stands what comes after lines, and the largest of their numbers, if that is larger than this.
 pub(crate) fn measured(
     at: &Standing,
     segment: &Segment,

@@ -21,9 +21,9 @@ use Rattle.miette_fix_rows.specs.rules.Hunks.{is_nil, onto_hunks, onto_kept, rem
 use Rattle.miette_fix_rows.proofs.NearHunks.{frames_if, shown_if}
 use Rattle.miette_fix_laws.specs.laws.Context.{is_changed, lines_in, shown_behind, shown_lines}
 
--- ---- how many lines are still shown behind a change
+-- ---- how many lines are still shown after a change
 
--- of lines before, from the last one back, with so many context lines
+-- of lines before, from the last one back, by the number of context lines
 abbrev left_over : ℕ → List DiffLine → ℕ
 left_over zero before = 0
 left_over (suc n) [] = 0
@@ -60,7 +60,7 @@ behind_changed : (n : ℕ) (line : DiffLine) (before : List DiffLine) → is_cha
 behind_changed zero line before e = refl
 behind_changed (suc n) line before e = ap (λ b. cond b (suc n) (left_over n before)) e
 
--- the lines that are shown, of which so many are still shown behind a change
+-- the lines that are shown, of which `left` are still shown after a change
 abbrev shown_with : ℕ → ℕ → List DiffLine → List DiffLine
 shown_with context left [] = []
 shown_with context left (line ∷ lines) =
@@ -108,7 +108,7 @@ ahead_none zero ls = refl
 ahead_none (suc m) [] = refl
 ahead_none (suc m) (l ∷ ls) = ahead_none m ls
 
--- of unchanged lines between two changes those that are shown, of which so many are still shown behind the first
+-- of unchanged lines between two changes those that are shown, of which `left` are still shown after the first
 abbrev part : ℕ → ℕ → List (List ℕ) → List (List ℕ)
 part context left ls = take left ls ++ drop (max left (length ls - context)) ls
 
@@ -149,7 +149,7 @@ abbrev kept_with : ℕ → ℕ → List ℕ → List DiffLine → Bool → Bool 
 kept_with context left l lines a b =
     cond (a || b) (kept l ∷ shown_with context (left - 1) lines) (shown_with context (left - 1) lines)
 
--- where none is still shown behind a change
+-- where none is still shown after a change
 next_run : (context : ℕ) (l : List ℕ) (ls : List (List ℕ)) (c : DiffLine) (rest : List DiffLine)
     → is_changed c ≡ true
     → shown_with context 0 (kept_lines ls ++ (c ∷ rest))
@@ -290,7 +290,7 @@ part_first : (context : ℕ) (ls : List (List ℕ)) → part context 0 ls ≡ dr
 part_first context ls =
     let n : max 0 (length ls - context) ≡ length ls - context = omega arith in ap (λ k. drop k ls) n
 
--- what stands in a frame from a hunk on, and the frames behind it
+-- what stands in a frame from a hunk on, and the frames after it
 framed : (a b shown more rest : List DiffLine) → shown ++ more ≡ rest
     → (a ++ (b ++ shown)) ++ more ≡ a ++ (b ++ rest)
 framed a b shown more rest e =

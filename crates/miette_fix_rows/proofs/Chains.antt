@@ -1,4 +1,4 @@
--- Blocks stand one behind another.
+-- Blocks stand one after another.
 use Rattle.std.proofs.Common.{ℕ, ◌+◌, ◌-◌, ◌<◌, ◌≤◌, ◌≡◌, leb, inl, inr, List, [], ◌∷◌}
 use Rattle.std.proofs.Common.{length, refl, sym, ◌∙◌, subst, arith}
 use Rattle.std.proofs.lemmas.Bool.{cases_lt, leb-false}
@@ -115,7 +115,7 @@ pub block_within : (source : List ℕ) (block : List Replacement) → 0 < length
 block_within source block h =
     omega (arith, to_line source block h, line_end_le source (line_of source (last_end block)))
 
--- the next block begins where one ends, or behind
+-- the next block begins where one ends, or after that
 pub next_behind : (source : List ℕ) (at : ℕ) (block next : List Replacement) (bs : List (List Replacement))
     → Chain source at (block ∷ next ∷ bs) → block_to source block ≤ block_from source next
 next_behind source at block next bs h =

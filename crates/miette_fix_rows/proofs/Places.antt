@@ -18,7 +18,7 @@ after-step : (x : Bool) (e o r : ℕ) (bs : List ℕ) → after (suc e) bs ≡ o
 after-step true e o r bs h = omega (arith, h)
 after-step false e o r bs h = omega (arith, h)
 
--- the next terminator behind an offset is the first of what stands there
+-- the next terminator after an offset is the first of what stands there
 after_rest : (o : ℕ) (bs : List ℕ) → o ≤ length bs → after (suc (ends_before o bs)) bs ≡ o + after 1 (drop o bs)
 after_rest zero bs h = omega arith
 after_rest (suc o) [] h = absurd (omega (arith, h))

@@ -39,7 +39,7 @@ texts_meet (b ∷ c ∷ xs) ys h =
     ap (λ ls. cond (ends_line b c) ((b ∷ []) ∷ ls) (onto_line b ls)) (texts_meet (c ∷ xs) ys h)
     ∙ onto_both (ends_line b c) b (line_texts (c ∷ xs)) (line_texts ys) (some_lines (c ∷ xs) (omega arith))
 
--- a line ends before an offset, unless it is the first or none is behind it
+-- a line ends before an offset, unless it is the first or none is after it
 abbrev pub Ended : List ℕ → ℕ → Type 0
 Ended bytes at = (k : ℕ) → suc k ≡ at → at < length bytes
     → ends_line (slice_index bytes k) (slice_index bytes at) ≡ true

@@ -13,7 +13,7 @@ use denote.Ref.{Bor}
 
 -- ---- edits at places of a list
 
--- an edit at an index, and those behind it
+-- an edit at an index, and those after it
 pub head_at : (ls : List (Bor Replacement)) (i j : ℕ) (r : Bor Replacement) → i < length ls → r ≡ get_or ls i r
     → j ≡ i + 1 → drop i (edits_of ls) ≡ r.now ∷ drop j (edits_of ls)
 head_at ls i j r lt e n =

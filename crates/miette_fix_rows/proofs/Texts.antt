@@ -81,7 +81,7 @@ drop-step false b k bs (l ∷ ls) e ih =
     let n : bytes_of (take (suc k) ((b ∷ l) ∷ ls)) ≡ suc (bytes_of (take (suc k) (l ∷ ls))) = omega arith in
     ap (λ m. line_texts (drop m (b ∷ bs))) n ∙ ih (suc k)
 
--- behind some of the lines stand the others
+-- after some of the lines stand the others
 pub texts_drop : (bs : List ℕ) (k : ℕ) → line_texts (drop (bytes_of (take k (line_texts bs))) bs)
     ≡ drop k (line_texts bs)
 texts_drop [] zero = refl
@@ -211,7 +211,7 @@ texts_by_place at (b ∷ bs) =
     texts-step (ends_line b (slice_index bs 0)) b at bs (lines_from (at + 1) bs) (line_texts bs) (at + 1 + length bs)
     (cut_from (at + 1) bs (at + 1 + length bs) refl) (texts_by_place (at + 1) bs)
 
--- the first line, and what is behind it
+-- the first line, and what comes after it
 pub first_text : (bs : List ℕ) (line : LineOfText) → IsFirst (record { start = 0; bytes = bs }) line
     → line_texts bs ≡ take line.end bs ∷ line_texts (drop line.end bs)
 first_text bs line h =

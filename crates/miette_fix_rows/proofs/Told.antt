@@ -36,7 +36,7 @@ change_told f change (hunk ∷ hunks) =
     ∙ ap (λ ls. f change ++ ((ls ++ flat_map f hunk.changes) ++ of_hunks f hunks)) (sym (nil_of hunk.kept t))))
     (λ n. rw n (ap (λ ls. ls ++ of_hunks f (hunk ∷ hunks)) (append-nil (f change))))
 
--- a change behind unchanged lines
+-- a change after unchanged lines
 pub told_more : (f : Change → List (List ℕ)) (lines : List (List ℕ)) (change : Change) (d : Diff)
     → told f (with_kept lines (with_change change d)) ≡ lines ++ (f change ++ told f d)
 told_more f lines change d =

@@ -80,7 +80,7 @@ pub(crate) fn block_start(source: &[u8], start: usize, to: usize, edits: &[&Edit
     start
 }
 
-/// Whether an edit that ends at an offset shares a line with a block behind it.
+/// Whether an edit that ends at an offset shares a line with a block after it.
 pub(crate) fn shares(source: &[u8], start: usize, to: usize, edits: &[&Edit], end: usize) -> bool
     requires { IsBlock source.now start to (edits_of edits.now) }
     ensures { result ≡ nat_le (block_from source.now (edits_of edits.now)) end }
@@ -99,7 +99,7 @@ pub(crate) struct Block {
     pub(crate) to: usize,
 }
 
-/// The last block of some edits, if none behind them is in it.
+/// The last block of some edits, if none after them is in it.
 pub(crate) fn last_block(source: &[u8], edits: &[&Edit]) -> Block
     requires some { 0 < length edits.now }
     requires fit { FitFrom (length source.now) 0 (edits_of edits.now) }

@@ -218,7 +218,7 @@ fn ordered_changes<'a>(
 /// lines.
 ///
 /// # Errors
-/// `OutOfBounds` where an edit ends behind the source's end, else `Overlap` where two edits overlap; `Memory` where
+/// `OutOfBounds` where an edit ends after the source's end, else `Overlap` where two edits overlap; `Memory` where
 /// memory is refused.
 pub fn changes<'a>(alloc: Global, source: &'a [u8], fix: &Fix) -> Result<Vec<Change<'a>>, FixError>
     ensures ok { IfOk result (λ made.

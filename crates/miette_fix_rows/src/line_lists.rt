@@ -39,7 +39,7 @@ pub(crate) enum Side {
     Back,
 }
 
-// The line of a list that is met behind so many others.
+// The line of a list that is met after `i` others.
 fn line_from<'a>(side: Side, lines: &[&'a [u8]], i: usize) -> &'a [u8]
     requires { i < length lines.now }
     ensures { result.now ≡ get_or (met_from side (texts_of lines.now)) i [] }

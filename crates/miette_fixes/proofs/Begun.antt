@@ -153,7 +153,7 @@ pair_apart (x ∷ xs) a n b m h first next before =
 
 -- ---- the last beginning up to an edit's offset, and the first one from there on
 
--- an edit that begins at an offset, or in front of it and ends behind it
+-- an edit that begins at an offset, or before it and ends after it
 meets_parts : (e x : Replacement) → meets_from e x ≡ true → (x.span.offset ≤ e.span.offset)
     × (eqb x.span.offset e.span.offset ≡ false → e.span.offset < end_of x)
 meets_parts e x h =

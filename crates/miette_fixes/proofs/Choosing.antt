@@ -56,7 +56,7 @@ taken_length : (n : ℕ) (before fixes : List (List Replacement)) → length (ta
 taken_length n before [] = refl
 taken_length n before (f ∷ fixes) = ap suc (taken_length n (counted_with n before f) fixes)
 
--- more fixes are left behind one than flags tell
+-- more fixes are left after one than flags tell
 pub chosen_last : (n : ℕ) (given rest after before : List (List Replacement)) (begun : BTreeMap ℕ Beginning)
     (fix : List Replacement) (flags : List Bool) → AreChosen n given rest before begun flags → rest ≡ fix ∷ after
     → 0 < length after → length flags + 1 < length given

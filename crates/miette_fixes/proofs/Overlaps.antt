@@ -85,7 +85,7 @@ overlap_by_offset (edit ∷ edits) = overlap_put edit (by_offset edits)
 
 -- ---- of edits in their order
 
--- an edit that ends before another one begins overlaps none behind that
+-- an edit that ends before another one begins overlaps none after that
 none_further : (a e : Replacement) (edits : List Replacement) → end_of a ≤ e.span.offset
     → AllByRecursion (λ y. less y a ≡ false) edits → AllByRecursion (λ y. less y e ≡ false) edits
     → list_any (overlap a) edits ≡ false

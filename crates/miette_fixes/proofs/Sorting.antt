@@ -211,7 +211,7 @@ order_of f lt is = record {
 pub less_order : IsStrictWeakOrder less
 less_order = order_of (λ edit. edit) less (λ x y. refl)
 
--- An edit that isn't behind another one doesn't begin behind it, and isn't longer where they begin at one offset.
+-- An edit that isn't after another one doesn't begin after it, and isn't longer where they begin at one offset.
 pub not_behind : (edit other : Replacement) → is_behind edit other ≡ false
     → (edit.span.offset ≤ other.span.offset) × (other.span.offset ≡ edit.span.offset → edit.span.len ≤ other.span.len)
 not_behind edit other h = from_false other.span.offset other.span.len edit.span.offset edit.span.len h

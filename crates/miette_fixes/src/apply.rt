@@ -13,7 +13,7 @@ use crate::error::FixError;
 use crate::order::sorted;
 use std::alloc::{AllocError, Global};
 
-// Whether an edit ends behind the end of a source of so many bytes.
+// Whether an edit ends after the end of a source of `length` bytes.
 fn is_outside(length: usize, edit: &Edit) -> bool
     ensures { result ≡ ends_behind length edit.now }
 {
@@ -32,7 +32,7 @@ fn some_outside(length: usize, edits: &[Edit]) -> bool
     false
 }
 
-// Whether one of these edits begins before the one before it ends. None ends behind the source's end.
+// Whether one of these edits begins before the one before it ends. None ends after the source's end.
 fn some_cross(length: usize, edits: &[&Edit]) -> bool
     requires { list_any (ends_behind length) (edits_of edits.now) ≡ false }
     ensures { result ≡ crosses_from 0 (edits_of edits.now) }
@@ -85,10 +85,10 @@ pub fn spliced(
     Ok(text)
 }
 
-/// The edits by offset, where they can be applied to a source of so many bytes.
+/// The edits by offset, where they can be applied to a source of `length` bytes.
 ///
 /// # Errors
-/// `OutOfBounds` where an edit ends behind the source's end, else `Overlap` where two edits overlap; `Memory` where
+/// `OutOfBounds` where an edit ends after the source's end, else `Overlap` where two edits overlap; `Memory` where
 /// memory is refused.
 pub fn checked<'a>(
     alloc: Global,

@@ -38,7 +38,7 @@ fn meets_before(edit: &Edit, begun: &Beginnings) -> bool
     }
 }
 
-// Whether the next one at an edit's offset, or behind it, begins inside the edit.
+// Whether the next one at an edit's offset, or after it, begins inside the edit.
 fn meets_behind(edit: &Edit, begun: &Beginnings) -> bool
     ensures { (lists : List (List Replacement)) → AreBegun begun.now lists →
         result ≡ list_any (is_inside edit.now) (all_of lists) }
@@ -100,7 +100,7 @@ fn greatest_len(edit: &Edit, begun: &Beginnings) -> usize
     }
 }
 
-// With a further list of edits, behind so many.
+// With a further list of edits, after `list` others.
 fn with_edits(mut begun: Beginnings, list: usize, edits: &[Edit]) -> Result<Beginnings, AllocError>
     ensures { IfOk result (λ it. (lists : List (List Replacement)) → AreBegun begun lists →
         list ≡ length lists → AreBegun it (lists ++ edits.now ∷ [])) }
@@ -112,7 +112,7 @@ fn with_edits(mut begun: Beginnings, list: usize, edits: &[Edit]) -> Result<Begi
     Ok(begun)
 }
 
-/// With a further list of edits, behind so many, where more are to come: of the last one nobody asks.
+/// With a further list of edits, after `list` others, where more are to come: of the last one nobody asks.
 ///
 /// # Errors
 /// `AllocError` where memory is refused.

@@ -9,7 +9,7 @@ use std::fmt;
 /// Why a fix was not applied.
 #[derive(Clone, Copy, Debug, PartialEq, Eq)]
 pub enum FixError {
-    /// An edit ends behind the end of the source.
+    /// An edit ends after the end of the source.
     OutOfBounds,
     /// Two edits overlap.
     Overlap,

@@ -9,7 +9,7 @@ ghost use Rattle.miette_fixes.specs.views.Ordered.{edits_of};
 use crate::edit::Edit;
 use std::alloc::{AllocError, Global};
 
-/// References to these edits behind those of a list.
+/// References to these edits after those of a list.
 ///
 /// # Errors
 /// `AllocError` where memory is refused.
@@ -25,14 +25,14 @@ pub(crate) fn extended<'a>(
     Ok(list)
 }
 
-// Whether an edit comes behind another one: by offset, then by length.
+// Whether an edit comes after another one: by offset, then by length.
 fn comes_behind(edit: &Edit, other: &Edit) -> bool
     ensures { result ≡ is_behind edit.now other.now }
 {
     other.offset() < edit.offset() || (other.offset() == edit.offset() && other.len() < edit.len())
 }
 
-// Whether no edit comes behind the one after it.
+// Whether no edit comes after the next one.
 fn ascend(edits: &[&Edit]) -> bool
     ensures { result ≡ ascends (edits_of edits.now) }
 {
@@ -56,8 +56,7 @@ pub(crate) fn sort(edits: &mut Vec<&Edit>) -> Result<(), AllocError>
     if ascend(edits) {
         return Ok(());
     }
-    edits.sort_by_key(|edit| *edit.span())?;
-    Ok(())
+    edits.sort_by_key(|edit| *edit.span())
 }
 
 /// The edits by offset, then by length, ties as given.

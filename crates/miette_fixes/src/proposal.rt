@@ -122,8 +122,8 @@ impl Fix {
     /// The text of a source after this fix.
     ///
     /// # Errors
-    /// `OutOfBounds` where an edit ends behind the source's end, else `Overlap` where two edits overlap;
-    /// `Memory` where memory is refused.
+    /// `OutOfBounds` where an edit ends after the source's end, else `Overlap` where two edits overlap; `Memory` where
+    /// memory is refused.
     pub fn apply(&self, alloc: Global, source: &[u8]) -> Result<Vec<u8>, FixError>
         ensures ok { IfOk result (λ text.
             (refusal (length source.now) self.now.edits ≡ None) × (text.items ≡ applied source.now self.now.edits)) }

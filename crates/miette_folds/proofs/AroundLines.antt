@@ -104,7 +104,7 @@ some_numbered lent all some first many is h =
 
 -- ---- the bounds, label by label
 
--- so many labels go no further than so many entries say, and than the greatest of them so far
+-- the first `count` labels go no further than their entries say, nor than the greatest of these
 pub record AreUntils (labels : List MadeSpread) (made : List ℕ) (count greatest : ℕ) : Type 0 where
   pub many : length made ≡ count
   pub until : (j k : ℕ) (d : MadeSpread) → j ≤ k → k < count → max (get_or labels j d).until (get_or labels j d).from

@@ -94,7 +94,7 @@ next_begins start bytes labels folds place line jumps e h =
     subst (λ (fs : List Fold). Begins start bytes (next_start fs place line jumps).offset
     (next_start fs place line jumps).place) (sym e) (next_begins_in start bytes labels place line jumps h)
 
--- a gap ends behind its first line
+-- a gap ends after its first line
 
 gap_further : (some : LineStart → Bool) (next : LineStart) (end : Option LineStart) → next.offset
     ≤ (option_map_or (λ e. cond (some e) (further next e) next) end next).offset
@@ -138,7 +138,7 @@ below_all e line end (fold ∷ folds) is =
     below_by (leb line.end fold.label.from) (ltb line.start fold.label.until) e end fold.begun fold.resumed
     (below_all e line (nearer_stop line end fold) folds is)
 
--- it lies no further than where a label's context begins behind the first line, or where the lines of one around it are
+-- it lies no further than where a label's context begins after the first line, or where the lines of one around it are
 -- shown again
 abbrev StopsAt : Line → LineStart → Fold → Type 0
 StopsAt line e fold = (leb line.end fold.label.from ≡ true → e.offset ≤ fold.begun.offset)
@@ -160,7 +160,7 @@ stops_all e line end (fold ∷ folds) is = (
   stops_all e line (nearer_stop line end fold) folds is,
 )
 
--- a line, and which it is, behind one beginning and before another
+-- a line, and which it is, after one beginning and before another
 pub record IsBetween (from to : LineStart) (place : ℕ) (line : Line) : Type 0 where
   pub first : from.place ≤ place
   pub last : place < to.place
@@ -191,7 +191,7 @@ not_near true true e = refl
 not_near true false e = absurd (cc)
 not_near false h e = refl
 
--- a label hides the lines behind one that it hides, up to where it shows its lines again
+-- a label hides the lines after one that it hides, up to where it shows its lines again
 hides_on : (limit first last around place k : ℕ) → hides limit first last around place ≡ true → place ≤ k → k < last
     - around → hides limit first last around k ≡ true
 hides_on limit first last around place k h le lt =

@@ -11,7 +11,7 @@ use Rattle.miette_snippet_rules.proofs.NeverHidden.{first_shown, no_line}
 
 -- ---- lines by their numbers
 
--- what stands behind the first so many lines begins with the line of that number
+-- what stands after the first `k` lines begins with the line of that number
 pub at_drop : (k : ℕ) (ls rest : List Line) (l : Line) → drop k ls ≡ l ∷ rest → line_at ls k ≡ l
 at_drop zero [] rest l e = let none : [] ≡ l ∷ rest = e in absurd (cc)
 at_drop zero (x ∷ ls) rest l e = let whole : x ∷ ls ≡ l ∷ rest = e in let first : x ≡ l = cc in first
@@ -26,7 +26,7 @@ at_end k [] e = refl
 at_end zero (x ∷ ls) e = let none : x ∷ ls ≡ [] = e in absurd (cc)
 at_end (suc k) (x ∷ ls) e = at_end k ls e
 
--- ---- by the line before, and the one behind
+-- ---- by the line before, and the one after
 
 -- the line before is left out where it is hidden, since the line is
 gap_is : (before far here gap : Bool) → gap ≡ (before && (far || here)) → here ≡ true → gap ≡ before
@@ -56,7 +56,7 @@ gap_hidden limit lines rest labels place line gap there is own =
     is ∙ and_left before (is_beside_hidden limit lines labels (place - 1)) shown ∙ sym shown)
     (cases_lt 0 place)
 
--- a line behind one that is left out, or before one that is hidden
+-- a line after one that is left out, or before one that is hidden
 pub beside_before : (limit : ℕ) (lines rest : List Line) (labels : List Spread) (place : ℕ) (line : Line) (gap : Bool)
     → drop place lines ≡ line ∷ rest
     → gap ≡ leaves_out (Some limit) lines labels (place - 1) (line_at lines (place - 1))
@@ -78,7 +78,7 @@ beside_behind limit lines rest labels place line gap result there is own out nex
     sym (gap_hidden limit lines rest labels place line gap there is own) ∙ out in
     next ∙ sym (ap (λ b. b || is_hidden limit lines labels (place + 1) (line_at lines (place + 1))) before)
 
--- ---- the line behind one, among those of some bytes
+-- ---- the line after one, among those of some bytes
 
 pub next_is : (start : ℕ) (bytes : List ℕ) (place : ℕ) (line next : Line) (more : List Line) → start ≤ line.end
     → drop place (P.lines_from start bytes) ≡ line ∷ P.lines_from line.end (drop (line.end - start) bytes)

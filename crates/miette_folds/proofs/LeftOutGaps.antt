@@ -53,7 +53,7 @@ between_begins start bytes from to j a b order le lt =
     between_run from to (P.lines_from start bytes) r.run (P.lines_from to.offset (drop (to.offset - start) bytes))
     from.offset from.place j (a.lines ∙ r.parts) r.cut (omega arith) (omega arith) r.size le lt
 
--- ---- a line, what stands behind it, and where a program goes on
+-- ---- a line, what stands after it, and where a program goes on
 
 -- what is known of a line of some bytes, and of the folds among their lines
 pub record IsPassed (start : ℕ) (bytes : List ℕ) (labels : List MadeSpread) (folds : List Fold) (place : ℕ)

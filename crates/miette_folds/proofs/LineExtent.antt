@@ -51,7 +51,7 @@ on_first line later p ok own after some before on =
     (λ ge. (inside_past b p ok ge before past).1)
     (cases_lt p.start line.start)
 
--- a label that begins at a line's end or behind it doesn't
+-- a label that begins at a line's end or after it doesn't
 not_later : (later : Line) (p : PlacedLabel) → p.start ≤ p.after → later.start < later.end → later.end ≤ p.start
     → is_multi later p ≡ true → ⊥
 not_later later p ok some ge on =
@@ -113,7 +113,7 @@ most_run labels m n (l ∷ run) rest le h =
 
 -- ---- the loop over the lines
 
--- so many lines before a place are counted, with the greatest number of labels of several lines on one of them, and the
+-- the first `place` lines are counted, with the greatest number of labels of several lines on one of them, and the
 -- sweep's place
 pub record AreCounted (labels : List PlacedLabel) (start : ℕ) (bytes : List ℕ) (at place most next : ℕ)
     (running : List PlacedLabel) : Type 0 where
@@ -153,7 +153,7 @@ turned false false h = refl
 max_turned : (a b c : ℕ) → max (max a b) c ≡ max b (max a c)
 max_turned a b c = omega arith
 
--- the greatest number behind a gap
+-- the greatest number after a gap
 most_behind : (labels : List PlacedLabel) (start : ℕ) (bytes : List ℕ) (line : Line) (next most : ℕ)
     (near far : LineStart) (jumps : Bool) → AreSorted labels → line.start < line.end → near.offset ≡ line.end →
     ((k : ℕ) → k < next → start_at labels k < line.end) → length (filter (is_multi line) labels) ≤ most
@@ -252,7 +252,7 @@ counted_more labels start bytes folds at place most most' next next' running on 
     counted_more_to labels start bytes at place most most' next next' running on running' line first far jumps sorted h
     part low some to is m (λ f. e ∙ not_jumped folds place l jumps f) clear b le state
 
--- the lines behind one are counted at once, where no label begins behind it
+-- the lines after one are counted at once, where no label begins after it
 pub counted_rest : (labels : List PlacedLabel) (start : ℕ) (bytes : List ℕ) (at place most most' next next' : ℕ)
     (running on running' : List PlacedLabel) (line : LineOfText) (first : ℕ) (far : LineStart) → AreSorted labels →
     AreCounted labels start bytes at place most next running →

@@ -1,5 +1,5 @@
--- What a read lent is a part of its source's bytes, so the numbers of the lines of labels are true among the lines that
--- it lent.
+-- A read's contents are a part of its source's bytes, so the numbers of the lines of labels are true among the lines of
+-- the contents.
 use Rattle.std.proofs.Common.{ℕ, zero, suc, ◌+◌, ◌-◌, ◌≤◌, ◌≡◌, min, max, Bool, true, false, cond, ◌&&◌, List, length}
 use Rattle.std.proofs.Common.{take, drop, get_or, refl, sym, ap, ap₂, ◌∙◌, inl, inr, subst, arith, All}
 use Rattle.std.specs.Prelude.{◌==◌, count_by, slice_index, slice_range}
@@ -79,8 +79,8 @@ ends_whole bytes span (suc c) =
 
 -- ---- a part of the bytes
 
--- what was lent is a part of the bytes that the span's offset lies in, parts no CRLF at its end, and says which lines
--- it has
+-- the contents are a part of the bytes that the span's offset lies in, part no CRLF at their end, and say which lines
+-- they have
 pub record IsPart (bytes : List ℕ) (span : Span) (lent : Contents) : Type 0 where
   pub from : lent.span.offset ≤ span.offset
   pub to : span.offset ≤ end_of_span lent.span
@@ -121,7 +121,7 @@ part_lent context source span lent h = subst (λ (c : Contents). IsPart source.b
 
 -- ---- the line of an offset that a read reaches
 
--- it stands so far into what the read lent
+-- it stands so far into the read's contents
 reached : (bytes : List ℕ) (span : Span) (lent : Contents) (offset before : ℕ) → IsPart bytes span lent
     → offset ≤ end_of_span lent.span → before ≡ min (offset - lent.span.offset) (length lent.bytes)
     → before ≡ offset - lent.span.offset
@@ -188,7 +188,7 @@ label_lines context source labels r label h f l b first last from =
       from = from ∙ p.line ∙ ap (line_of source.bytes) (sym b);
     }
 
--- ---- among the lines that a read lent
+-- ---- among the lines of a read's contents
 
 lent_place : (bytes : List ℕ) (span : Span) (lent : Contents) (o : ℕ) → IsPart bytes span lent →
     place_among (lines_of_contents lent) o + lent.line ≡ line_of bytes
@@ -237,7 +237,7 @@ label_numbered bytes span lent label p h = record {
   from = lent_placed bytes span lent label.from label.from_line p h.from;
 }
 
--- the labels' numbers are true among the lines that the read of a group lent
+-- the labels' numbers are true among the lines of the contents of a group's read
 pub are_numbered : (context : ℕ) (source : Source) (span : Span) (lent : Contents) (labels : List MadeSpread)
     → IsLent context source span lent → All (HasLines source.bytes) labels → AreNumbered lent labels
 are_numbered context source span lent labels h all =

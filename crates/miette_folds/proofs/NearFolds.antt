@@ -25,7 +25,7 @@ pub labels_of : (start : ℕ) (bytes : List ℕ) (labels : List MadeSpread)
 labels_of start bytes [] = refl
 labels_of start bytes (label ∷ labels) = ap (λ ls. label ∷ ls) (labels_of start bytes labels)
 
--- the labels before one end before a line, and those from another one on begin behind it
+-- the labels before one end before a line, and those from another one on begin after it
 pub record IsNear (line : Line) (folds : List Fold) (first behind : ℕ) : Type 0 where
   pub order : first ≤ behind
   pub within : behind ≤ length folds
@@ -183,7 +183,7 @@ stop_dropped line (f ∷ folds) (suc n) end u b =
     (λ k d lt. b (suc k) d (omega (arith, lt)))
     ∙ ap (λ e. nearest_stop line e folds) (sym (stop_before line f end (u 0 f (omega arith)) (b 0 f (omega arith))))
 
--- of labels that begin behind a line each stops lines where its context begins
+-- of labels that begin after a line each stops lines where its context begins
 stop_behind_all : (line : Line) (folds : List Fold) (end : Option LineStart)
     → ((k : ℕ) (d : Fold) → k < length folds → line.end ≤ (get_or folds k d).label.from) →
     nearest_stop line end folds ≡ nearer_of end (first_begun folds)

@@ -59,7 +59,7 @@ drop_lines at [] (suc k) = drop-nil (suc k)
 drop_lines at (b ∷ bs) (suc k) = drop_step (ends_line b (slice_index bs 0)) b at k bs (P.lines_from (at + 1) bs)
     (λ j. drop_lines (at + 1) bs j)
 
--- one of the lines of some bytes begins at an offset, or all of them end there, and so many stand before it
+-- one of the lines of some bytes begins at an offset, or all of them end there, and `place` of them stand before it
 pub record Begins (start : ℕ) (bytes : List ℕ) (offset place : ℕ) : Type 0 where
   pub low : start ≤ offset
   pub high : offset ≤ start + length bytes
@@ -78,7 +78,7 @@ begins_first start bytes =
       lines = ap (λ n. P.lines_from n bytes) sums ∙ ap (λ n. P.lines_from (start + 0) (drop n bytes)) none;
     }
 
--- a line that begins there, and those behind it
+-- a line that begins there, and those after it
 pub begun_line : (start : ℕ) (bytes : List ℕ) (at place : ℕ) (line : LineOfText) → Begins start bytes (start + at) place
     → P.lines_from (start + at) (drop at bytes) ≡ line_of_text line
     ∷ P.lines_from line.end (drop (line.end - start) bytes) →
@@ -87,7 +87,7 @@ begun_line start bytes at place line h part =
     let same : start + at - start ≡ at = omega arith in
     h.lines ∙ ap (λ n. P.lines_from (start + at) (drop n bytes)) same ∙ part
 
--- the line behind one
+-- the line after one
 pub begins_next : (start : ℕ) (bytes : List ℕ) (at place : ℕ) (line : LineOfText)
     → Begins start bytes (start + at) place →
     P.lines_from (start + at) (drop at bytes) ≡ line_of_text line
@@ -106,7 +106,7 @@ begins_next start bytes at place line h part low to =
       lines = sym (drop-drop 1 place ls) ∙ ap (drop 1) here;
     }
 
--- behind the last line
+-- after the last line
 pub begins_end : (start : ℕ) (bytes : List ℕ) (offset place : ℕ) → offset ≡ start + length bytes → place
     ≡ length (P.lines_from start bytes) → Begins start bytes offset place
 begins_end start bytes offset place end all =

@@ -19,7 +19,7 @@ use miette_source_lines::lines::LineOfText;
 use miette_source_lines::scan::Scan;
 use std::alloc::AllocError;
 
-// So many bytes are looked at line by line, which costs less than to count their lines at once.
+// Up to this many bytes are looked at line by line, which costs less than to count their lines at once.
 const FEW: usize = 512;
 
 /// How many lines there are, and the greatest number of labels of several lines on one of them.
@@ -38,7 +38,7 @@ fn begins_before(labels: &[PlacedLabel<'_>], first: usize, offset: usize) -> boo
     first < labels.len() && labels[first].start < offset
 }
 
-// Where the line begins that is counted after a line that a sweep has left, before which so many stand. On no line in
+// Where the line begins that is counted after a line that a sweep has left, before which `place` stand. On no line in
 // between lie more labels of several lines than on it, as no label begins there.
 fn next_counted(
     labels: &[PlacedLabel<'_>],
@@ -74,7 +74,7 @@ fn count_lines(bytes: &[u8]) -> usize
 }
 
 // Whether the lines after a line that a sweep has left are counted at once: no folded label goes on past it, no label
-// begins after it and before the end, and there are so many bytes that it pays.
+// begins after it and before the end, and there are enough bytes that it pays.
 fn counts_rest(
     labels: &[PlacedLabel<'_>],
     sweep: &Sweep<'_>,
@@ -88,7 +88,7 @@ fn counts_rest(
     !jumps && end.saturating_sub(line.end) > FEW && !begins_before(labels, sweep.next, end)
 }
 
-// Where some bytes end, behind one of their lines, before which so many stand; the lines behind it are counted at once.
+// Where some bytes end, after one of their lines, before which `place` stand; the lines after it are counted at once.
 fn counted_end(bytes: &[u8], start: usize, place: usize, line: &LineOfText) -> LineStart
     requires order { start ≤ line.now.end }
     requires inside { line.now.end ≤ start + length bytes.now }
@@ -105,8 +105,8 @@ fn counted_end(bytes: &[u8], start: usize, place: usize, line: &LineOfText) -> L
 }
 
 /// The lines of some bytes of a source, which begin at this offset where the sweep is, are counted: those that are left
-/// out inside the folded labels without a look at them, many behind the line where the last label begins at once. The
-/// sweep goes on to their end. `AllocError` where memory is refused.
+/// out inside the folded labels without a look at them, and many after the line where the last label begins at once.
+/// The sweep goes on to their end. `AllocError` where memory is refused.
 pub fn extent_of<'a>(
     bytes: &[u8],
     start: usize,

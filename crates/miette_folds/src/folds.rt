@@ -21,7 +21,7 @@ pub struct Spread {
     pub last: usize,
     /// The offset where its context begins.
     pub from: usize,
-    /// The offset behind its context, which counts as at least one byte.
+    /// The offset after its context, which counts as at least one byte.
     pub until: usize,
     /// How many lines are shown around it.
     pub around: usize,
@@ -57,14 +57,14 @@ pub struct Fold {
     pub resumed: LineStart,
 }
 
-// Which of the lines that a read lent a line with this number is; behind the last one, how many are terminated.
+// Which of the lines of a read's contents a line with this number is; after the last one, how many are terminated.
 fn place_in(lent: &MietteSpanContents<'_>, line: usize) -> usize
     ensures { result ≡ place_in lent.now line }
 {
     line.saturating_sub(lent.line()).min(lent.line_count())
 }
 
-// Where the line begins that stands so many lines before the one that an offset lies on, by which line that is.
+// Where the line begins that stands `lines` lines before the one that an offset lies on, by which line that is.
 fn start_above(bytes: &[u8], start: usize, offset: usize, place: usize, lines: usize) -> LineStart
     requires small { start + length bytes.now < 2 ^ 64 }
     requires place { place ≡ place_among (lines_from start bytes.now) offset }
@@ -77,7 +77,7 @@ fn start_above(bytes: &[u8], start: usize, offset: usize, place: usize, lines: u
     }
 }
 
-// A label among the lines that a read lent.
+// A label among the lines of a read's contents.
 fn fold_in(lent: &MietteSpanContents<'_>, label: &Spread) -> Fold
     requires small { lent.now.span.offset + length lent.now.bytes < 2 ^ 64 }
     requires numbered { IsNumbered lent.now label.now }
@@ -96,7 +96,7 @@ fn fold_in(lent: &MietteSpanContents<'_>, label: &Spread) -> Fold
     }
 }
 
-/// Labels among the lines that a read lent, one after the other. `AllocError` where memory is refused.
+/// Labels among the lines of a read's contents, one after the other. `AllocError` where memory is refused.
 pub fn fold_list(
     alloc: Global,
     lent: &MietteSpanContents<'_>,

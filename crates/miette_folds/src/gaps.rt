@@ -20,7 +20,7 @@ fn further(a: LineStart, b: LineStart) -> LineStart
     }
 }
 
-// Where lines behind one that is left out stop because of a label, if they go on to here.
+// Where lines after one that is left out stop because of a label, if they go on to here.
 fn nearer_stop(line: &LineOfText, end: Option<LineStart>, fold: &Fold) -> Option<LineStart>
     ensures { result ≡ nearer_stop (line_of_text line.now) end fold.now }
 {
@@ -33,7 +33,7 @@ fn nearer_stop(line: &LineOfText, end: Option<LineStart>, fold: &Fold) -> Option
     }
 }
 
-// Where lines behind one that is left out stop because of some label, if they go on to here.
+// Where lines after one that is left out stop because of some label, if they go on to here.
 fn nearest_stop(line: &LineOfText, stop: Option<LineStart>, folds: &[Fold]) -> Option<LineStart>
     ensures { result ≡ nearest_stop (line_of_text line.now) stop folds.now }
 {
@@ -63,8 +63,8 @@ fn some_goes_on(line: &LineOfText, end: LineStart, folds: &[Fold]) -> bool
     false
 }
 
-// Where a gap ends, behind its first line, whose next one begins there. Each line before
-// the end is left out: a label that hides the first one hides it too, and no label's context begins before.
+// Where a gap ends, after its first line, whose next one begins there. Each line before the end is left out: a label
+// that hides the first one hides it too, and no label's context begins before.
 fn gap_end(line: &LineOfText, next: LineStart, folds: &Folds) -> LineStart
     ensures { result ≡ gap_end (line_of_text line.now) next folds.now }
 {
@@ -79,8 +79,8 @@ fn gap_end(line: &LineOfText, next: LineStart, folds: &Folds) -> LineStart
     }
 }
 
-/// Where the line begins that is looked at behind a line, before which so many stand: the next one. Or where the line
-/// is left out, and those behind it may be passed over, the one behind the gap that begins with it.
+/// Where the line begins that is looked at after a line, before which `place` stand: the next one. Or where the line is
+/// left out, and those after it may be passed over, the one after the gap that begins with it.
 pub fn next_start(folds: &Folds, place: usize, line: &LineOfText, jumps: bool) -> LineStart
     requires { place + 1 < 2 ^ 64 }
     ensures { result ≡ next_start folds.now place (line_of_text line.now) jumps }

@@ -28,7 +28,7 @@ pub struct PlacedLine<'a> {
     pub line: LineOfText,
 }
 
-// Whether a label that is folded to so many lines hides the line at a place.
+// Whether a label that is folded to `limit` lines hides the line at a place.
 fn hides_line(limit: usize, place: usize, fold: &Fold) -> bool
     ensures { result ≡ hides limit fold.now.first fold.now.last fold.now.label.around place }
 {
@@ -38,7 +38,7 @@ fn hides_line(limit: usize, place: usize, fold: &Fold) -> bool
     limit <= fold.last.saturating_sub(fold.first) && is_inside
 }
 
-// Whether a line lies in the context of a label that is folded to so many lines.
+// Whether a line lies in the context of a label that is folded to `limit` lines.
 fn is_near(limit: usize, place: usize, line: &LineOfText, fold: &Fold) -> bool
     ensures { result ≡ is_near_fold limit place (line_of_text line.now) fold.now }
 {
@@ -57,7 +57,7 @@ fn some_around(folds: &[Fold], line: &LineOfText) -> bool
     false
 }
 
-// Whether a line lies in the context of some label that is folded to so many lines.
+// Whether a line lies in the context of some label that is folded to `limit` lines.
 fn some_near(limit: usize, folds: &[Fold], place: usize, line: &LineOfText) -> bool
     ensures { result ≡ list_any (is_near_fold limit place (line_of_text line.now)) folds.now }
 {
@@ -69,7 +69,7 @@ fn some_near(limit: usize, folds: &[Fold], place: usize, line: &LineOfText) -> b
     false
 }
 
-// Whether a line is hidden where labels are folded to so many lines: it lies in their contexts, but not as they are
+// Whether a line is hidden where labels are folded to `limit` lines: it lies in their contexts, but not as they are
 // folded.
 fn is_hidden(limit: usize, folds: &Folds, place: usize, line: &LineOfText) -> bool
     ensures { (start : ℕ) (bytes : List ℕ) (labels : List Spread) →
@@ -83,7 +83,7 @@ fn is_hidden(limit: usize, folds: &Folds, place: usize, line: &LineOfText) -> bo
     some_around(near.folds, line)
 }
 
-// Whether the line behind a line is hidden.
+// Whether the line after a line is hidden.
 fn is_next_hidden(limit: usize, folds: &Folds, at: &PlacedLine<'_>) -> bool
     requires { IsPlaced at.now }
     ensures { (labels : List Spread) → AreAmong at.now folds.now labels →
@@ -113,7 +113,7 @@ fn is_beside_hidden(limit: usize, folds: &Folds, at: &PlacedLine<'_>, gap: bool)
     is_next_hidden(limit, folds, at)
 }
 
-// Whether a line is left out where labels are folded to so many lines.
+// Whether a line is left out where labels are folded to `limit` lines.
 fn is_left_out(limit: usize, folds: &Folds, at: &PlacedLine<'_>, gap: bool) -> bool
     requires { IsPlaced at.now }
     ensures { (labels : List Spread) → AreAmong at.now folds.now labels →
@@ -128,7 +128,7 @@ fn is_left_out(limit: usize, folds: &Folds, at: &PlacedLine<'_>, gap: bool) -> b
 }
 
 /// Whether a line of a snippet is left out, where it is known whether the one before it is: it lies in the contexts of
-/// labels, but not as they are folded to so many lines, and so does a line beside it.
+/// labels, but not as they are folded to `limit` lines, and so does a line beside it.
 pub fn leaves_out(limit: Option<usize>, folds: &Folds, at: &PlacedLine<'_>, gap: bool) -> bool
     requires small { at.now.start + length at.now.bytes.now < 2 ^ 64 }
     requires place { at.now.place + 1 < 2 ^ 64 }

@@ -37,12 +37,12 @@ impl Model for Folds {
     ghost invariant = { λ s. AreIndexed s.all.items s.stops.items s.bounds.untils.items s.bounds.froms.items };
 }
 
-/// The labels that a line may touch, and where the nearest context of those behind them begins.
+/// The labels that a line may touch, and where the nearest context of those after them begins.
 #[derive(Clone, Copy)]
 pub struct Near<'a> {
     /// These labels, one after the other.
     pub folds: &'a [Fold],
-    /// Where the line begins on which the nearest context of the labels behind them does.
+    /// Where the line begins on which the nearest context of the labels after them does.
     pub stop: Option<LineStart>,
 }
 
@@ -59,7 +59,7 @@ pub fn nearest(end: Option<LineStart>, stop: LineStart) -> LineStart
     }
 }
 
-// Where the nearest contexts of the last so many labels begin.
+// Where the nearest context of the last label begins, that of the last two, and so on.
 fn stops_of(alloc: Global, folds: &[Fold]) -> Result<Vec<LineStart>, AllocError>
     ensures { IfOk result (λ made. AreStops folds.now made.items) }
 {
@@ -84,7 +84,7 @@ fn stop_behind(stops: &[LineStart], behind: usize) -> Option<LineStart>
     None
 }
 
-/// Labels among the lines that a read lent. `AllocError` where memory is refused.
+/// Labels among the lines of a read's contents. `AllocError` where memory is refused.
 pub fn folds_in(
     alloc: Global,
     lent: &MietteSpanContents<'_>,

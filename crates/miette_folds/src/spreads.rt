@@ -45,7 +45,7 @@ fn last_byte(read: &ReadLabel<'_>) -> Result<usize, AllocError>
     Ok(end.saturating_sub(1).max(start))
 }
 
-// The offset behind a span, which counts as at least one byte.
+// The offset after a span, which counts as at least one byte.
 fn behind(span: &SourceSpan) -> Result<usize, AllocError>
     ensures { IfOk result (λ end. end ≡ max (end_of_span span.now) (span.now.offset + 1)) }
 {
@@ -55,7 +55,7 @@ fn behind(span: &SourceSpan) -> Result<usize, AllocError>
     Ok(end_of(span)?.max(next))
 }
 
-// The number of the line of an offset of some bytes, counted from 0; the bytes behind it aren't looked at.
+// The number of the line of an offset of some bytes, counted from 0; the bytes after it aren't looked at.
 fn line_of(bytes: &[u8], offset: usize) -> usize
     requires { offset ≤ length bytes.now }
     ensures { result ≡ line_of bytes.now offset }
@@ -63,7 +63,7 @@ fn line_of(bytes: &[u8], offset: usize) -> usize
     Scan(bytes).line_from(0, 0, offset)
 }
 
-// How many of the bytes that a read lent stand before an offset of the source.
+// How many of the bytes of a read's contents stand before an offset of the source.
 fn bytes_before(lent: &MietteSpanContents<'_>, offset: usize) -> usize
     ensures { result ≡ min (offset - lent.now.span.offset) (length lent.now.bytes) }
 {
@@ -72,7 +72,7 @@ fn bytes_before(lent: &MietteSpanContents<'_>, offset: usize) -> usize
         .min(lent.data().len())
 }
 
-// The number of the line that stands so many behind the one where a read's bytes begin.
+// The number of the line that stands `lines` lines after the one where a read's bytes begin.
 fn line_behind(lent: &MietteSpanContents<'_>, lines: usize) -> Result<usize, AllocError>
     ensures { IfOk result (λ line. line ≡ lent.now.line + lines) }
 {
@@ -82,14 +82,14 @@ fn line_behind(lent: &MietteSpanContents<'_>, lines: usize) -> Result<usize, All
     }
 }
 
-// The number of the line of an offset that a read reaches, by the lines that it lent before the offset.
+// The number of the line of an offset that a read reaches, by the lines of its contents before the offset.
 fn line_from_front(lent: &MietteSpanContents<'_>, offset: usize) -> Result<usize, AllocError>
     ensures { IfOk result (IsLineIn lent.now offset) }
 {
     line_behind(lent, line_of(lent.data(), bytes_before(lent, offset)))
 }
 
-// The number of the line of an offset that a read reaches, by the lines that it lent behind the offset.
+// The number of the line of an offset that a read reaches, by the lines of its contents after the offset.
 fn line_from_back(lent: &MietteSpanContents<'_>, offset: usize) -> Result<usize, AllocError>
     ensures { IfOk result (IsLineIn lent.now offset) }
 {

@@ -14,9 +14,9 @@ use std::marker::Model;
 /// How far the contexts of labels go.
 #[derive(Drop)]
 pub struct Bounds {
-    /// How far those of the first so many labels go at most.
+    /// How far those of the labels up to each one go at most.
     pub untils: Vec<usize>,
-    /// Where those of the last so many labels begin at least.
+    /// Where those of the labels from each one on begin at least, the last label first.
     pub froms: Vec<usize>,
 }
 
@@ -25,7 +25,7 @@ pub struct Bounds {
 pub struct Window {
     /// The index of the first one.
     pub first: usize,
-    /// The index behind the last one.
+    /// The index after the last one.
     pub behind: usize,
 }
 
@@ -49,7 +49,7 @@ impl Model for Spreads {
     ghost invariant = { λ s. AreBounds s.all.items s.bounds.untils.items s.bounds.froms.items };
 }
 
-// How far the contexts of the first so many labels go at most.
+// How far the contexts of the labels up to each one go at most.
 fn untils_of(alloc: Global, labels: &[Spread]) -> Result<Vec<usize>, AllocError>
     ensures many { IfOk result (λ made. length made.items ≡ length labels.now) }
     ensures until { IfOk result (λ made. (j k : ℕ) → (d : MadeSpread) → j ≤ k → k < length labels.now →
@@ -64,7 +64,7 @@ fn untils_of(alloc: Global, labels: &[Spread]) -> Result<Vec<usize>, AllocError>
     Ok(made)
 }
 
-// Where the contexts of the last so many labels begin at least.
+// Where the contexts of the labels from each one on begin at least, the last label first.
 fn froms_of(alloc: Global, labels: &[Spread]) -> Result<Vec<usize>, AllocError>
     ensures many { IfOk result (λ made. length made.items ≡ length labels.now) }
     ensures from { IfOk result (λ made. (j k : ℕ) → (d : MadeSpread) → k < length labels.now →
@@ -143,8 +143,7 @@ impl Spreads {
         Ok(Spreads { all, bounds })
     }
 
-    /// Labels one after the other, behind and in front of which none has a byte of its context from one offset up to
-    /// another.
+    /// Labels one after the other, before and after which none has a byte of its context from one offset up to another.
     pub fn around(&self, start: usize, end: usize) -> &[Spread]
         ensures around { AreAround start end self.now result.now }
         ensures numbered { (lent : Contents) → All (IsNumbered lent) self.now → All (IsNumbered lent) result.now }

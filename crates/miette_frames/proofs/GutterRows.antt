@@ -71,7 +71,7 @@ nothing_more ends.Arrow s line left = refl
 nothing_more ends.Corner s line left = refl
 nothing_more ends.Open s line left = refl
 
--- A page with the bars of the labels before an index: a bar more, the end at a label, the end behind the last one.
+-- A page with the bars of the labels before an index: a bar more, the end at a label, the end after the last one.
 pub bar_more : (end : GutterEnd) (s : SnippetSettings) (line : Line) (left less : ℕ) (placed : List PlacedLabel) (i : ℕ)
     (row new whole : Printout) → i < length placed → stops end line (drawn_of (get_or placed i nothing)) ≡ false
     → less ≡ left - 1 → new ≡ row ⊕ styled_tokens (get_or placed i nothing).style (s.theme.characters.vbar ∷ []) →

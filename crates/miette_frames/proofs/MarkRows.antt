@@ -35,7 +35,7 @@ constant f u from (suc n) h = rw (h from (omega arith) (omega arith))
 abbrev pub middle : Characters → Mark → ℕ
 middle t m = cond (is_empty m.label) t.uarrow (code_with_parts t m.label.parts)
 
--- a mark's characters, where its anchor is so many columns behind its start and before its end
+-- a mark's characters, where its anchor is `x` columns after its start and before its end
 codes_by : (t : Characters) (m : Mark) (x y : ℕ) → m.anchor ≡ m.from + x
     → map (mark_code t m) (range_with_len m.from (x + suc y)) ≡ (replicate x t.underline ++ middle t m ∷ [])
     ++ replicate y t.underline

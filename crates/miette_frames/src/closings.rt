@@ -29,7 +29,7 @@ fn closes(line: &LineOfText, label: &PlacedLabel<'_>) -> bool
     ends(line, label) && !starts(line, label)
 }
 
-// A part of a label's text, behind a gutter of so many columns and a bar.
+// A part of a label's text, after a gutter of `columns` columns and a bar.
 #[derive(Clone, Copy)]
 struct ClosingPart<'a> {
     end: GutterEnd,

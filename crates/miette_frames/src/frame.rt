@@ -8,7 +8,7 @@ ghost use Rattle.miette_page.specs.views.Printouts.{◌⊕◌};
 ghost use Rattle.miette_page.specs.views.Tokens.{row_tokens, rows_tokens, styled_tokens, text_tokens};
 ghost use Rattle.miette_snippet_rules.specs.rules.Frames.{top_row_of, bottom_row, location, location_of, place_text};
 ghost use Rattle.miette_snippet_rules.specs.rules.Frames.{refused_front, refused_row, text_or_none};
-ghost use Rattle.miette_snippet_rules.specs.views.SettingsView.{settings_of};
+ghost use Rattle.miette_snippet_rules.specs.views.Settings.{settings_of};
 ghost use Rattle.miette_frames.specs.steps.FrameParts.{corner_row};
 ghost use Rattle.miette_frames.specs.views.Places.{place_at};
 

@@ -115,7 +115,7 @@ fn push_gutter_end<O: Canvas>(
     }
 }
 
-/// The gutter of a row, in so many columns: a bar for each label before the first one at which the bars stop, then
+/// The gutter of a row, in `columns` columns: a bar for each label before the first one at which the bars stop, then
 /// its end: `│╭─▶ `, `│╰───` or `│    `. `AllocError` where memory is refused.
 pub fn push_gutter<O: Canvas>(
     page: &mut Page<O>,
@@ -150,7 +150,7 @@ fn push_bars<O: Canvas>(page: &mut Page<O>, context: &LineContext) -> Outcome
     Ok(())
 }
 
-/// The gutter of a break's row, behind the row's bar: a space, and a bar for each label that runs through: ` ││`;
+/// The gutter of a break's row, after the row's bar: a space, and a bar for each label that runs through: ` ││`;
 /// nothing where none does. `AllocError` where memory is refused.
 pub fn push_break_gutter<O: Canvas>(page: &mut Page<O>, context: &LineContext) -> Outcome
     ensures { OnOk result (page.new ≡ page.old ⊕ row_tokens

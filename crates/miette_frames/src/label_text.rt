@@ -10,7 +10,7 @@ use miette_page::canvas::Canvas;
 use miette_page::page::Page;
 use miette_style::style::Style;
 
-/// A text's first part, and the text behind the LF after it, if there is one.
+/// A text's first part, and the text after the LF that follows it, if there is one.
 pub(crate) fn first_part(text: &str) -> (&str, Option<&str>)
     ensures cut { cut_at_lf (chars text.now) ≡ chars result.0.now ∷ parts_of (option_copied result.1) }
     ensures shorter { IfSome result.1 (λ rest. length rest.now < length text.now) }

@@ -46,7 +46,7 @@ fn push_mark<O: Canvas>(page: &mut Page<O>, context: &LineContext, mark: &Mark) 
     page.push_copies(line, mark.until - mark.anchor - 1)
 }
 
-/// The marks, each behind the spaces before it: `  ──┬── ▲ ─┬─`. `AllocError` where memory is refused.
+/// The marks, each after the spaces before it: `  ──┬── ▲ ─┬─`. `AllocError` where memory is refused.
 pub fn push_marks<O: Canvas>(page: &mut Page<O>, context: &LineContext, marks: &[Mark]) -> Outcome
     requires { All IsAnchored marks.now }
     ensures { OnOk result (page.new ≡ page.old

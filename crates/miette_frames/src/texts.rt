@@ -47,7 +47,7 @@ pub fn push_before_marks<O: Canvas>(page: &mut Page<O>, context: &LineContext) -
     push_gutter(page, context, context.gutter, GutterEnd::Corner)
 }
 
-// The column behind the one from which a mark's text hangs.
+// The column after the one from which a mark's text hangs.
 fn behind_anchor(mark: &Mark) -> usize
     requires { IsAnchored mark.now }
     ensures { result ≡ mark.now.anchor + 1 }

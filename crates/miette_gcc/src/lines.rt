@@ -19,7 +19,7 @@ fn text_end_from(bytes: &[u8], start: usize) -> usize
     first_line(&bytes[start..], start).text_end
 }
 
-/// So many bytes, and further ones, behind the beginning of a line, but at most at the end of its text.
+/// `before` bytes, and `further` more, after the beginning of a line, but at most at the end of its text.
 fn within_line(bytes: &[u8], start: usize, before: u64, further: u64) -> usize
     requires { start ≤ length bytes.now }
     ensures { result ≡ within_line bytes.now start (before + further) }
@@ -30,7 +30,7 @@ fn within_line(bytes: &[u8], start: usize, before: u64, further: u64) -> usize
         .min(text_end_from(bytes, start))
 }
 
-/// The offset of what stands so many bytes, and further ones, behind the beginning of a line, the first with 1.
+/// The offset of what stands `before` bytes, and `further` more, after the beginning of a line, the first with 1.
 pub(crate) fn offset_at(
     source: &IndexedSource,
     line: u64,

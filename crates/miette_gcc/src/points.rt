@@ -45,7 +45,7 @@ impl<'v> Model for Point<'v> {
     } };
 }
 
-/// The bytes in front of a column; none where columns begin behind it.
+/// The bytes in front of a column; none where columns begin after it.
 fn before_column(origin: u64, column: Option<u64>) -> Option<u64>
     ensures { result ≡ before_column origin column }
 {
@@ -95,7 +95,7 @@ fn end_at<'v>(origin: u64, key: &str, location: &'v Value) -> Point<'v>
 }
 
 impl<'v> Point<'v> {
-    /// The offset of what stands so many bytes behind it, on its line.
+    /// The offset of what stands `further` bytes after it, on its line.
     fn offset(&self, source: &IndexedSource, further: u64) -> Option<usize>
         ensures { result ≡ offset_of source.now further self.now }
     {
@@ -103,7 +103,7 @@ impl<'v> Point<'v> {
     }
 }
 
-/// The bytes from one point up to what stands so many bytes behind another one.
+/// The bytes from one point up to what stands `further` bytes after another one.
 fn stretch_in(
     further: u64,
     start: &Point<'_>,
@@ -132,7 +132,7 @@ fn shared_file<'f, F: Files>(
     }
 }
 
-/// The place from one point up to what stands so many bytes behind another one.
+/// The place from one point up to what stands `further` bytes after another one.
 pub(crate) fn place_between<'v, F: Files>(
     files: &F,
     further: u64,

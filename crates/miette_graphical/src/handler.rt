@@ -2,7 +2,7 @@
 
 ghost use Rattle.std.specs.Prelude.{◌≡◌, ◌≤◌, Some, IfOk, false, true, chars, string_bytes};
 ghost use Rattle.miette_picture_rules.specs.views.Handling.{laid_out, without_highlighter, wrapped_by};
-ghost use Rattle.miette_picture_rules.specs.views.SettingsView.{handler_settings};
+ghost use Rattle.miette_picture_rules.specs.views.Settings.{handler_settings};
 ghost use Rattle.miette_picture_rules.specs.rules.Settings.{default_settings, links_shown, urls_shown};
 ghost use Rattle.miette_style.specs.rules.Themes.{terminal_theme, theme_of};
 
@@ -29,7 +29,7 @@ pub struct GraphicalReportHandler<H = Box<dyn Highlighter>> {
 impl<H> Model for GraphicalReportHandler<H> {
     ghost use Rattle.std.specs.Prelude.{◌≤◌};
     ghost use Rattle.miette_picture_rules.specs.views.Handling.{Handling};
-    ghost use Rattle.miette_picture_rules.specs.views.SettingsView.{handler_settings};
+    ghost use Rattle.miette_picture_rules.specs.views.Settings.{handler_settings};
 
     ghost Value = { Handling H };
 
@@ -85,7 +85,7 @@ impl<H: Highlighter> GraphicalReportHandler<H> {
         }
     }
 
-    /// Tabs go on to the next multiple of so many columns. At least 1 is the caller's condition.
+    /// Tabs go on to the next multiple of `width` columns. At least 1 is the caller's condition.
     pub fn tab_width(mut self, width: usize) -> Self
         requires { 1 ≤ width }
         ensures { result ≡ laid_out self (record self.settings.layout { tab_width = width }) }
@@ -94,7 +94,7 @@ impl<H: Highlighter> GraphicalReportHandler<H> {
         self
     }
 
-    /// Whether a url becomes a link around the code, or a text behind it.
+    /// Whether a url becomes a link around the code, or a text after it.
     pub fn with_links(mut self, links: bool) -> Self
         ensures { result ≡ record self { settings = record self.settings { urls = links_shown links } } }
     {
@@ -148,7 +148,7 @@ impl<H: Highlighter> GraphicalReportHandler<H> {
         self
     }
 
-    /// A label at the end of a source that isn't empty is drawn, behind the text of the last line: where there are no
+    /// A label at the end of a source that isn't empty is drawn, after the text of the last line: where there are no
     /// lines of context, that source's labels have one then.
     pub fn with_end_labels(mut self) -> Self
         ensures { result ≡ laid_out self (record self.settings.layout { end_labels = true }) }
@@ -165,8 +165,8 @@ impl<H: Highlighter> GraphicalReportHandler<H> {
         self
     }
 
-    /// A line of more than so many columns is cut: it shows what stands around its labels, as much as fits into so many
-    /// columns, and dots in place of the rest. A limit below 8 counts as 8.
+    /// A line wider than `columns` is cut: it shows what stands around its labels, as much as fits into that width, and
+    /// dots in place of the rest. A limit below 8 counts as 8.
     pub fn with_line_columns(mut self, columns: usize) -> Self
         ensures { result ≡ laid_out self (record self.settings.layout { line_columns = Some columns }) }
     {

@@ -63,13 +63,13 @@ pub enum Pattern {
     From(u8, u8),
     /// What lies between two delimiters, with them.
     Between(Delimiters),
-    /// One character between two delimiters, with them; or an escape between them: behind its byte any character, and
+    /// One character between two delimiters, with them; or an escape between them: after its byte any character, and
     /// then only what words are made of and braces, as in `'\u{10_FFFF}'`.
     Character(Delimiters),
-    /// A byte, and the word behind it.
+    /// A byte, and the word after it.
     Prefixed(u8),
     /// A text in which nothing is escaped: this prefix, any number of hashes, and what lies between a quote and the
-    /// next one that has as many hashes behind it, with these. It goes on over lines.
+    /// next one that has as many hashes after it, with these. It goes on over lines.
     Raw(String),
 }
 

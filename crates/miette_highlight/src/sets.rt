@@ -228,7 +228,7 @@ fn push_words(
     Ok(())
 }
 
-// Raw texts behind this prefix are green.
+// Raw texts after this prefix are green.
 fn push_raw(rules: &mut Vec<Rule>, alloc: Global, prefix: &str) -> Result<(), AllocError>
     ensures { OnOk result (rule_texts rules.new.items ≡ rule_texts rules.old.items ++ raw_text prefix.now ∷ []) }
 {
@@ -238,7 +238,7 @@ fn push_raw(rules: &mut Vec<Rule>, alloc: Global, prefix: &str) -> Result<(), Al
     Ok(())
 }
 
-// A word behind this byte has this colour, with the byte.
+// A word after this byte has this colour, with the byte.
 fn push_prefixed(rules: &mut Vec<Rule>, byte: u8, color: Color) -> Result<(), AllocError>
     ensures { OnOk result (rule_texts rules.new.items ≡ rule_texts rules.old.items
         ++ prefixed byte (coloured_style color) ∷ []) }

@@ -20,7 +20,7 @@ use std::alloc::{AllocError, Global};
 pub struct OpenPart {
     /// The number of the rule that found it.
     pub rule: usize,
-    /// How many hashes close it, behind its quote or its closing delimiter.
+    /// How many hashes close it, after its quote or its closing delimiter.
     pub hashes: usize,
 }
 
@@ -156,7 +156,7 @@ fn hash_count(text: &[u8]) -> usize
     text.iter().take_while(|b| is_hash(**b)).count()
 }
 
-// Whether a byte is a quote with so many hashes behind it.
+// Whether a byte is a quote with `hashes` hashes after it.
 fn closes_raw(hashes: usize, byte: u8, behind: &[u8]) -> bool
     ensures closes { result ≡ (byte == 34 && nat_le hashes (hash_count behind.now)) }
     ensures bound { IsTrue result → hashes ≤ length behind.now }
@@ -164,7 +164,7 @@ fn closes_raw(hashes: usize, byte: u8, behind: &[u8]) -> bool
     byte == b'"' && hashes <= hash_count(behind)
 }
 
-// Where the first quote with so many hashes behind it ends with these, the text beginning at a place.
+// Where the first quote with `hashes` hashes after it ends with these, the text beginning at a place.
 fn raw_end(hashes: usize, start: usize, text: &[u8]) -> Option<usize>
     requires { start + length text.now < 2 ^ 64 }
     ensures { result ≡ raw_end hashes start text.now }
@@ -181,7 +181,7 @@ fn raw_end(hashes: usize, start: usize, text: &[u8]) -> Option<usize>
     None
 }
 
-// Where a raw text ends behind its first quote, the text beginning at a place.
+// Where a raw text ends after its first quote, the text beginning at a place.
 fn raw_inside(hashes: usize, start: usize, text: &[u8]) -> Found
     requires { start + length text.now < 2 ^ 64 }
     ensures { result ≡ raw_inside hashes start text.now }
@@ -192,7 +192,7 @@ fn raw_inside(hashes: usize, start: usize, text: &[u8]) -> Found
     }
 }
 
-// Where a raw text of so many hashes ends whose first quote a text begins with, at a place.
+// Where a raw text of `hashes` hashes ends whose first quote a text begins with, at a place.
 fn quoted(hashes: usize, start: usize, text: &[u8]) -> Option<Found>
     requires { start + length text.now < 2 ^ 64 }
     ensures { result ≡ quoted hashes start text.now }
@@ -204,7 +204,7 @@ fn quoted(hashes: usize, start: usize, text: &[u8]) -> Option<Found>
     None
 }
 
-// Where a raw text ends behind its prefix, which has so many bytes.
+// Where a raw text ends after its prefix, which has `before` bytes.
 fn raw_text(before: usize, text: &[u8]) -> Option<Found>
     requires { before + length text.now < 2 ^ 64 }
     ensures { result ≡ raw_text before text.now }
@@ -259,7 +259,7 @@ fn character_end(delimiters: &Delimiters, start: usize, text: &[u8]) -> Option<F
     held_end(delimiters, false, start + 1, rest)
 }
 
-// How many bytes this one and the word behind it have, where a text begins with it and a word follows.
+// How many bytes this one and the word after it have, where a text begins with it and a word follows.
 fn prefixed_word(byte: u8, text: &[u8]) -> Option<Found>
     ensures { result ≡ prefixed_word byte text.now }
 {

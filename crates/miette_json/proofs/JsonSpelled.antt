@@ -213,7 +213,7 @@ plain_written start mid xs goal i n e f =
     ap (λ l. l ++ after) f ∙ (append_assoc start (take i xs) after
     ∙ (ap (λ l. start ++ l) (sym (escaped_run xs i (omega (arith, n.inside)) n.before)) ∙ e))
 
--- the bytes behind it begin with it
+-- the bytes after it begin with it
 pub escape_begins : (xs : List ℕ) (i : ℕ) → NextEscape xs i → begins_escaped (drop i xs) ≡ true
 escape_begins xs i n = ap begins_escaped (drop-cons xs i 0 n.inside) ∙ n.here
 

@@ -112,7 +112,7 @@ escape_utf8 x e = elim (letter_cases x) [
 
 -- ---- the spelling of UTF-8 is UTF-8
 
--- behind what was written before: bytes of a character need not stand in one write
+-- after what was written before: bytes of a character need not stand in one write
 escaped_step : (pre : List ℕ) (x : ℕ) (s : List ℕ) (b : Bool) → is_escaped x ≡ b → IsUtf8 (pre ++ x ∷ s)
     → ((p : List ℕ) → IsUtf8 (p ++ s) → IsUtf8 (p ++ escaped_text s))
     → IsUtf8 (pre ++ escaped_text (x ∷ s))
@@ -216,7 +216,7 @@ pair_scalar m n a b c d =
     let below : code < 0x110000 = omega arith in
     scalar_above code above below
 
--- behind what stood before: bytes of a character stand for themselves one by one
+-- after what stood before: bytes of a character stand for themselves one by one
 pieces_utf8 : (ps : List StringPart) (pre rest : List ℕ) → AreStringParts ps
     → IsUtf8 (pre ++ all_written ps (34 ∷ rest)) → IsUtf8 (pre ++ all_meant ps) × IsUtf8 rest
 pieces_utf8 [] pre rest r u = let c = cut pre rest 34 (omega arith) u in (subst IsUtf8 (sym (append-nil pre)) c.0, c.1)

@@ -10,7 +10,7 @@ ghost use Rattle.miette_json.specs.steps.JsonParts.{member_before};
 use crate::text::push_quoted;
 use std::alloc::AllocError;
 
-/// A key that stands for itself behind what stands before it, up to its value.
+/// A key that stands for itself after what stands before it, up to its value.
 fn push_behind(out: &mut String, before: &str, key: &str) -> Result<(), AllocError>
     requires { position is_escaped key.now ≡ None }
     ensures { OnOk result (string_bytes out.new

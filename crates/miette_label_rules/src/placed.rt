@@ -7,12 +7,12 @@ use miette_style::style::Style;
 pub struct PlacedLabel<'a> {
     /// The offset where it begins, in bytes of the source.
     pub start: usize,
-    /// The offset of its drawn end: its own end, or that of what its read lent where this comes first.
+    /// The offset of its drawn end: its own end, or that of its read's contents where this comes first.
     pub after: usize,
     /// The style that it is drawn in.
     pub style: Style,
     /// Its text, if it has one.
     pub text: Option<&'a str>,
-    /// Whether it stands behind the text of its line.
+    /// Whether it stands after the text of its line.
     pub behind: bool,
 }

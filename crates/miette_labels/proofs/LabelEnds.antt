@@ -1,4 +1,4 @@
--- A label's end, cut to the end of what its read lent, is cut to the source's end. So labels are drawn as the
+-- A label's end, cut to the end of its read's contents, is cut to the source's end. So labels are drawn as the
 -- definition says.
 use Rattle.std.proofs.Common.{ℕ, zero, suc, ◌+◌, ◌-◌, ◌≡◌, min, max, Bool, true, false, cond, eqb, ◌&&◌, Option, Some}
 use Rattle.std.proofs.Common.{None, List, [], ◌∷◌, length, map, refl, sym, ap, ◌∙◌, subst, arith, All}
@@ -47,7 +47,7 @@ behind_is : (ends : Bool) (n offset : ℕ) → is_told (end_told ends n) offset 
 behind_is true n offset = refl
 behind_is false n offset = refl
 
--- a label at this offset and with this end, at the byte before where it stands behind
+-- a label at this offset and with this end, at the byte before where it stands after its line's text
 abbrev made : Style → List (List ℕ) → Bool → ℕ → ℕ → DrawnLabel
 made style parts behind offset after = record {
   start = cond behind (offset - 1) offset;

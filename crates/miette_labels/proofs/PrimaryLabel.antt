@@ -14,7 +14,7 @@ lt_not a b h = grind (arith, nat_tests)
 pub later_not : (a b n : ℕ) → leb a n ≡ false → a ≤ b → leb b n ≡ false
 later_not a b n h le = grind (arith, nat_tests)
 
--- a label that begins before a span lies outside of it, and so does one that begins behind its end
+-- a label that begins before a span lies outside of it, and so does one that begins after its end
 pub begins_before : (own : Bool) (group span : Span) → ltb span.offset group.offset ≡ true → lies_within own group span
     ≡ false
 begins_before own group span h = rw (lt_not span.offset group.offset h) refl
@@ -69,7 +69,7 @@ between_chosen own group first (suc m) n (r ∷ rs) low high =
     (between_chosen own group first m n rs (λ j d lm lt. low (suc j) d (omega (arith, lm)) (omega (arith, lt)))
     (λ j d le lt. high (suc j) d (omega (arith, le)) (omega (arith, lt))))
 
--- the labels from the first one that doesn't begin before a span, up to the first one that begins behind its end
+-- the labels from the first one that doesn't begin before a span, up to the first one that begins after its end
 pub near_chosen : (own : Bool) (group : Span) (a b m : ℕ) (reads : List ReadLabel) → m ≤ a → m ≤ b → b ≤ length reads
     → ((j : ℕ) (d : ReadLabel) → j < a → ltb (get_or reads j d).span.offset group.offset ≡ true) →
     ((j : ℕ) (d : ReadLabel) → b ≤ j → j < length reads → leb (get_or reads j d).span.offset (end_of_span group)

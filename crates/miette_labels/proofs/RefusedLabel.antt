@@ -47,7 +47,7 @@ read_of labels r = label_at labels r.index
 abbrev pub turn_of : List Label → Turn → Label
 turn_of labels turn = label_at labels turn.index
 
--- so many labels were read
+-- the first `i` labels were read
 pub record AreReadTo (context : ℕ) (source : Source) (labels : List Label) (order : List Turn) (i : ℕ)
     (read : List ReadLabel) : Type 0 where
   pub are : map (read_of labels) read ≡ take i (map (turn_of labels) order)

@@ -1,5 +1,5 @@
--- A read tells where the source ends: it lends bytes before its label and none from there on just where the label
--- begins at the end of a source that isn't empty, with a line of context.
+-- A read tells where the source ends: its contents have bytes before its label and none from there on just where the
+-- label begins at the end of a source that isn't empty, with a line of context.
 use Rattle.std.proofs.Common.{ℕ, zero, suc, ◌<◌, ◌≤◌, ◌≡◌, inl, inr, max, Bool, true, false, cond, eqb, ltb}
 use Rattle.std.proofs.Common.{◌&&◌, ◌||◌, Option, Some, None, List, [], ◌∷◌, length, map, refl, sym, ap, ◌∙◌}
 use Rattle.std.proofs.Common.{subst, arith, All}

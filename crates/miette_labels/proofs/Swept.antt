@@ -112,7 +112,7 @@ filter_both p q (x ∷ xs) =
     by_cases {C = filter q (filter p (x ∷ xs)) ≡ filter (λ x. p x && q x) (x ∷ xs)} (p x)
     (λ t. rw t (ap (λ r. cond (q x) (x ∷ r) r) (filter_both p q xs))) (λ f. rw f (filter_both p q xs))
 
--- none behind the front passes
+-- none after the front passes
 filter_beyond : (p : PlacedLabel → Bool) (n : ℕ) (xs : List PlacedLabel)
     → ((k : ℕ) → n ≤ k → k < length xs → p (get_or xs k nothing) ≡ false) → filter p (take n xs) ≡ filter p xs
 filter_beyond p n [] h = ap (filter p) (take-nil n)

@@ -24,8 +24,8 @@ fn style_of(styles: &[Style], i: usize) -> Style
     }
 }
 
-// Where a label's drawn end lies: its own end, cut to the end of what its read lent. No read tells where the source
-// ends, but what a label's read lent ends there, or where the label does or later.
+// Where a label's drawn end lies: its own end, cut to the end of its read's contents. No read tells where the source
+// ends, but the contents of a label's read end there, or where the label does or later.
 fn drawn_end(read: &ReadLabel<'_>) -> Result<usize, AllocError>
     ensures { IfOk result (λ end. end ≡ end_drawn read.now) }
 {
@@ -33,7 +33,7 @@ fn drawn_end(read: &ReadLabel<'_>) -> Result<usize, AllocError>
     Ok(end.max(read.span.offset()))
 }
 
-// Whether a read lent bytes before its label and none from there on.
+// Whether a read's contents have bytes before its label and none from there on.
 fn lends_before(read: &ReadLabel<'_>) -> Result<bool, AllocError>
     ensures { IfOk result (λ before. before ≡ lends_before read.now) }
 {
@@ -43,9 +43,9 @@ fn lends_before(read: &ReadLabel<'_>) -> Result<bool, AllocError>
     Ok(lent.offset() < offset && end == offset)
 }
 
-/// Where the source ends, if the reads tell: the read of a label with a line of context lends bytes before the label
-/// and none from there on only where the label begins at the end of the source. `AllocError` where the span of a read
-/// ends past the largest `usize`.
+/// Where the source ends, if the reads tell: the contents of a label's read with a line of context have bytes before
+/// the label and none from there on only where the label begins at the end of the source. `AllocError` where the span
+/// of a read ends past the largest `usize`.
 pub fn told_end(reads: &[ReadLabel<'_>]) -> Result<Option<usize>, AllocError>
     ensures { IfOk result (λ end. end ≡ told_end reads.now) }
 {
@@ -106,9 +106,9 @@ fn placed_one<'a>(
 }
 
 /// The labels that were read of these, in the order of their reads, as they are drawn: each with its style by its place
-/// in that order, and its text.
-/// Those that begin where the source is told to end stand behind the text of its last line, as empty ones at its last
-/// byte. `AllocError` where memory is refused, or the span of a label or of its read ends past the largest `usize`.
+/// in that order, and its text. Those that begin where the source is told to end stand after the text of its last line,
+/// as empty ones at its last byte. `AllocError` where memory is refused, or the span of a label or of its read ends
+/// past the largest `usize`.
 pub fn placed_labels<'a>(
     alloc: Global,
     styles: &[Style],

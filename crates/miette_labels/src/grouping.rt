@@ -18,12 +18,12 @@ use miette_protocol::source::{KnownLines, MietteSpanContents, START, SourceCode}
 use std::alloc::{AllocError, Global};
 use std::mem;
 
-/// Labels that are drawn as one snippet: the span that was read for them, and what that read lent.
+/// Labels that are drawn as one snippet: the span that was read for them, and that read's contents.
 #[derive(Debug, Drop)]
 pub struct Group<'a> {
     /// The span that was read, in bytes of the source.
     pub span: SourceSpan,
-    /// What the read lent.
+    /// The read's contents.
     pub contents: MietteSpanContents<'a>,
 }
 
@@ -63,7 +63,7 @@ fn larger_group<'a, S: SourceCode>(
     }
 }
 
-// The groups of labels that come by offset, all read with so many lines of context. A label joins the group before it
+// The groups of labels that come by offset, all read with `context` lines of context. A label joins the group before it
 // where their lines touch; that group is read again, and where this read fails the two stay apart.
 fn joined_groups<'a, S: SourceCode>(
     alloc: Global,
@@ -129,7 +129,7 @@ fn read_all<'a, S: SourceCode>(
     Ok(Some(groups))
 }
 
-// The groups of labels that were read: going by where the bytes that they lent begin, a label joins the group before
+// The groups of labels that were read: going by where the bytes of their contents begin, a label joins the group before
 // it where these begin at or before that group's end. Each group's bytes are read again; none where a read fails.
 fn own_groups<'a, S: SourceCode>(
     alloc: Global,

@@ -11,7 +11,7 @@ use miette_label_rules::placed::PlacedLabel;
 use miette_source_lines::lines::{LineOfText, first_line};
 use std::alloc::AllocError;
 
-/// The line of some bytes that begins so many bytes behind their first one, which stands at this offset.
+/// The line of some bytes that begins `at` bytes after their first one, which stands at this offset.
 pub fn line_at(bytes: &[u8], start: usize, at: usize) -> LineOfText
     requires inside { at < length bytes.now }
     requires small { start + length bytes.now < 2 ^ 64 }

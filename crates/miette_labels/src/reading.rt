@@ -13,8 +13,8 @@ use miette_protocol::protocol::{LabeledSpan, SourceSpan};
 use miette_protocol::source::{MietteSpanContents, START, SourceCode};
 use std::alloc::{AllocError, Global};
 
-/// A label that was read: its number in the list as given, its span, whether it is marked as primary, and what the
-/// read lent.
+/// A label that was read: its number in the list as given, its span, whether it is marked as primary, and the read's
+/// contents.
 #[derive(Debug, Drop)]
 pub struct ReadLabel<'a> {
     /// Its number in the list as given, counted from 0.
@@ -23,7 +23,7 @@ pub struct ReadLabel<'a> {
     pub span: SourceSpan,
     /// Whether it is marked as primary.
     pub primary: bool,
-    /// What its read with the lines around it lent.
+    /// The contents of its read with the lines around it.
     pub contents: MietteSpanContents<'a>,
 }
 

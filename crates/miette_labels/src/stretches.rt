@@ -1,4 +1,4 @@
-//! Where the bytes that labels' reads lent lie, and these places joined.
+//! Where the bytes of the contents of labels' reads lie, and these places joined.
 
 ghost use Rattle.std.specs.Prelude.{◌≡◌, map, IfOk};
 ghost use Rattle.miette_label_rules.specs.rules.Groups.{by_begin, joined_stretches};
@@ -9,7 +9,7 @@ use miette_protocol::protocol::SourceSpan;
 use std::alloc::{AllocError, Global};
 use std::mem;
 
-// The places of the bytes that the labels' reads lent.
+// The places of the bytes of the contents of the labels' reads.
 fn stretches(alloc: Global, reads: &[ReadLabel<'_>]) -> Result<Vec<SourceSpan>, AllocError>
     ensures { IfOk result (λ v. v.items ≡ map (λ read. read.contents.span) reads.now) }
 {
@@ -20,7 +20,7 @@ fn stretches(alloc: Global, reads: &[ReadLabel<'_>]) -> Result<Vec<SourceSpan>, 
     Ok(spans)
 }
 
-/// The places of the bytes that the labels' reads lent, by where they begin.
+/// The places of the bytes of the contents of the labels' reads, by where they begin.
 pub(crate) fn stretches_by_begin(
     alloc: Global,
     reads: &[ReadLabel<'_>],

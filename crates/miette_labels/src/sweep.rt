@@ -13,7 +13,7 @@ use std::alloc::{AllocError, Global};
 pub struct Bounds {
     /// The offset of its first byte in the source.
     pub start: usize,
-    /// The offset behind its last byte.
+    /// The offset after its last byte.
     pub after: usize,
 }
 

@@ -79,7 +79,7 @@ pub values_all : {A : Type 0} (f : A → Data) (xs : List A) (i : ℕ) (values :
     → map view values ≡ map f (take i xs) → map view values ≡ map f xs
 values_all f xs i values h so = so ∙ ap (map f) (take_all i xs h)
 
--- those of one more item behind
+-- those of one more item after them
 pub joined_more : {A : Type 0} (f : A → List Data) (xs : List A) (i : ℕ) (x : A) (old new more : List Data)
     → i < length xs → x ≡ get_or xs i x → new ≡ old ++ more → more ≡ f x → old ≡ flat_map f (take i xs)
     → new ≡ flat_map f (take (i + 1) xs)

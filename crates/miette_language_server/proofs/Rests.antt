@@ -1,4 +1,4 @@
--- What is behind a frame is shorter.
+-- What comes after a frame is shorter.
 use Rattle.std.proofs.Common.{◌≡◌, ℕ, ◌<◌, List, [], ◌∷◌, ◌++◌, eqb, leb, Option, Some}
 use Rattle.std.proofs.Common.{None}
 use Rattle.std.proofs.Common.{sym, arith, length, length-drop, subst}

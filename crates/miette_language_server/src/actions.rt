@@ -120,7 +120,7 @@ fn fix_actions(
     Ok(list)
 }
 
-// Values behind those of a list.
+// Values after those of a list.
 fn append(list: &mut Vec<Value>, more: Vec<Value>) -> Result<(), AllocError>
     ensures { OnOk result (map view list.new.items ≡ map view list.old.items ++ map view more.items) }
 {
@@ -178,7 +178,7 @@ fn joint_of(
     joint_value(alloc, uri, source, &joint)
 }
 
-// These, and behind them, if there are any, one for all findings.
+// These, and after them, if there are any, one for all findings.
 fn with_joint(
     alloc: Global,
     uri: &str,

@@ -34,7 +34,7 @@ fn spliced(
     Ok(made)
 }
 
-// The bytes before an offset, all where it is behind the end.
+// The bytes before an offset, all where it is after the end.
 fn before(source: &[u8], at: usize) -> &[u8]
     ensures { result.now ≡ take at source.now }
 {
@@ -45,7 +45,7 @@ fn before(source: &[u8], at: usize) -> &[u8]
     }
 }
 
-// The bytes from an offset on, none where it is behind the end.
+// The bytes from an offset on, none where it is after the end.
 fn behind(source: &[u8], at: usize) -> &[u8]
     ensures { result.now ≡ drop at source.now }
 {

@@ -60,7 +60,7 @@ fn with_digit(number: usize, byte: u8) -> Option<usize>
     tens.checked_add(usize::from(byte - b'0'))
 }
 
-// A number with these digits behind its own.
+// A number with these digits after its own.
 fn number_from(number: usize, digits: &[u8]) -> Option<usize>
     ensures { result ≡ number_from number digits.now }
 {
@@ -92,7 +92,7 @@ fn named_length(name: &[u8], value: &[u8]) -> Option<usize>
     }
 }
 
-// Where the colon behind a field's name stands.
+// Where the colon after a field's name stands.
 fn colon_in(row: &[u8]) -> Option<usize>
     ensures at { result ≡ position (λ b. b == 58) row.now }
     ensures within { IfSome result (λ at. at < length row.now) }

@@ -42,7 +42,7 @@ fn push_byte(row: &mut Vec<u8>, byte: u8) -> Result<(), AllocError>
     Ok(())
 }
 
-// Reads a header with the empty row behind it. The length that it states, if it does.
+// Reads a header with the empty row after it. The length that it states, if it does.
 fn read_header<R: Read, W>(alloc: Global, client: &mut Client<R, W>) -> Result<Option<usize>, Fault>
     requires sound { client.old.reader.failed ≡ false }
     requires sent { client.old.writer.is_sent ≡ true }
@@ -71,7 +71,7 @@ fn read_header<R: Read, W>(alloc: Global, client: &mut Client<R, W>) -> Result<O
     Err(Fault::Memory)
 }
 
-// Reads so many bytes, where they are there. Takes no more memory than twice what is there.
+// Reads `size` bytes, where they are there. Takes no more memory than twice what is there.
 fn read_body<R: Read, W>(
     alloc: Global,
     client: &mut Client<R, W>,
@@ -125,7 +125,7 @@ pub fn read_frame<R: Read, W>(
     }
 }
 
-// What stands before a body of so many bytes.
+// What stands before a body of `size` bytes.
 fn header_text(alloc: Global, size: usize) -> Result<String, AllocError>
     ensures { IfOk result (λ text. string_bytes text ≡ header_text size) }
 {

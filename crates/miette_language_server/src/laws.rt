@@ -3,7 +3,7 @@
 ghost use Rattle.std.specs.Prelude.{◌≡◌, ◌<◌, ◌^◌, ◌++◌, ℕ, List, Some, length};
 ghost use Rattle.miette_language_server.specs.rules.Frames.{first_frame, framed};
 
-/// A body in a frame is read back, and what is behind the frame is left.
+/// A body in a frame is read back, and what comes after the frame is left.
 pub fn frame_laws()
     ensures back { (body rest : List ℕ) → length body < 2 ^ 64 →
         first_frame (framed body ++ rest) ≡ Some (record { body = body; rest = rest }) }

@@ -19,7 +19,7 @@ pub enum Refusal {
     NotJson,
     /// A request comes before `initialize`.
     NotInitialized,
-    /// A request comes behind `shutdown`, or is a second `initialize`.
+    /// A request comes after `shutdown`, or is a second `initialize`.
     NotNow,
     /// A request isn't known.
     Unknown,

@@ -74,7 +74,7 @@ fn turn<R: Read, W: Write>(
     }
 }
 
-/// Serves a client, whose lines may have so many columns, until it ends the server or its frames end: the status, which
+/// Serves a client, whose lines may have `width` columns, until it ends the server or its frames end: the status, which
 /// is 0, 1 or 2.
 ///
 /// What is written for what the reader has is a function of its bytes: `served`. The reader is called only where all

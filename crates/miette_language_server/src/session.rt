@@ -25,7 +25,7 @@ pub enum Phase {
     Waiting,
     /// Between `initialize` and `shutdown`.
     Running,
-    /// Behind `shutdown`.
+    /// After `shutdown`.
     Stopping,
 }
 
@@ -79,7 +79,7 @@ fn alone(status: u8, notice: Notice) -> Outcome
 }
 
 impl Session {
-    /// A session before its first message, of lines that may have so many columns.
+    /// A session before its first message, of lines that may have `width` columns.
     pub fn new(alloc: Global, width: usize) -> Session
         ensures { result ≡ first_state width }
     {

@@ -57,7 +57,7 @@ same_end from len offset = elim (cases_lt from offset) [
       ∙ sym (and_left _ _ (le-ltb from offset le))
 ]
 
--- what it lends tells whether the source ends there
+-- its contents tell whether the source ends there
 told_there : (source : Source) (offset before len : ℕ) (lent : Contents) → offset ≤ length source.bytes
     → lent ≡ contents 1 source (record { offset = offset; len = 0 }) → before ≡ offset - lent.span.offset
     → len ≡ lent.span.len → TellsEnd source offset (ltb 0 before && eqb before len)
@@ -70,7 +70,7 @@ told_there source offset before len lent le is from much = record {
       ∙ ap (λ b. ltb 0 (length source.bytes) && b) (and_true (eqb offset (length source.bytes)));
 }
 
--- it lends bytes before it
+-- they have bytes before it
 pub told_behind : (source : Source) (offset before len : ℕ) (lent : Contents) → offset ≤ length source.bytes
     → lent ≡ contents 1 source (record { offset = offset; len = 0 }) → before ≡ offset - lent.span.offset
     → len ≡ lent.span.len → 0 < before → TellsEnd source offset (eqb before len)
@@ -78,7 +78,7 @@ told_behind source offset before len lent le is from much some =
     subst (λ (b : Bool). TellsEnd source offset b) (ap (λ b. b && eqb before len) (lt-ltb 0 before some))
     (told_there source offset before len lent le is from much)
 
--- it lends none before it
+-- they have none before it
 pub told_first : (source : Source) (offset before : ℕ) (lent : Contents) → offset ≤ length source.bytes
     → lent ≡ contents 1 source (record { offset = offset; len = 0 }) → before ≡ offset - lent.span.offset
     → before ≤ 0 → TellsEnd source offset (ltb 0 before)
@@ -91,7 +91,7 @@ told_first source offset before lent le is from none =
 pub told_nothing : (source : Source) (offset : ℕ) → source.always_reads ≡ false → TellsEnd source offset false
 told_nothing source offset fails = record { fails = true; always = λ a. cc; is = refl }
 
--- one that isn't accepted is behind the end
+-- one that isn't accepted is after the end
 pub told_beyond : (source : Source) (offset : ℕ) → length source.bytes < offset → TellsEnd source offset false
 told_beyond source offset lt = record {
   fails = false;
@@ -250,7 +250,7 @@ ends_aside : (s : SnippetSettings) (source : Source) (labels : List Label) (a : 
 ends_aside s source labels a fails (Some row) = refl
 ends_aside s source labels a fails None = refl
 
--- the settings with so many lines of context
+-- the settings with `lines` lines of context
 abbrev pub with_lines : ℕ → SnippetSettings → SnippetSettings
 with_lines lines s = record s { layout = record s.layout { context_lines = lines } }
 

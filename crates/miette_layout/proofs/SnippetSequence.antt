@@ -67,7 +67,7 @@ drawn_around s n ls = ap (λ b. drawn_from (s.layout.end_labels && b) s.theme.st
 abbrev pub spans_grouped : List Group → List Span
 spans_grouped groups = map (λ group. group.span) groups
 
--- so many groups are drawn: whatever pieces the others have, there are pieces for all
+-- the first `i` groups are drawn: whatever pieces the others have, there are pieces for all
 abbrev pub AreDrawn : SnippetSettings → List Spread → Source → List Label → Bool → (List Call → Type 0)
     → (List Call → Type 0) → List Group → ℕ → Printout → Printout → Type 0
 AreDrawn s spreads source labels blank begun now groups i before page =
@@ -102,7 +102,7 @@ snippet_same s spreads source labels span drawn lent place pieces d l p =
     ∷ body_rows s spreads c source.bytes (contents s.layout.context_lines source span) pieces
     ++ bottom_row s (number_width (contents s.layout.context_lines source span)) ∷ []) d
 
--- the lines of context don't matter to rows of what was lent
+-- the lines of context don't matter to rows of a read's contents
 rows_around : (out : ℕ → Line → Bool) (gap : Bool) (s : SnippetSettings) (c w columns : ℕ) (drawn : List DrawnLabel)
     (start : ℕ) (bytes : List ℕ) (number : ℕ) (pieces : List (List Highlight)) (lines : List Line) →
     rows_of_lines out gap (snippet_context (record s { layout = record s.layout { context_lines = c } }) w columns drawn

@@ -32,8 +32,8 @@ fn some_asks(offset: usize, labels: &[LabeledSpan]) -> bool
     labels.iter().any(|label| asks_at(offset, label))
 }
 
-// Whether a source that isn't empty ends at an offset: a read there with a line of context lends bytes before it, and
-// none from there on. Where the read fails, it isn't known to.
+// Whether a source that isn't empty ends at an offset: the contents of a read there with a line of context have bytes
+// before it, and none from there on. Where the read fails, it isn't known to.
 fn ends_at<S: SourceCode>(source: &S, offset: usize) -> bool
     ensures { TellsEnd (S.source source.now) offset result }
 {
@@ -48,7 +48,7 @@ fn ends_at<S: SourceCode>(source: &S, offset: usize) -> bool
     }
 }
 
-/// Whether of these labels one at the source's end asks for its last line, and none begins behind the end. Where the
+/// Whether of these labels one at the source's end asks for its last line, and none begins after the end. Where the
 /// read fails that tells where the source ends, none is known to.
 pub(crate) fn asks_for_end<S: SourceCode>(source: &S, labels: &[LabeledSpan]) -> bool
     ensures { AsksForEnd (S.source source.now) labels.now result }

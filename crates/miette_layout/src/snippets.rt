@@ -6,7 +6,7 @@ ghost use Rattle.miette_labels.specs.views.Placing.{told_end};
 ghost use Rattle.miette_labels.specs.views.Reads.{IsRead, name_of as name_of_reason};
 ghost use Rattle.miette_layout.specs.views.Outcomes.{GivesAround, MayGive, RefusesWith, printing_of};
 ghost use Rattle.miette_layout.specs.views.SourceEnds.{AreEndLines};
-ghost use Rattle.miette_snippet_rules.specs.views.SettingsView.{settings_of};
+ghost use Rattle.miette_snippet_rules.specs.views.Settings.{settings_of};
 ghost use Rattle.miette_label_rules.specs.views.GivenLabels.{label_at};
 ghost use Rattle.miette_label_rules.specs.rules.Groups.{in_order};
 ghost use Rattle.miette_snippet_rules.specs.rules.Highlighting.{leaves_plain};
@@ -193,7 +193,7 @@ fn all_snippets<'b, S: SourceCode, H: Highlighter, O: Canvas + Drop>(
     snippets_around(highlighter, &settings, source, labels, page)
 }
 
-/// Prints the rows of a diagnostic's snippets, whose labels are given over its source, behind what the page holds:
+/// Prints the rows of a diagnostic's snippets, whose labels are given over its source, after what the page holds:
 /// frames, numbered lines, marks and the labels' texts; or the one row of the first label that is refused. A
 /// highlighter styles the lines: it is restarted for each snippet with the contents of the snippet's read, and is then
 /// given the text of each line in order, decoded. Where labels at the source's end are drawn, and one of them asks for

@@ -1,4 +1,4 @@
--- Letters of ASCII, and spaces, behind a letter.
+-- Letters of ASCII, and spaces, after a letter.
 use Rattle.std.proofs.Common.{◌≡◌, ℕ, Bool, true, false, not, ◌||◌, if◌then◌else◌, refl, sym, ap, ap₂, ◌∙◌}
 use Rattle.std.proofs.Common.{Some, None}
 use Rattle.std.proofs.lemmas.Bool.{and_parts}
@@ -12,7 +12,7 @@ use Rattle.miette_line_breaks.specs.steps.States.{break_in, is_alphabetic, is_in
 use Rattle.miette_line_breaks.specs.views.Places.{behind, found_before}
 use Rattle.miette_line_breaks.proofs.AsciiClasses.{alphabetic_is, letter-is, space-is, space_character}
 
--- behind a letter, or spaces behind it
+-- after a letter, or spaces after it
 abbrev plain_state : Bool → State
 plain_state b = record {
   base = lone_mark;

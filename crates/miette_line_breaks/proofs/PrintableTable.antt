@@ -118,7 +118,7 @@ kind-character c below h =
 pub high-none : (c : ℕ) → 128 ≤ c → is_printable c ≡ false
 high-none c h = grind (arith, nat_tests)
 
--- ---- what stands behind them
+-- ---- what stands after them
 
 abbrev pub next_of : ℕ → ℕ → ℕ
 next_of row k = slice_index_or (slice_index_or TRANSITIONS row []) k 0
@@ -150,7 +150,7 @@ same-is a b h =
     ∙ ap (λ g. made b.base.class b.base.is_wide b.base.is_future_emoji b.is_spaced b.is_joined b.follows_hebrew g)
     (same_from_beq a.has_half_flag b.has_half_flag q.1)
 
--- the row behind a character: that of the table, or by the class alone
+-- the row after a character: that of the table, or by the class alone
 abbrev row_behind : ℕ → ℕ → ℕ
 row_behind row k = if nat_lt (next_of row k) 28 then next_of row k else k
 
@@ -265,7 +265,7 @@ step-none row k h s n = elim (k == 14) as (λ v. (k == 14) ≡ v → 14 ≤ k) [
   | false ↦ λ e. absurd (omega (arith, step-small row k h (last_kind k s e), n))
 ] refl
 
--- ---- behind any character but a Hebrew letter
+-- ---- after any character but a Hebrew letter
 
 abbrev counts : LineBreak → Bool
 counts q = is_mark q || is_space q || is_joiner q || is_regional q
@@ -323,13 +323,13 @@ hebrew-none s c e h = ap₂ (λ (a b : Bool). is_printable c && (if a then is_em
 before_13 : (k : ℕ) → k < 15 → (k ≡ 14 → ⊥) → (k == 13) ≡ false → k < 13
 before_13 k h e f = grind (arith, nat_tests)
 
--- the kind of a code behind which the next row is known
+-- the kind of a code after which the next row is known
 code-kind : (row c : ℕ) → row < 28 → c < 128 → next_of row (kind_of c) < 30
     → (kind_of c < 14) × (character_of c ≡ kind_character (kind_of c))
 code-kind row c small below next =
     let l : kind_of c < 14 = step-some row (kind_of c) small (kind-small c below) next in (l, kind-character c below l)
 
--- a code in a row, by the row that is known behind it: none breaks before it
+-- a code in a row, by the row that is known after it: none breaks before it
 pub code-within : (row c : ℕ) → row < 28 → c < 128 → next_of row (kind_of c) < 28
     → (is_printable c ≡ true) × ((c == 45) ≡ false) × (break_in (row_state row) (character_of c) ≡ None)
     × (state_behind (row_state row) (character_of c) ≡ row_state (next_of row (kind_of c)))

@@ -34,9 +34,9 @@ static KINDS: [u8; 128] = [
     0, 0, 0, 0, 0, 0, 0, 6, 11, 10, 0, 14,
 ];
 
-/// What stands behind a character: a row for each of these classes, that of the character before it, and the same with
-/// spaces between; a column for the character's own class, and one for characters that are not printable. It is the
-/// row for the next character, or one of the three numbers below.
+/// What stands after a character: a row for each of these classes, that of the character before it, and the same with
+/// spaces between; a column for the character's own class, and one for characters that are not printable. It is the row
+/// for the next character, or one of the three numbers below.
 static TRANSITIONS: [[u8; 15]; 28] = [
     [0, 1, 2, 3, 4, 5, 6, 7, 8, 9, 10, 11, 29, 14, 30],
     [0, 1, 2, 3, 4, 5, 6, 7, 8, 9, 10, 11, 29, 15, 30],
@@ -74,7 +74,7 @@ const BROKEN: usize = 28;
 // It is a hyphen, before which no line may be broken.
 const HYPHEN: usize = 29;
 
-/// Behind a printable character of ASCII, and the spaces that follow it.
+/// After a printable character of ASCII, and the spaces that follow it.
 #[derive(Clone, Copy)]
 pub struct Printable {
     pub(crate) row: usize,
@@ -98,7 +98,7 @@ impl Printable {
     ghost use Rattle.miette_line_breaks.specs.views.Places.{behind};
     ghost use Rattle.miette_line_breaks.specs.views.Printable.{IsStep, begins, is_printable, state_in};
 
-    /// Behind a printable character of ASCII, where no Hebrew letter is before it; a space only at a text's start.
+    /// After a printable character of ASCII, where no Hebrew letter is before it; a space only at a text's start.
     #[inline(always)]
     pub fn behind(state: State, c: char) -> Option<Printable>
         ensures { MatchOption result (begins state c ≡ false)
@@ -144,7 +144,7 @@ impl Printable {
         }
     }
 
-    /// What a character is that stands here, and what stands behind it.
+    /// What a character is that stands here, and what stands after it.
     #[inline(always)]
     pub fn step(self, c: char) -> Step
         ensures { IsStep result (state_in self) c }

@@ -30,7 +30,7 @@ impl<'a> LineBreaks<'a> {
     }
 }
 
-/// The first character, and what is behind it.
+/// The first character, and what comes after it.
 fn split_first_char(text: &str) -> Option<(char, &str)>
     ensures { MatchOption result (chars text.now ≡ [])
         (λ (c, rest). (chars text.now ≡ c ∷ chars rest.now) × (text.now ≡ encode_utf8 c ++ rest.now)) }

@@ -52,7 +52,7 @@ impl State {
         is_space(self.base.class) && !self.is_spaced
     }
 
-    /// The opportunity before a character that stands at this place, and what stands before the place behind it.
+    /// The opportunity before a character that stands at this place, and what stands before the place after it.
     #[inline(always)]
     pub fn step(&self, c: char) -> (Option<BreakOpportunity>, State)
         ensures found { result.0 ≡ found_before self.now c }
@@ -132,7 +132,7 @@ impl State {
         !self.is_spaced && self.is_plain()
     }
 
-    // The opportunity before a letter of ASCII that stands behind such a letter.
+    // The opportunity before a letter of ASCII that stands after such a letter.
     #[inline(always)]
     fn before_letter(&self) -> Option<BreakOpportunity>
         ensures { result ≡ (if self.now.is_spaced then Some Allowed else None) }
@@ -144,7 +144,7 @@ impl State {
         }
     }
 
-    /// The same with spaces behind it, or without.
+    /// The same with spaces after it, or without.
     #[inline(always)]
     fn spaced(&self, is_spaced: bool) -> State
         ensures { result ≡ spaced is_spaced self.now }
@@ -165,7 +165,7 @@ impl State {
         !self.is_spaced && takes_marks(self.base.class)
     }
 
-    /// Behind one more character.
+    /// After one more character.
     pub(crate) fn behind(&self, x: Character) -> State
         ensures { result ≡ state_behind self.now x }
     {

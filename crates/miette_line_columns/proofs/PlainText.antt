@@ -46,7 +46,7 @@ plain_last_end offset column [] cs e w o h = refl
 plain_last_end offset column (b ∷ bs) cs e w o h = rw (lt-leb o offset (omega arith))
     (plain_last_end (offset + 1) (column + 1) bs cs e w o (omega arith))
 
--- so many of them come first
+-- `n` of them come first
 pub first_printable : (n : ℕ) (bs : List ℕ) → n ≡ prefix_len is_printable bs → list_all is_printable (take n bs) ≡ true
 first_printable n bs is =
     ap (λ k. list_all is_printable (take k bs)) is
@@ -62,7 +62,7 @@ width_then o c (b ∷ bs) cs =
     let many : c + length (b ∷ bs) ≡ c + 1 + length bs = omega arith in
     ap (λ n. cells_width n cs) many ∙ width_then (o + 1) (c + 1) bs cs
 
--- where they stand, and what is behind them
+-- where they stand, and what comes after them
 pub plain_text : (tab offset e n w : ℕ) (bs plain : List ℕ) (rest : List Cell) → n ≤ length bs → n
     ≡ prefix_len is_printable bs → plain ≡ take n bs →
     rest ≡ cells_from width_of tab false (offset + n) n (characters (drop n bs)) → w ≡ cells_width n rest →

@@ -18,13 +18,13 @@ const AT_A_TIME: usize = 64;
 pub struct Passage<'a> {
     /// The cells that are left.
     pub walk: Walk<'a>,
-    /// The offset behind those that are passed.
+    /// The offset after those that are passed.
     pub reached: usize,
-    /// The column behind them.
+    /// The column after them.
     pub width: usize,
 }
 
-/// Passes the next cells, and tells whether so many were left as are passed at a time. `AllocError` where a column is
+/// Passes the next cells, and tells whether as many were left as are passed at a time. `AllocError` where a column is
 /// past the largest `usize`.
 #[inline(never)]
 pub fn pass_cells(passage: &mut Passage<'_>) -> Result<bool, AllocError>

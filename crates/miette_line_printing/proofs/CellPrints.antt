@@ -50,7 +50,7 @@ cells_more cell cells later p q whole e hq h =
     (cells_tokens later) ∙ ap (λ x. p ⊕ x) (sym (cells_told-cons cell later)) ∙ ap (λ x. p ⊕ cells_tokens x) (sym e)
     ∙ h
 
--- the cells that fill so many bytes
+-- the cells that fill a number of bytes
 unequal : (n : ℕ) → 0 < n → eqb n 0 ≡ false
 unequal n h = grind (arith, nat_tests)
 

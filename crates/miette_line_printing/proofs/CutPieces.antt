@@ -1,4 +1,4 @@
--- A highlighter's pieces that end in front of a stretch, or begin behind it, tell nothing of it.
+-- A highlighter's pieces that end before a stretch, or begin after it, tell nothing of it.
 use Rattle.miette_page.specs.views.Printouts.{Printout, ◌⊕◌}
 use Rattle.std.proofs.Common.{ℕ, ◌+◌, ◌-◌, ◌≤◌, ◌≡◌, min, cond, List, [], ◌∷◌, length, map, take, drop, refl}
 use Rattle.std.proofs.Common.{sym, ap, ◌∙◌, arith}
@@ -18,7 +18,7 @@ use Rattle.miette_snippet_rules.specs.declared.stretch.Stretch.{Stretch}
 use Rattle.miette_snippet_rules.specs.views.Cuts.{cut_cells}
 use Rattle.miette_line_printing.proofs.CellPrints.{beyond_none, within_none}
 
--- a run of no character, and the runs behind it
+-- a run of no character, and the runs after it
 begun_again : (hs : List Highlight) (cells : List Cell) (style : Style) (p : Printout) → p
     ⊕ row_tokens (line_runs hs cells) ≡ p ⊕ (begins style ∷ row_tokens (line_runs hs cells))
 begun_again [] cells style p = refl
@@ -37,7 +37,7 @@ no_cells hs cells bytes style p z =
     run : Style → List Cell → Run
     run style xs = record { style = style; glyphs = printed_cells xs }
 
--- pieces behind a stretch: none of its bytes is left for them
+-- pieces after a stretch: none of its bytes is left for them
 pub none_left : (hs : List Highlight) (before bytes : ℕ) (cells : List Cell) (p : Printout) → bytes ≡ 0 → p
     ⊕ row_tokens (line_runs [] cells) ≡ p ⊕ row_tokens (line_runs (pieces_within before bytes hs) cells)
 none_left [] before bytes cells p z = refl
@@ -48,7 +48,7 @@ none_left (h ∷ hs) before bytes cells p z =
     ∙ no_cells (pieces_within (before - h.bytes) (bytes - (h.bytes - before)) hs) cells (min (h.bytes - before) bytes)
     h.style p own
 
--- behind the last piece
+-- after the last piece
 pub pieces_done : (pieces : List (ℕ × Style)) (i before bytes : ℕ) (cells : List Cell) (p whole : Printout)
     → length pieces ≤ i →
     p ⊕ row_tokens (line_runs (pieces_within before bytes (map highlight_of (drop i pieces))) cells) ≡ whole →

@@ -26,7 +26,7 @@ use Rattle.miette_snippet_rules.specs.declared.stretch.Stretch.{Stretch as MadeS
 use Rattle.miette_snippet_rules.specs.views.Cuts.{measure, cut_cells, made_runs}
 use Rattle.miette_line_printing.specs.steps.CellTokens.{cells_tokens}
 
--- ---- so many cells
+-- ---- a number of cells
 
 pub take_cell : (many : ℕ) (cell : Cell) (walk later : List Cell) → walk ≡ cell ∷ later → 0 < many → take many walk
     ≡ cell ∷ take (many - 1) later

@@ -24,7 +24,7 @@ pub(crate) fn push_cell<O: Canvas>(page: &mut Page<O>, cell: &Cell) -> Result<()
     Ok(())
 }
 
-/// The characters that fill so many bytes. `AllocError` where memory is refused, or a column is past the largest
+/// The characters that fill `bytes` bytes. `AllocError` where memory is refused, or a column is past the largest
 /// `usize`.
 pub(crate) fn push_cells_within<O: Canvas>(
     page: &mut Page<O>,

@@ -24,7 +24,7 @@ use miette_style::style::Style;
 use miette_style::theme::GraphicalTheme;
 use std::alloc::AllocError;
 
-// Of so many cells, those whose characters fill so many bytes; gives how many of them are left.
+// Of `many` cells, those whose characters fill `bytes` bytes; gives how many of them are left.
 fn push_some<O: Canvas>(
     page: &mut Page<O>,
     walk: &mut Walk,
@@ -52,7 +52,7 @@ fn push_some<O: Canvas>(
     Ok(many)
 }
 
-// So many cells.
+// `many` cells.
 fn push_all<O: Canvas>(page: &mut Page<O>, walk: &mut Walk, many: usize) -> Result<(), AllocError>
     ensures told { OnOk result (page.new ≡ page.old ⊕ cells_tokens (take many walk.old)) }
     ensures later { OnOk result (walk.new ≡ drop many walk.old) }
@@ -66,7 +66,7 @@ fn push_all<O: Canvas>(page: &mut Page<O>, walk: &mut Walk, many: usize) -> Resu
     Ok(())
 }
 
-// Goes past so many cells.
+// Goes past `many` cells.
 fn skip(walk: &mut Walk, many: usize) -> Result<(), AllocError>
     ensures { OnOk result (walk.new ≡ drop many walk.old) }
 {
@@ -92,7 +92,7 @@ struct Pieces<'a> {
     before: usize,
 }
 
-// The pieces of which some byte stands behind those in front.
+// The pieces of which some byte stands after those in front.
 fn pieces_behind<'a>(all: &Pieces<'a>) -> Pieces<'a>
     ensures { (run : Run) → (cut : List MadeStretch) → (cells : List Cell) → (page : Printout) →
         page ⊕ row_tokens (cut_cells run (map highlight_of result.pieces.now) result.before cut cells)
@@ -116,7 +116,7 @@ fn pieces_behind<'a>(all: &Pieces<'a>) -> Pieces<'a>
     }
 }
 
-// What a highlighter's pieces say of a stretch; gives how many of its cells are left behind them.
+// What a highlighter's pieces say of a stretch; gives how many of its cells are left after them.
 fn push_pieces<O: Canvas>(
     page: &mut Page<O>,
     walk: &mut Walk,
@@ -167,7 +167,7 @@ fn push_stretch<O: Canvas>(
 }
 
 /// The cells of a line, of which these are the stretches, in a highlighter's pieces, each a length in bytes and a
-/// style, and plain behind them, with the theme's dots. `AllocError` where memory is refused, or a column or a count of
+/// style, and plain after them, with the theme's dots. `AllocError` where memory is refused, or a column or a count of
 /// bytes is past the largest `usize`.
 pub(crate) fn push_cut<O: Canvas>(
     page: &mut Page<O>,

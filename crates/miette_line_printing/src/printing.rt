@@ -25,7 +25,7 @@ use miette_style::style::Style;
 use miette_style::theme::GraphicalTheme;
 use std::alloc::AllocError;
 
-// A text in a highlighter's pieces, each a length in bytes and a style, and plain behind them.
+// A text in a highlighter's pieces, each a length in bytes and a style, and plain after them.
 fn push_line_text<O: Canvas>(
     page: &mut Page<O>,
     walk: &mut Walk,
@@ -67,7 +67,7 @@ fn push_text<O: Canvas>(
 }
 
 /// What is shown of a line's text: its stretches, with the theme's dots, or all of it where it isn't cut, in a
-/// highlighter's pieces, each a length in bytes and a style, and plain behind them. `AllocError` where memory is
+/// highlighter's pieces, each a length in bytes and a style, and plain after them. `AllocError` where memory is
 /// refused, or a column or a count of bytes is past the largest `usize`.
 pub fn push_shown_text<O: Canvas>(
     page: &mut Page<O>,

@@ -1,4 +1,4 @@
--- Fixes of one edit each, one behind another: all are taken, and the text after them is made from front to back.
+-- Fixes of one edit each, one after another: all are taken, and the text after them is made from front to back.
 use Rattle.std.proofs.Common.{◌≡◌, ℕ, ◌+◌, ◌-◌, ◌<◌, ◌≤◌, max, Bool, true, false, cond, eqb, ltb, ◌&&◌, ◌||◌, List}
 use Rattle.std.proofs.Common.{[], ◌∷◌, ◌++◌, length, take, drop, map, refl, sym, ap, ◌∙◌, arith, subst, append_assoc}
 use Rattle.std.proofs.Common.{append-nil}
@@ -21,11 +21,11 @@ lists_in fixes = map (λ (fix : Proposal). fix.edits) fixes
 abbrev pub edits_in : List Proposal → List Replacement
 edits_in fixes = all_of (lists_in fixes)
 
--- behind an edit, where the next one may begin
+-- after an edit, where the next one may begin
 abbrev pub next_at : Replacement → ℕ
 next_at edit = max (end_of edit) (edit.span.offset + 1)
 
--- a fix has one edit, which lies behind a place, in a source of so many bytes
+-- a fix has one edit, which begins at `low` or later, in a source of `n` bytes
 pub record LiesAt (n low : ℕ) (edits : List Replacement) (edit : Replacement) : Type 0 where
   pub one : edits ≡ edit ∷ []
   pub from : low ≤ edit.span.offset
@@ -79,7 +79,7 @@ all_more : (before : List (List Replacement)) (e : Replacement) → all_of (befo
     ≡ all_of before ++ e ∷ []
 all_more before e = flat_map-append (λ (edits : List Replacement). edits) before ((e ∷ []) ∷ [])
 
--- an edit behind others counts, and then lies before the next one
+-- an edit after others counts, and then lies before the next one
 record CountsFirst (n : ℕ) (e : Replacement) (before : List (List Replacement)) : Type 0 where
   yes : counts n (all_of before) (e ∷ []) ≡ true
   next : counted_with n before (e ∷ []) ≡ before ++ (e ∷ []) ∷ []

@@ -22,7 +22,7 @@ use Rattle.miette_lint.specs.rules.Fixes.{even_blanks, evened, fixed_line_text, 
 
 -- ---- elements from the front on that pass
 
--- behind them comes one that doesn't
+-- after them comes one that doesn't
 rest_stops : (p : ℕ → Bool) (xs : List ℕ) → prefix_len p (drop (prefix_len p xs) xs) ≡ 0
 rest_stops p xs =
     elim (cases_lt (prefix_len p xs) (length xs)) [
@@ -54,7 +54,7 @@ passes_before p xs ys h k =
     let g : prefix_len p (xs ++ ys) ≡ length xs = omega (arith, f, k) in
     ap (λ n. take n (xs ++ ys)) g ∙ take-append_seam xs ys
 
--- what comes behind the first doesn't matter where that doesn't pass
+-- what comes after the first doesn't matter where that doesn't pass
 same_front : (p : ℕ → Bool) (xs ys zs : List ℕ) → 0 < length xs → prefix_len p (xs ++ ys) ≡ 0
     → prefix_len p (xs ++ zs) ≡ 0
 same_front p [] ys zs some h = absurd (omega (arith, some))

@@ -15,7 +15,7 @@ use Rattle.miette_cells.specs.rules.Cells.{Cell}
 use Rattle.miette_lint.specs.rules.Findings.{ending_blanks, finding, is_blank, misplaced_tab, overlong}
 use Rattle.miette_lint.specs.rules.Findings.{tab_after_space, tab_behind, too_wide, trailing_space}
 
--- The lines that are left of so many bytes have what is left to be found.
+-- The lines that are left of `size` bytes have what is left to be found.
 pub record AreLeft {X : Type 0} (f : Line → List X) (size : ℕ) (rest : Rest) (found all : List X) : Type 0 where
   pub rows : found ++ flat_map f (lines_left rest) ≡ all
   pub to : rest.start + length rest.bytes ≡ size

@@ -27,7 +27,7 @@ pub struct CodedFinding {
     pub fixes: Vec<Fix>,
 }
 
-// What lines are held to: so many columns, and a terminator.
+// What lines are held to: at most `width` columns, and a terminator.
 #[derive(Clone, Copy)]
 struct LineRules {
     width: usize,

@@ -43,7 +43,7 @@ fn joined(fix: Fix, fixes: &[Fix]) -> Result<Fix, AllocError>
 }
 
 /// All edits that are proposed for a source as one fix, which may be applied without a look; its message says how many
-/// of so many findings are mended. What it gives is the fixed text: `joint_laws`.
+/// of the `found` findings are mended. What it gives is the fixed text: `joint_laws`.
 ///
 /// # Errors
 /// Where no memory is found.

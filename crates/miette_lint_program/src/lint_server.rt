@@ -69,9 +69,9 @@ pub fn serve_on<R: Read, W: Write, F: Write>(
 
 /// The program `lint --lsp`: serves an editor over the Language Server Protocol, until it ends the server.
 ///
-/// The status is 0 where the editor ends the server behind `shutdown`, and 1 where it ends it before; 2 where the
-/// frames end or one is broken, and where memory, the reader or the writer failed: then the fault's text and a line
-/// feed go to `faults`, whose own faults are ignored.
+/// The status is 0 where the editor ends the server after `shutdown`, and 1 where it ends it before; 2 where the frames
+/// end or one is broken, and where memory, the reader or the writer failed: then the fault's text and a line feed go to
+/// `faults`, whose own faults are ignored.
 pub fn serve_with<R, W, F>(alloc: Global, width: usize, reader: R, writer: W, faults: F) -> u8
 where
     R: Read + Drop,

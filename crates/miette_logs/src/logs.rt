@@ -103,8 +103,8 @@ impl<'w> Logging<'w> {
         })
     }
 
-    /// The log that the words behind a program's name ask for: `--sarif` or `--lsp`, of the program, or of the tool
-    /// behind `--tool`, which stands before or behind that word. Nothing where they are others.
+    /// The log that the words after a program's name ask for: `--sarif` or `--lsp`, of the program, or of the tool
+    /// after `--tool`, which stands before or after that word. Nothing where they are others.
     pub fn asked(words: &'w [String], program: &'w str) -> Option<Logging<'w>>
         ensures { result ≡ logging_of program.now (map string_bytes words.now) }
     {

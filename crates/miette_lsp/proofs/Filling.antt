@@ -6,7 +6,7 @@ use Rattle.miette_json.specs.rules.Json.{Json}
 use Rattle.miette_sarif.specs.rules.Objects.{Pairs, object_of, pair}
 use Rattle.miette_sarif.proofs.Gathers.{next_in}
 
--- the value of one more item behind the others
+-- the value of one more item after the others
 pub value_more : {A B : Type 0} (g : B → Json) (f : A → B) (xs : List A) (i : ℕ) (x : A) (old new all : List Json)
     (value : Json) → i < length xs → x ≡ get_or xs i x → new ≡ old ++ value ∷ [] → value ≡ g (f x)
     → old ++ map g (map f (drop i xs)) ≡ all → new ++ map g (map f (drop (i + 1) xs)) ≡ all
@@ -23,7 +23,7 @@ pub values_all : {A B : Type 0} (g : B → Json) (f : A → B) (xs : List A) (i 
 values_all g f xs i old all l h =
     sym (append-nil old) ∙ ap (λ ys. old ++ map g (map f ys)) (sym (drop_all i xs l)) ∙ h
 
--- an object of one member and another behind it
+-- an object of one member and another after it
 pub two_members : (whole : Json) (none one two : Pairs) (k l : List ℕ) (a b x y : Json) → whole ≡ object_of two
     → two ≡ one ++ pair l b → one ≡ none ++ pair k a → none ≡ [] → a ≡ x → b ≡ y
     → whole ≡ object_of (pair k x ++ pair l y)

@@ -1,4 +1,4 @@
--- Texts and members, one behind the other.
+-- Texts and members, one after the other.
 use Rattle.std.proofs.Common.{Vec, Global, ◌≡◌, List, [], ◌∷◌, ℕ, ◌++◌, ap, ap₂, refl, sym, ◌∙◌, append_assoc}
 use Rattle.std.proofs.Common.{append-nil, Bool, true, false, length}
 use Rattle.std.specs.Prelude.{Option, Result, IfOk, codes, ◌==◌}
@@ -13,11 +13,11 @@ use Rattle.miette_lsp.specs.rules.Diagnostics.{code_pairs, href_pairs, maybe_row
 use Rattle.miette_lsp.specs.rules.Diagnostics.{see_row}
 use Rattle.miette_lsp.specs.steps.Putting.{documents_of}
 
--- a text, and then others behind it
+-- a text, and then others after it
 behind : (old mid new text more : List ℕ) → mid ≡ old ++ text → new ≡ mid ++ more → new ≡ old ++ (text ++ more)
 behind old mid new text more e f = f ∙ ap (λ l. l ++ more) e ∙ append_assoc old text more
 
--- the rows of a message, one behind the other
+-- the rows of a message, one after the other
 pub message_written : (f : Finding) (old own labelled caused helped fixed new : List ℕ) → own ≡ old ++ f.message
     → labelled ≡ own ++ primary_row f.primary → caused ≡ labelled ++ rows (codes "caused by: ") f.causes
     → helped ≡ caused ++ maybe_row (codes "help: ") f.help → fixed ≡ helped ++ rows (codes "fix: ") f.unapplied
@@ -33,7 +33,7 @@ message_written f old own labelled caused helped fixed new a p b c d e =
     (behind labelled caused new causes (help ++ (fixes ++ see)) b
     (behind caused helped new help (fixes ++ see) c (behind helped fixed new fixes see d e))))
 
--- members, and then others behind them
+-- members, and then others after them
 pub two_parts : {E : Type 0} (r : Result (Vec (Bor (List ℕ) × Value) Global) E) (a one p q x y : Pairs)
     → one ≡ a ++ p → p ≡ x → q ≡ y → IfOk r (λ all. pairs_of all.items ≡ one ++ q)
     → IfOk r (λ all. pairs_of all.items ≡ a ++ (x ++ y))

@@ -30,7 +30,7 @@ read_text tool ts old new put reads =
     found.are ∙ trees_read 0 None found.answers ts reads found.possible in
     put.appended ∙ ap (λ l. old ++ l) (put.is_given.spelled ∙ ap (λ fs. json_text (documents tool fs)) same)
 
--- of documents that are put behind a text
+-- of documents that are put after a text
 pub text_read : (tool : List ℕ) (ts : Trees) (text added old new : List ℕ) → IsLspOf tool ts text
     → new ≡ old ++ added → added ≡ text → AllAlwaysRead ts → new ≡ old ++ lsp_text tool ts
 text_read tool ts text added old new h put same reads =

@@ -51,7 +51,7 @@ fn mark_source<'a>(mark: &Option<Mark<'a>>) -> Option<Named<'a>>
     }
 }
 
-// Where a uri stands, behind the others where it is new, and whether it is.
+// Where a uri stands, after the others where it is new, and whether it is.
 fn place_of_uri(uris: &mut IndexSet<String>, uri: String) -> Result<(usize, bool), AllocError>
     ensures new { IfOk result (λ at. at.1 ≡ not (list_any (bytes_eq (string_bytes uri)) (texts_of uris.old.keys))) }
     ensures uris { OnOk result (texts_of uris.new.keys

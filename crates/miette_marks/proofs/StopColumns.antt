@@ -35,7 +35,7 @@ same_in : (r : Rounding) (left cells : List Cell) (e w o : ℕ)
 same_in Down left cells e w o same = same.0
 same_in Up left cells e w o same = same.1
 
--- at the text's end, and behind it
+-- at the text's end, and after it
 pub at_end : (r : Rounding) (e w o : ℕ) → first_column [] e w o ≡ column_in r [] e w o
 at_end Down e w o = refl
 at_end Up e w o = refl
@@ -72,7 +72,7 @@ stop_is cells p stop at f h o le r e w =
     omega (arith, ltb-false (o - stop.plain.start) stop.plain.many n, f.many) in
     rw n (plain_end r stop.plain.start stop.plain.from f.bytes stop.walk e w o past ∙ here))
 
--- an offset in a stop's printable ASCII, and one behind it
+-- an offset in a stop's printable ASCII, and one after it
 pub in_plain : (r : Rounding) (stop : Stop) (e w o : ℕ) → o - stop.plain.start < stop.plain.many
     → stop.plain.from + (o - stop.plain.start) ≡ column_from r stop e w o
 in_plain r stop e w o lt = rw (lt-ltb (o - stop.plain.start) stop.plain.many lt) refl

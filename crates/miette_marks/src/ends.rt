@@ -18,7 +18,7 @@ use miette_snippet_rules::marks::Mark;
 use miette_source_lines::lines::LineOfText;
 use std::alloc::{AllocError, Global};
 
-// Puts the anchor of a mark behind other ends, where a text hangs from it.
+// Puts the anchor of a mark after other ends, where a text hangs from it.
 fn push_anchor(ends: &mut Vec<usize>, mark: &Mark<'_>) -> Result<(), AllocError>
     ensures { OnOk result (ends.new.items
         ≡ ends.old.items ++ hung_at (mark_of mark.now).label.parts mark.now.anchor) }
@@ -30,7 +30,7 @@ fn push_anchor(ends: &mut Vec<usize>, mark: &Mark<'_>) -> Result<(), AllocError>
     Ok(())
 }
 
-// Puts the ends of marks behind others: of each its first column, its anchor where a text hangs from it, and its last
+// Puts the ends of marks after others: of each its first column, its anchor where a text hangs from it, and its last
 // column.
 fn push_mark_ends(ends: &mut Vec<usize>, marks: &[Mark<'_>]) -> Result<(), AllocError>
     ensures { OnOk result (ends.new.items ≡ ends.old.items ++ mark_ends (map mark_of marks.now)) }
@@ -80,7 +80,7 @@ fn some_touches(line: &LineOfText, labels: &[PlacedLabel<'_>]) -> bool
     false
 }
 
-// Puts the end of a label of several lines behind other ends, by the columns of the line's text: its first column where
+// Puts the end of a label of several lines after other ends, by the columns of the line's text: its first column where
 // it begins on the line, its last one where it ends there.
 fn push_spread_end(
     ends: &mut Vec<usize>,

@@ -33,7 +33,7 @@ struct Stop<'a> {
 }
 
 /// Where the characters of a line's text stand, by offset. Printable ASCII characters need no walk: their bytes are
-/// their columns. So they do at the text's beginning (`plain`), and behind each stop of the rest (`whole`).
+/// their columns. So they do at the text's beginning (`plain`), and after each stop of the rest (`whole`).
 #[derive(Drop)]
 pub struct Columns<'a> {
     plain: &'a [u8],
@@ -98,7 +98,7 @@ fn column_among(
     Ok(None)
 }
 
-// The last of these stops that doesn't stand behind an offset, or one in front of all cells where none does.
+// The last of these stops that doesn't stand after an offset, or one in front of all cells where none does.
 fn stop_to<'a>(whole: &Walk<'a>, stops: &[Stop<'a>], offset: usize) -> Stop<'a>
     requires { All (IsStop whole.now) stops.now }
     ensures { IsStopFor whole.now result offset }
@@ -125,7 +125,7 @@ fn stop_to<'a>(whole: &Walk<'a>, stops: &[Stop<'a>], offset: usize) -> Stop<'a>
     }
 }
 
-// The stops of a line's text behind a column, whose cells are given, and the text's columns.
+// The stops of a line's text after a column, whose cells are given, and the text's columns.
 fn stops_of<'a>(
     alloc: Global,
     walk: Walk<'a>,
@@ -154,8 +154,8 @@ fn stops_of<'a>(
 }
 
 impl<'a> Columns<'a> {
-    /// The columns of a line's text, whose bytes are given, with tabs of so many columns. `AllocError` where memory
-    /// is refused, or the text has more columns than a `usize` counts.
+    /// The columns of a line's text, whose bytes are given, with tabs of `tab` columns. `AllocError` where memory is
+    /// refused, or the text has more columns than a `usize` counts.
     pub fn new(
         alloc: Global,
         line: &LineOfText,
@@ -179,7 +179,7 @@ impl<'a> Columns<'a> {
         })
     }
 
-    // The column of an offset at the text's end, or behind it.
+    // The column of an offset at the text's end, or after it.
     fn column_at_end(&self, offset: usize) -> Result<usize, AllocError>
         ensures { IfOk result (λ column. column ≡ first_of_cells [] self.now.text_end self.now.width offset) }
     {
@@ -226,8 +226,8 @@ impl<'a> Columns<'a> {
         self.column_of(Rounding::Up, offset)
     }
 
-    /// The column at which a label's mark begins, unless the mark before it ends behind that: the first one behind the
-    /// text, or that of the label's first byte. `AllocError` as of `first_column`.
+    /// The column at which a label's mark begins, unless the mark before it ends later: the first one after the text,
+    /// or that of the label's first byte. `AllocError` as of `first_column`.
     pub(crate) fn label_column(&self, label: &PlacedLabel<'_>) -> Result<usize, AllocError>
         ensures { IfOk result (λ column. column ≡ label_from self.now (drawn_of label.now)) }
     {
@@ -265,7 +265,7 @@ fn next_mark<'a>(
     })
 }
 
-// The marks of labels by offset, each behind the one before it.
+// The marks of labels by offset, each after the one before it.
 fn marks_in<'a>(
     alloc: Global,
     columns: &Columns<'_>,
@@ -285,10 +285,9 @@ fn marks_in<'a>(
     Ok(made)
 }
 
-/// The marks of the labels that lie on a line alone, by offset, where the line's text has these bytes and tabs so
-/// many columns.
-/// Each has at least one column, and begins at its label's first column or where the mark before it ends, whichever
-/// is later. `AllocError` where memory is refused, or a column is past the largest `usize`.
+/// The marks of the labels that lie on a line alone, by offset, where the line's text has these bytes and tabs `tab`
+/// columns. Each has at least one column, and begins at its label's first column or where the mark before it ends,
+/// whichever is later. `AllocError` where memory is refused, or a column is past the largest `usize`.
 pub fn marks_on<'a>(
     alloc: Global,
     line: &LineOfText,

@@ -1,4 +1,4 @@
--- Fixes that are put behind those that are held.
+-- Fixes that are put after those that are held.
 use Rattle.std.proofs.Common.{◌≡◌, ℕ, List, [], ◌∷◌, ◌++◌, Some, None, Bool, true, false, refl, sym, ap, ap₂}
 use Rattle.std.proofs.Common.{◌∙◌, subst, map, cond, bytes_eq, append_assoc, append-nil}
 use Rattle.std.specs.Prelude.{◌||◌, is_some, if◌then◌else◌, Vec, string_bytes}
@@ -97,7 +97,7 @@ name_added names it e = sym (skip (has_name it.name names) e)
     skip false e = refl
     skip true e = absurd (cc)
 
--- ---- a name's fixes, with more behind them
+-- ---- a name's fixes, with more after them
 
 over : {A : Type 0} (b : Bool) (x y z : A) → cond b x (cond b y z) ≡ cond b x z
 over true x y z = refl

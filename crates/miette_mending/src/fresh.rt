@@ -26,7 +26,7 @@ fn row_start(bytes: &[u8], offset: usize) -> usize
     }
 }
 
-/// What stands behind the end of a row; nothing where there is none.
+/// What stands after the end of a row; nothing where there is none.
 fn behind_end(rest: &[u8]) -> Option<&[u8]>
     ensures { option_copied result ≡ behind_end rest.now }
 {
@@ -41,7 +41,7 @@ fn behind_end(rest: &[u8]) -> Option<&[u8]>
     }
 }
 
-/// What stands behind a row and its end, where bytes begin with them.
+/// What stands after a row and its end, where bytes begin with them.
 fn behind_row<'b>(row: &str, bytes: &'b [u8]) -> Option<&'b [u8]>
     ensures { option_copied result ≡ behind_row row.now bytes.now }
 {
@@ -82,7 +82,7 @@ fn is_first(byte: u8) -> bool
     byte < 128 || 192 <= byte
 }
 
-/// The column, from 1, behind these bytes of a row.
+/// The column, from 1, after these bytes of a row.
 fn column_behind(bytes: &[u8]) -> usize
     ensures { result ≡ column_behind bytes.now }
 {

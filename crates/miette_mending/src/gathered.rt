@@ -65,7 +65,7 @@ impl Gathered {
         Ok(())
     }
 
-    /// Puts fixes behind those of a file.
+    /// Puts fixes after those of a file.
     ///
     /// # Errors
     /// `AllocError` where memory is refused.

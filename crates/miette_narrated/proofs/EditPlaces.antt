@@ -19,7 +19,7 @@ get_dropped [] (suc k) = refl
 get_dropped (x ∷ xs) zero = refl
 get_dropped (x ∷ xs) (suc k) = get_dropped xs k
 
--- behind the last line the bytes end
+-- after the last line the bytes end
 start_past : (bytes : List ℕ) → line_start bytes (length (lines_of bytes)) ≡ length bytes
 unfolding line_start
 start_past bytes =

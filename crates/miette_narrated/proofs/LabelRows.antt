@@ -15,7 +15,7 @@ use Rattle.miette_narrated.specs.steps.Conversions.{range_of, ranges_of}
 use Rattle.miette_narrated.specs.steps.Sweeping.{BeginsFrom, AreOrdered}
 use Rattle.miette_narrated.proofs.Sweeps.{lower, row_beyond}
 
--- a label that begins in the line's text and ends behind it
+-- a label that begins in the line's text and ends after it
 pub begun_here : (it : SnippetLine) (d : LabelRange) → ends_before it d.start d.after ≡ false
     → begins_within it d.start ≡ true → begun_row it d ≡ start_row it d
 begun_here it d ends begins = rw (ends, begins) refl

@@ -14,7 +14,7 @@ use Rattle.miette_narrated.specs.rules.Labels.{LabelRange, SnippetLine}
 use Rattle.miette_narrated.specs.rules.Lines.{snippet_line, rows_of_line, rows_of_lines}
 use Rattle.miette_basics.specs.rules.Lists.{is_nil}
 
--- The lines that are left of what a read lent, with numbers behind this one, have the rows that are left of the goal.
+-- The lines that are left of a read's contents, with numbers after this one, have the rows that are left of the goal.
 pub record AreLeft (labels : List LabelRange) (lent : Contents) (before : ℕ) (rest : Rest) (out goal : List ℕ) : Type 0
   where
     pub rows : out ++ rows_of_lines labels lent (before + 1) (lines_left rest) ≡ goal

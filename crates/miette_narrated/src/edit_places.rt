@@ -27,7 +27,7 @@ pub(crate) struct KeptLine<'a> {
     columns: TextColumns<'a>,
 }
 
-/// The text of the line that begins at a place, nothing at the end of the bytes or behind it.
+/// The text of the line that begins at a place, nothing at the end of the bytes or after it.
 fn text_at(bytes: &[u8], start: usize) -> &[u8]
     ensures { result.now ≡ text_at bytes.now start }
 {

@@ -92,7 +92,7 @@ fn push_edit<'a>(
     out.push_str("\n")
 }
 
-/// The rows of edits in their order, none of which ends behind the source's end.
+/// The rows of edits in their order, none of which ends after the source's end.
 fn push_edits(alloc: Global, out: &mut String, source: &IndexedSource, edits: &[&Edit]) -> Appended
     requires { list_any (ends_behind (length source.now)) (edits_of edits.now) ≡ false }
     ensures { OnOk result (string_bytes out.new

@@ -16,7 +16,7 @@ use miette_columns::text_columns::TextColumns;
 use miette_label_rules::placed::PlacedLabel;
 use std::alloc::{AllocError, Global};
 
-/// Whether a label begins on the line or behind it.
+/// Whether a label begins on the line or after it.
 fn begins(it: &NarratedLine<'_>, label: &PlacedLabel<'_>) -> bool
     ensures { result ≡ reaches_line (narrated_line it.now) label.now.start }
 {
@@ -45,7 +45,7 @@ fn ends_before(it: &NarratedLine<'_>, label: &PlacedLabel<'_>) -> bool
     label.after <= it.line.text_end || it.is_last && label.start <= it.data_end
 }
 
-/// Appends a label's text behind a colon, where there is one, and a line feed.
+/// Appends a label's text after a colon, where there is one, and a line feed.
 fn push_end(out: &mut String, text: Option<&str>) -> Result<(), AllocError>
     ensures { OnOk result (string_bytes out.new
         ≡ string_bytes out.old ++ row (text_behind (option_copied text.entry))) }
@@ -144,7 +144,7 @@ impl<'r, 'a> LabelledLine<'r, 'a> {
         push_end(out, label.text)
     }
 
-    /// The row of a label that begins on the line or behind it, where it has one there:
+    /// The row of a label that begins on the line or after it, where it has one there:
     /// `    label starting at line 1, column 1`, or that of a label that ends there too.
     fn push_begun(&self, out: &mut String, label: &PlacedLabel<'_>) -> Result<(), AllocError>
         ensures { OnOk result (string_bytes out.new ≡ string_bytes out.old

@@ -90,7 +90,7 @@ fn push_inner(
     row.push_labels(out, begun)
 }
 
-/// A line of what a snippet's read lent.
+/// A line of the contents that a snippet's read gave.
 fn narrated_line<'a>(
     lent: &'a MietteSpanContents<'_>,
     line: LineOfText,
@@ -114,7 +114,7 @@ fn narrated_line<'a>(
     }
 }
 
-/// The rows of a snippet's lines, from what its read lent.
+/// The rows of a snippet's lines, from the contents that its read gave.
 pub(crate) fn push_lines(
     out: &mut String,
     lent: &MietteSpanContents<'_>,

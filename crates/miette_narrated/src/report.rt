@@ -40,7 +40,7 @@ fn push_head<D: Diagnostic, S: SourceCode>(report: &Report<D, S>, out: &mut Stri
     push_severity(out, report.severity())
 }
 
-/// The message of a related report behind its title, its severity, and a blank row.
+/// The message of a related report after its title, its severity, and a blank row.
 fn push_titled<D: Diagnostic, S: SourceCode>(report: &Report<D, S>, out: &mut String) -> Appended
     ensures { OnOk result (string_bytes out.new
         ≡ string_bytes out.old ++ titled_rows (head (tree_of D.meaning S.source report.now))) }
@@ -165,7 +165,7 @@ fn push_report<'a, D: Diagnostic, S: SourceCode>(
     push_related(alloc, context, report.related(), source, out)
 }
 
-/// Appends related reports, under a report with this source, behind a blank row.
+/// Appends related reports, under a report with this source, after a blank row.
 #[cycle(report)]
 fn push_related<'a, D: Diagnostic, S: SourceCode>(
     alloc: Global,

@@ -57,7 +57,7 @@ fn push_begin(out: &mut String, lent: &MietteSpanContents<'_>) -> Appended
     out.push_str("\n\n")
 }
 
-/// A snippet, from what its read lent.
+/// A snippet, from the contents that its read gave.
 fn push_snippet(
     out: &mut String,
     lent: &MietteSpanContents<'_>,

@@ -30,7 +30,7 @@ fn keep_reaching(running: &mut Vec<PlacedLabel<'_>>, place: usize)
     running.retain(|label| place <= label.after);
 }
 
-/// Puts the labels that begin at `last` or before behind those that run, where they reach the sweep's place.
+/// Puts the labels that begin at `last` or before after those that run, where they reach the sweep's place.
 fn take_more<'a>(
     labels: &[PlacedLabel<'a>],
     last: usize,

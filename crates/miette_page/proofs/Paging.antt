@@ -51,7 +51,7 @@ pub nonzero : (n : ℕ) → (n == 0) ≡ false → 0 < n
 nonzero zero h = absurd (cc)
 nonzero (suc n) h = omega arith
 
--- spaces, and digits behind them
+-- spaces, and digits after them
 pub right_put : (number columns gap : ℕ) (digits : List ℕ) (p q r : Printout) → digits ≡ decimal number → gap ≡ columns
     - length digits → IsAscii digits → q ≡ p ⊕ text_tokens (replicate gap 32) → r ≡ q ⊕ text_tokens (chars digits) →
     r ≡ p ⊕ text_tokens (replicate (columns - length (decimal number)) 32 ++ decimal number)

@@ -21,10 +21,10 @@ pub const PLAIN: Style = Style {
     underline: false,
 };
 
-/// Rows of runs, each run a style and a text, printed behind what an output holds.
+/// Rows of runs, each run a style and a text, printed after what an output holds.
 ///
-/// A run is begun with its style and then gets its text; a row is ended behind its last run. A run without a
-/// character prints nothing. Where memory is wanting, what the page holds is open: it's to be dropped.
+/// A run is begun with its style and then gets its text; a row is ended after its last run. A run without a character
+/// prints nothing. Where memory is wanting, what the page holds is open: it's to be dropped.
 #[derive(Debug, Drop)]
 pub struct Page<O: Canvas> {
     out: O,
@@ -51,7 +51,7 @@ fn start_run<O: Canvas>(out: &mut O, style: Style, begun: bool) -> Result<(), Al
     out.begin(style)
 }
 
-// What stands behind the last character of a run.
+// What stands after the last character of a run.
 fn end_run<O: Canvas>(out: &mut O, style: Style, begun: bool) -> Result<(), AllocError>
     ensures { OnOk result (O.written out.new
         ≡ ended_text (record { text = O.written out.old; style = style; begun = begun })) }
@@ -62,10 +62,10 @@ fn end_run<O: Canvas>(out: &mut O, style: Style, begun: bool) -> Result<(), Allo
     out.end()
 }
 
-// Room for so many copies of a character is taken as they come.
+// Room for up to `FEW` copies of a character is taken as they come.
 const FEW: usize = 8;
 
-// So many copies of a character are put at once, where it is one that pictures repeat.
+// `RUN` copies of a character are put at once, where it is one that pictures repeat.
 const RUN: usize = 16;
 
 // A text of the copies that are put at once.
@@ -132,7 +132,7 @@ impl<O: Canvas + Drop> Page<O> {
 }
 
 impl<O: Canvas> Page<O> {
-    /// A page that prints behind what the output holds.
+    /// A page that prints after what the output holds.
     pub fn over(out: O) -> Self
         ensures { result ≡ printout_of (O.written out) }
     {
@@ -174,7 +174,7 @@ impl<O: Canvas> Page<O> {
         Ok(())
     }
 
-    /// Puts a character behind the run's text. `AllocError` where memory is refused.
+    /// Puts a character after the run's text. `AllocError` where memory is refused.
     pub fn push(&mut self, character: char) -> Result<(), AllocError>
         ensures { OnOk result (self.new ≡ self.old ⊕ text_tokens (character ∷ [])) }
     {
@@ -182,7 +182,7 @@ impl<O: Canvas> Page<O> {
         self.out.push(character)
     }
 
-    /// Puts a text behind the run's text. `AllocError` where memory is refused.
+    /// Puts a text after the run's text. `AllocError` where memory is refused.
     pub fn push_str(&mut self, text: &str) -> Result<(), AllocError>
         ensures { OnOk result (self.new ≡ self.old ⊕ text_tokens (chars text.now)) }
     {
@@ -193,7 +193,7 @@ impl<O: Canvas> Page<O> {
         self.out.push_str(text)
     }
 
-    /// Puts copies of a character behind the run's text. `AllocError` where memory is refused.
+    /// Puts copies of a character after the run's text. `AllocError` where memory is refused.
     pub fn push_copies(&mut self, character: char, many: usize) -> Result<(), AllocError>
         ensures { OnOk result (self.new ≡ self.old ⊕ text_tokens (replicate many character)) }
     {
@@ -227,7 +227,7 @@ impl<O: Canvas> Page<O> {
         self.push_copies(bar, many)
     }
 
-    /// Puts characters behind the run's text. `AllocError` where memory is refused.
+    /// Puts characters after the run's text. `AllocError` where memory is refused.
     pub fn push_chars(&mut self, characters: &[char]) -> Result<(), AllocError>
         ensures { OnOk result (self.new ≡ self.old ⊕ text_tokens characters.now) }
     {
@@ -238,7 +238,7 @@ impl<O: Canvas> Page<O> {
         self.out.push_chars(characters)
     }
 
-    /// Puts a number behind the run's text, its digits behind the spaces that fill so many columns: `  12`.
+    /// Puts a number after the run's text, its digits to the right in `columns` columns: `  12`.
     /// `AllocError` where memory is refused.
     pub fn push_right(&mut self, number: usize, columns: usize) -> Result<(), AllocError>
         ensures { OnOk result (self.new ≡ self.old
@@ -250,7 +250,7 @@ impl<O: Canvas> Page<O> {
         self.push_str(digits)
     }
 
-    /// Puts a number behind the run's text, in decimal digits. `AllocError` where memory is refused.
+    /// Puts a number after the run's text, in decimal digits. `AllocError` where memory is refused.
     pub fn push_number(&mut self, number: usize) -> Result<(), AllocError>
         ensures { OnOk result (self.new ≡ self.old ⊕ text_tokens (decimal number)) }
     {

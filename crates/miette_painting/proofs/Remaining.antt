@@ -54,7 +54,7 @@ related_under outer inherited s blank = record {
 abbrev pub IsShown : {X A : Type 0} → Chain X A → X → (List Call → Type 0) → (List Call → Type 0) → List ℕ → Type 0
 IsShown {X} {A} k x begun end text = (a : A) × k.are x a × Leads begun (k.calls x a) end × (text ≡ k.shows x a)
 
--- Whatever answers there are for what remains, there are answers for all: the texts stand behind what is there, and the
+-- Whatever answers there are for what remains, there are answers for all: the texts stand after what is there, and the
 -- calls bring a highlighter from its first state over the state now. What remains reads where all reads, and is no
 -- larger.
 pub record Remains {X A : Type 0} (k : Chain X A) (begun state : List Call → Type 0) (all left : X) (old now : List ℕ)

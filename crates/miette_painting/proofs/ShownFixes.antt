@@ -1,4 +1,4 @@
--- Fixes behind a text: each as its message and its rows.
+-- Fixes after a text: each as its message and its rows.
 use Rattle.std.proofs.Common.{◌≡◌, Bool, true, false, List, [], ◌∷◌, ◌++◌, ℕ, map, Option, Some, None, refl, sym, ap}
 use Rattle.std.proofs.Common.{ap₂, ◌∙◌}
 use Rattle.std.proofs.Common.{append-nil, arith, chars, length, nat_eq}
@@ -24,7 +24,7 @@ use Rattle.miette_painting.specs.views.PartTexts.{AppendsFixes}
 use Rattle.miette_picture_rules.proofs.PrintedRows.{rows_printed}
 use Rattle.miette_painting.proofs.Steps.{behind}
 
--- rows that a page printed behind a text
+-- rows that a page printed after a text
 pub rows_behind : (before : List ℕ) (rows : List Row) (over page : Printout) (out : List ℕ) → over ≡ printout_of before
     → page ≡ over ⊕ rows_tokens rows → out ≡ ended_text page → out ≡ before ++ rows_text (map runs_of_row rows)
 rows_behind before rows over page out o p e =
@@ -47,7 +47,7 @@ rows_shown s (Some source) fails edits = refl
 abbrev pub message_of : Settings → Proposal → List ℕ
 message_of s fix = wrapped_under s (fix_indent s) further_fix_indent (chars fix.message) ++ line_feed
 
--- it stands behind a text
+-- it stands after a text
 abbrev IsToldBehind : Settings → List ℕ → List ℕ → List ℕ → Type 0
 IsToldBehind s text old told =
     told ≡ old ++ (wrapped_under s (fix_indent s) further_fix_indent (chars text) ++ line_feed)

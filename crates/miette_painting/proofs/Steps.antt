@@ -235,7 +235,7 @@ root_step s blank begun mid now (tree m own c r) causes text q p =
 
 -- ---- texts that are appended
 
--- one text behind another
+-- one text after another
 pub behind : (old mid new first more : List ℕ) → mid ≡ old ++ first → new ≡ mid ++ more → new ≡ old ++ (first ++ more)
 behind old mid new first more p q = q ∙ ap (λ x. x ++ more) p ∙ append_assoc old first more
 

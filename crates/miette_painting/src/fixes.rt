@@ -4,7 +4,7 @@ ghost use Rattle.std.specs.Prelude.{◌≡◌, ◌++◌, Bool, map, OnOk, Option
 ghost use Rattle.std.specs.List.{list_any};
 ghost use Rattle.miette_page.specs.views.Printouts.{◌⊕◌};
 ghost use Rattle.miette_page.specs.views.Tokens.{rows_tokens};
-ghost use Rattle.miette_snippet_rules.specs.views.SettingsView.{settings_of as snippet_settings};
+ghost use Rattle.miette_snippet_rules.specs.views.Settings.{settings_of as snippet_settings};
 ghost use Rattle.miette_picture_rules.specs.rules.DiagnosticText.{fix_text, fixes_text};
 ghost use Rattle.miette_picture_rules.specs.rules.Snippets.{drawn_fix};
 ghost use Rattle.miette_picture_rules.specs.rules.Sources.{has_edits};

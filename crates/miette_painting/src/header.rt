@@ -20,7 +20,7 @@ fn push_blank_row(out: &mut Output) -> Result<(), AllocError>
     out.push_chars(&['\n', '\n'])
 }
 
-/// Appends the code of a link, and a space behind it.
+/// Appends the code of a link, and a space after it.
 fn push_linked_code(out: &mut Output, style: Style, code: &str) -> Result<(), AllocError>
     ensures { OnOk result (out.new ≡ out.old ++ print (parts.linked_code style (Some code.now))) }
 {

@@ -96,7 +96,7 @@ fn push_wrapped_text(
     out.push('\n')
 }
 
-// Appends a text behind an indent, and a line feed, where both stand in one row as they are; says whether.
+// Appends a text after an indent, and a line feed, where both stand in one row as they are; says whether.
 fn push_row<H>(painter: &mut Painter<'_, H>, first: &Runs, text: &str) -> Result<bool, AllocError>
     ensures fits { IfOk result (λ fits. fits ≡ true → (further : List ℕ) → painter.new.out ≡ painter.old.out
         ++ (indents.wrapped_behind (settings_of painter.old) (spell first.now) further (chars text.now)
@@ -267,7 +267,7 @@ fn further_indent<H>(painter: &Painter<'_, H>, kind: TextKind) -> Result<Runs, A
     }
 }
 
-// Appends a text behind its indents, wrapped, and a line feed, where this is what stands in front of its first row.
+// Appends a text after its indents, wrapped, and a line feed, where this is what stands in front of its first row.
 fn push_rows<H>(
     painter: &mut Painter<'_, H>,
     kind: TextKind,
@@ -285,7 +285,7 @@ fn push_rows<H>(
     push_wrapped_text(&mut painter.out, painter.alloc, under, text)
 }
 
-/// Appends a text behind its indents, wrapped, and a line feed.
+/// Appends a text after its indents, wrapped, and a line feed.
 pub fn push_text<H>(
     painter: &mut Painter<'_, H>,
     kind: TextKind,

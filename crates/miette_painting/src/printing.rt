@@ -1,4 +1,4 @@
-//! What was printed, put behind a text.
+//! What was printed, put after a text.
 
 ghost use Rattle.std.specs.Prelude.{◌≡◌, ◌++◌, OnErr, OnOk, encode_utf8_all, string_bytes};
 

@@ -67,7 +67,7 @@ fn layout_with<S: SourceCode>(layout: &LayoutOptions, sections: &[Snippets<S>]) 
     *layout
 }
 
-// The styles from the one on that comes after so many labels.
+// The styles from the one on that comes after `n` labels.
 fn turned(alloc: Global, n: usize, styles: &[Style]) -> Result<Vec<Style>, AllocError>
     ensures { IfOk result (λ v. v.items ≡ turned n styles.now) }
 {
@@ -80,7 +80,7 @@ fn turned(alloc: Global, n: usize, styles: &[Style]) -> Result<Vec<Style>, Alloc
     Ok(list)
 }
 
-// A theme whose next label has the highlight after those of so many labels.
+// A theme whose next label has the highlight after those of `n` labels.
 fn theme_after(alloc: Global, n: usize, theme: GraphicalTheme) -> Result<GraphicalTheme, AllocError>
     ensures { IfOk result (λ it. theme_of it ≡ theme_after n (theme_of theme)) }
 {
@@ -153,7 +153,7 @@ fn push_source<S: SourceCode, H: Highlighter>(
     }
 }
 
-// Appends the text of the rows over further sources, the first of which come after so many labels.
+// Appends the text of the rows over further sources, the first of which come after `before` labels.
 fn push_further<S: SourceCode, H: Highlighter>(
     painter: &mut Painter<'_, H>,
     layout: &LayoutOptions,

@@ -4,7 +4,7 @@ ghost use Rattle.std.specs.Prelude.{◌≡◌, IfOk, OnOk, false};
 ghost use Rattle.miette_snippet_rules.specs.rules.Highlighting.{follows, leaves_plain};
 ghost use Rattle.miette_picture_rules.specs.rules.PrintedDiagnostics.{labels_read, diagnostics_of};
 ghost use Rattle.miette_painting.specs.views.Painting.{Keeps, Paints, printing, settings_of};
-ghost use Rattle.miette_picture_rules.specs.views.SettingsView.{handler_settings};
+ghost use Rattle.miette_picture_rules.specs.views.Settings.{handler_settings};
 ghost use Rattle.miette_painting.specs.views.PartTexts.{AreRootCauses, IsOutermost};
 ghost use Rattle.miette_picture_rules.specs.steps.PrintedParts.{printed_root_causes};
 ghost use Rattle.miette_tree.specs.views.Report.{tree_of};

@@ -1,4 +1,4 @@
--- Rows behind bars: which have room on each level, and that they stand behind all bars at once.
+-- Rows after bars: which have room on each level, and that they stand after all bars at once.
 use Rattle.std.proofs.Common.{◌≡◌, ℕ, ◌+◌, ◌-◌, ◌≤◌, Bool, true, false, not, ◌&&◌, List, [], ◌∷◌, ◌++◌, refl, sym}
 use Rattle.std.proofs.Common.{ap, ap₂, ◌∙◌, append_assoc, append-nil, arith, if◌then◌else◌}
 use Rattle.std.proofs.lemmas.Bool.{and_parts}

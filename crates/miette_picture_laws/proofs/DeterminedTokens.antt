@@ -193,7 +193,7 @@ match-within (Raw prefix) text =
     (behind-within (length front) (drop (length front) text)))
     (λ n. tt)
 
--- a token, where there is one, has no more bytes than so many
+-- a token, where there is one, has at most `n` bytes
 abbrev IsWithin : ℕ → Option Token → Type 0
 IsWithin n o = IfSome o (λ token. token.bytes ≤ n)
 

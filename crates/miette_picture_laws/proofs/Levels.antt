@@ -30,9 +30,9 @@ use Rattle.miette_picture_laws.proofs.Arrows.{arrow_plan, left-by, printed-rows}
 use Rattle.miette_wrapping.proofs.FittingRows.{IsBehind, rows-wrapped}
 use Rattle.miette_printed_laws.proofs.Rows.{bytes-stand, within-stands}
 
--- ---- indents are to be seen, whatever stands behind them
+-- ---- indents are to be seen, whatever stands after them
 
--- seen whatever stands behind it
+-- seen whatever stands after it
 abbrev StaysSeen : List ℕ → Type 0
 StaysSeen text = (more : List ℕ) → IsSeen (text ++ more)
 

@@ -129,7 +129,7 @@ pub fn printed_law()
 {}
 
 /// Where rows are wrapped, rows of a text that have room stand under an arrow one after the other, without their last
-/// spaces and in their colours, each behind the bar that goes down from the arrow (`rows`); the first one stands behind
+/// spaces and in their colours, each after the bar that goes down from the arrow (`rows`); the first one stands after
 /// the arrow (`first`). So do the rows of an inner report, of which line feeds are cut off (`inner`), and what is drawn
 /// in a text that holds it under one arrow (`drawn`). The rows of snippets are such rows (`printed`).
 pub fn arrows_law()
@@ -145,10 +145,10 @@ pub fn arrows_law()
 {}
 
 /// Where rows are wrapped, the same under any number of arrows, each inside the one before: what is drawn in rows that
-/// have room on each level stands in a text that holds it, one row after the other, behind the bars of all arrows
+/// have room on each level stands in a text that holds it, one row after the other, after the bars of all arrows
 /// (`drawn`). So stand the rows of the snippets at each path, on lines of their own, in the bytes of a text that holds
 /// them, as each that may be printed does (`bytes`). Rows of at most the columns that are left under the innermost
-/// arrow have room on each level (`room`), and those in which something is to be seen stand behind all bars at once
+/// arrow have room on each level (`room`), and those in which something is to be seen stand after all bars at once
 /// (`bars`), in themes whose bar is a visible character, as that of each shipped one is (`shipped`).
 pub fn levels_law()
     ensures drawn { (s : Settings) (arrows : List Arrow) (drawn : Settings → List ℕ) (text : List ℕ) →
@@ -165,7 +165,7 @@ pub fn levels_law()
 
 /// The row of a source line that isn't cut, on which no label of several lines lies, in a theme whose numbers are plain
 /// and without a highlighter's pieces: a space, the number to the right in its columns, a space, the bar, a space, and
-/// the text, tabs as spaces, behind a gutter of spaces where the snippet has one (`rows`, by characters and by bytes).
+/// the text, tabs as spaces, after a gutter of spaces where the snippet has one (`rows`, by characters and by bytes).
 /// The bytes of printable ASCII text are the line's own (`text`).
 pub fn number_rows_law()
     ensures rows { (c : SnippetContext) (line : Line) (number : ℕ) → IsPlainLine c line → PrintsNumber c line number }

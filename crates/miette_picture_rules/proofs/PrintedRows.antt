@@ -1,4 +1,4 @@
--- What is printed behind a text as its rows are made is what these rows print.
+-- What is printed after a text as its rows are made is what these rows print.
 use Rattle.std.proofs.Common.{◌≡◌, ℕ, List, [], ◌∷◌, ◌++◌, map, sym, ap, ◌∙◌, append_assoc, append-nil}
 use Rattle.miette_runs.specs.rules.Runs.{print, printed_run}
 use Rattle.miette_style.specs.rules.Codes.{style_codes, colour_start, colour_stop}

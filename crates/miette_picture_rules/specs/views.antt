@@ -1,3 +1,3 @@
 -- What the code's values stand for.
 pub mod Handling
-pub mod SettingsView
+pub mod Settings

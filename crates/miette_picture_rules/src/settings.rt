@@ -2,7 +2,7 @@
 
 ghost use Rattle.std.specs.Prelude.{◌≡◌, chars, option_map};
 ghost use Rattle.miette_picture_rules.specs.rules.Settings.{default_settings, icon, severity_style};
-ghost use Rattle.miette_picture_rules.specs.views.SettingsView.{handler_settings};
+ghost use Rattle.miette_picture_rules.specs.views.Settings.{handler_settings};
 ghost use Rattle.miette_style.specs.rules.Themes.{theme_of};
 
 use miette_layout::options::LayoutOptions;

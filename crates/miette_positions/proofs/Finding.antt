@@ -40,7 +40,7 @@ reached_before (ToPosition p) m n l h =
         (ltb m n || (eqb m n && leb d f)) ≡ true → (ltb l n || (eqb l n && leb c f)) ≡ true
     positions l c m d n f h g = grind (arith, nat_tests)
 
--- behind a mark the next stop is one
+-- after a mark the next stop is one
 pub mark_on : (e : PositionEncoding) (source : List ℕ) (m n : Stop) → IsMark e source m →
     stops_from e source m ≡ n ∷ stops_from e source n → IsWithin source n → Later m n → IsMark e source n
 mark_on e source m n mark next within l =

@@ -19,7 +19,7 @@ use Rattle.miette_positions.specs.steps.Onward.{IsOnward, onward}
 use Rattle.miette_positions.proofs.Finding.{first_on, last_on, mark_on}
 use Rattle.miette_positions.proofs.Stepping.{Later, later_one, stops_one, within_one}
 
--- ---- the stop behind one of them
+-- ---- the stop after one of them
 
 units_one : (e : PositionEncoding) (b : ℕ) → b < 127 → units e (made b 1) ≡ 1
 units_one Utf8 b h = refl
@@ -70,7 +70,7 @@ starts e source n s le h =
     starts_with e source (drop s.offset source) n s refl (omega (arith, le, length-drop s.offset source))
     (omega (arith, le)) h
 
--- ---- the stop behind many
+-- ---- the stop after many
 
 abbrev stop_on : ℕ → ℕ → ℕ → Stop
 stop_on line offset column = record { offset = offset; position = record { line = line; column = column } }
@@ -126,7 +126,7 @@ first_many e source test (suc n) s le h each =
 
 -- ---- walks
 
--- a walk from behind them finds what one from before them does
+-- a walk from after them finds what one from before them does
 pub mark_behind : (e : PositionEncoding) (source : List ℕ) (most : ℕ) (m s t : Stop) → IsMark e source m →
     stops_from e source m ≡ s ∷ stops_from e source s → IsWithin source s → Later m s → IsOnward source most s t →
     IsMark e source t

@@ -60,7 +60,7 @@ each_cond : (P : Stop → Type 0) (b : Bool) (ss ts : List Stop) → Each P ss �
 each_cond P true ss ts h g = h
 each_cond P false ss ts h g = g
 
--- each stop stands behind those before it
+-- each stop stands after those before it
 abbrev Ordered : List Stop → Type 0
 Ordered ss = (i j : ℕ) (s t : Stop) → i < j → slice_get ss i ≡ Some s → slice_get ss j ≡ Some t → Later s t
 

@@ -43,9 +43,9 @@ units_bounds Utf8 c h = (h, omega arith)
 units_bounds Utf16 c h = let b = units_in (ltb c.code 0x10000) in (b.0, omega (arith, h, b.1))
 units_bounds Utf32 c h = (omega arith, omega (arith, h))
 
--- ---- the stop behind a character
+-- ---- the stop after a character
 
--- a stop stands behind another one, and so does its position
+-- a stop stands after another one, and so does its position
 pub record Later (s t : Stop) : Type 0 where
   pub offset : s.offset < t.offset
   pub position : is_until t.position s.position ≡ false
@@ -120,7 +120,7 @@ pub stops_end : (e : PositionEncoding) (source : List ℕ) (s : Stop) → drop s
     stops_from e source s ≡ []
 stops_end e source s h = ap (stops_behind e s) (characters_end (drop s.offset source) h)
 
--- behind a character that is no CR of a CRLF
+-- after a character that is no CR of a CRLF
 pub stops_one : (e : PositionEncoding) (source rest left : List ℕ) (s : Stop) (code size : ℕ) →
     rest ≡ drop s.offset source → left ≡ drop (s.offset + size) source → IsFirst rest left code size →
     (eqb code 13 && begins_with_lf (characters left)) ≡ false → stops_from e source s
@@ -133,7 +133,7 @@ stops_one e source rest left s code size r l f p =
     ∙ ap (λ bytes. stop_behind e s (made code size)
     ∷ stops_behind e (stop_behind e s (made code size)) (characters bytes)) l
 
--- behind a CR and an LF
+-- after a CR and an LF
 crlf : (e : PositionEncoding) (s : Stop) (code size newline more : ℕ) (cs : List Character) → code ≡ 13 →
     newline ≡ 10 → stops_behind e s (made code size ∷ made newline more ∷ cs)
     ≡ stop_behind e (moved_by size s) (made newline more)

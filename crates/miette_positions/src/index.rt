@@ -107,7 +107,7 @@ impl<'a> PositionIndex<'a> {
         marked::stop_before(&self.marked(), offset)
     }
 
-    /// The first stop at an offset or behind it, the source's end where there is none.
+    /// The first stop at an offset or after it, the source's end where there is none.
     pub fn stop_after(&self, offset: usize) -> Stop
         ensures { result ≡ stop_after self.now.encoding self.now.source offset }
     {
@@ -129,7 +129,7 @@ impl<'a> PositionIndex<'a> {
         marked::region_of(&self.marked(), span)
     }
 
-    /// The offset of a position. `None` behind a line's text, inside a character, and on no line.
+    /// The offset of a position. `None` after a line's text, inside a character, and on no line.
     pub fn offset(&self, position: Position) -> Option<usize>
         ensures { result ≡ offset_of self.now.encoding self.now.source position }
     {
@@ -143,8 +143,8 @@ impl<'a> PositionIndex<'a> {
         marked::span_of(&self.marked(), region)
     }
 
-    /// The offset of a position; behind a line's text that of the text's end, inside a character of its start,
-    /// behind the last line of the source's end.
+    /// The offset of a position; after a line's text that of the text's end, inside a character of its start, after
+    /// the last line of the source's end.
     pub fn clamped_offset(&self, position: Position) -> usize
         ensures { result ≡ (stop_at self.now.encoding self.now.source position).offset }
     {

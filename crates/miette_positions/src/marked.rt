@@ -39,7 +39,7 @@ fn is_until(position: Position, other: Position) -> bool
     position.line < other.line || (position.line == other.line && position.column <= other.column)
 }
 
-// Whether a stop isn't behind what is looked for.
+// Whether a stop isn't after what is looked for.
 fn is_reached(target: Target, stop: Stop) -> bool
     ensures { result ≡ is_reached target stop }
 {
@@ -49,7 +49,7 @@ fn is_reached(target: Target, stop: Stop) -> bool
     }
 }
 
-// How many columns on from a stop that isn't behind what is looked for nothing is.
+// How many columns a stop that isn't after what is looked for may go on without passing it.
 fn columns_before(target: Target, stop: Stop) -> usize
     requires { is_reached target stop ≡ true }
     ensures { (n : ℕ) → n ≤ result → is_reached target (onward n stop) ≡ true }
@@ -66,7 +66,7 @@ fn columns_before(target: Target, stop: Stop) -> usize
     }
 }
 
-// Of a stop and those behind it, the last one that isn't behind what is looked for.
+// Of a stop and those after it, the last one that isn't after what is looked for.
 fn last_from(encoding: PositionEncoding, source: &[u8], from: Stop, target: Target) -> Stop
     requires { IsWithin source.now from }
     ensures stop { result ≡ last_stop (is_reached target) from (stops_from encoding source.now from) }
@@ -82,7 +82,7 @@ fn last_from(encoding: PositionEncoding, source: &[u8], from: Stop, target: Targ
     here
 }
 
-// Of a stop and those behind it, the first one at an offset or behind it, else the last of all.
+// Of a stop and those after it, the first one at an offset or after it, else the last of all.
 fn first_from(encoding: PositionEncoding, source: &[u8], from: Stop, at: usize) -> Stop
     requires { IsWithin source.now from }
     ensures { result ≡ first_stop (λ s. nat_le at s.offset) from (stops_from encoding source.now from) }
@@ -97,7 +97,7 @@ fn first_from(encoding: PositionEncoding, source: &[u8], from: Stop, at: usize) 
     here
 }
 
-// Where the walk to something begins: the last mark that isn't behind it, found by halving, else the first stop.
+// Where the walk to something begins: the last mark that isn't after it, found by halving, else the first stop.
 fn nearest(encoding: PositionEncoding, source: &[u8], marks: &[Stop], target: Target) -> Stop
     requires { All (IsMark encoding source.now) marks.now }
     ensures mark { IsMark encoding source.now result }
@@ -119,7 +119,7 @@ fn nearest(encoding: PositionEncoding, source: &[u8], marks: &[Stop], target: Ta
     found
 }
 
-// The last stop that isn't behind what is looked for.
+// The last stop that isn't after what is looked for.
 fn stop_for(marked: &Marked<'_>, target: Target) -> Stop
     ensures stop { result ≡ stop_for marked.now.encoding marked.now.source.now target }
     ensures within { IsWithin marked.now.source.now result }
@@ -128,7 +128,7 @@ fn stop_for(marked: &Marked<'_>, target: Target) -> Stop
     last_from(marked.encoding, marked.source, from, target)
 }
 
-/// The first stop at an offset or behind it.
+/// The first stop at an offset or after it.
 pub(crate) fn stop_after(marked: &Marked<'_>, at: usize) -> Stop
     ensures { result ≡ stop_after marked.now.encoding marked.now.source.now at }
 {
@@ -141,7 +141,7 @@ pub(crate) fn stop_after(marked: &Marked<'_>, at: usize) -> Stop
     first_from(marked.encoding, marked.source, from, at)
 }
 
-// Where a span ends, cut to the end of so many bytes.
+// Where a span ends, cut to the source's end.
 fn cut_end(source: &[u8], span: SourceSpan) -> usize
     ensures { result ≡ cut_end source.now span }
 {
@@ -151,7 +151,7 @@ fn cut_end(source: &[u8], span: SourceSpan) -> usize
     span.offset() + span.len()
 }
 
-// Whether a span begins within the bytes or at their end, and ends at most one behind it.
+// Whether a span begins within the bytes or at their end, and ends at most one after it.
 fn is_accepted(source: &[u8], span: SourceSpan) -> bool
     ensures { result ≡ is_accepted source.now span }
 {

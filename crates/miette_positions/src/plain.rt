@@ -10,7 +10,7 @@ use crate::place::{Position, Stop};
 use crate::stops::rest_from;
 use miette_cells::plain::plain_len;
 
-// How many printable ASCII characters come next behind a stop, at most so many.
+// How many printable ASCII characters come next after a stop, at most `most`.
 fn plain_at(source: &[u8], from: Stop, most: usize) -> usize
     requires { IsWithin source.now from }
     ensures few { result ≤ most }
@@ -21,7 +21,7 @@ fn plain_at(source: &[u8], from: Stop, most: usize) -> usize
     plain_len(&rest[..rest.len().min(most)])
 }
 
-/// The stop behind the printable ASCII characters that come next, at most so many.
+/// The stop after the printable ASCII characters that come next, at most `most`.
 pub(crate) fn behind_plain(source: &[u8], from: Stop, most: usize) -> Stop
     requires { IsWithin source.now from }
     ensures passed { IsOnward source.now most from result }

@@ -27,7 +27,7 @@ pub fn region_of(span: SourceSpan, source: &[u8], encoding: PositionEncoding) ->
     marked::region_of(&unmarked(source, encoding), span)
 }
 
-/// The span of a region. `None` where one of its positions has no offset (behind a line's text, inside a character, on
+/// The span of a region. `None` where one of its positions has no offset (after a line's text, inside a character, on
 /// no line), or the end is before the start.
 pub fn span_of(region: Region, source: &[u8], encoding: PositionEncoding) -> Option<SourceSpan>
     ensures { result ≡ span_of encoding source.now region }
@@ -35,7 +35,7 @@ pub fn span_of(region: Region, source: &[u8], encoding: PositionEncoding) -> Opt
     marked::span_of(&unmarked(source, encoding), region)
 }
 
-/// The offset of a position; behind a line's text that of the text's end, inside a character of its start, behind the
+/// The offset of a position; after a line's text that of the text's end, inside a character of its start, after the
 /// last line of the source's end.
 pub fn clamped_offset(position: Position, source: &[u8], encoding: PositionEncoding) -> usize
     ensures { result ≡ (stop_at encoding source.now position).offset }

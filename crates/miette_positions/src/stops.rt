@@ -55,14 +55,14 @@ fn begins_with_lf(bytes: &[u8]) -> bool
     character(bytes).0 == '\n'
 }
 
-// Whether a character is a CR, and these bytes behind it begin with an LF.
+// Whether a character is a CR, and these bytes after it begin with an LF.
 fn is_pair(code: char, left: &[u8]) -> bool
     ensures { result ≡ ((code == 13) && begins_with_lf (characters left.now)) }
 {
     code == '\r' && begins_with_lf(left)
 }
 
-// How many code units a character of so many bytes has.
+// How many code units a character of `bytes` bytes has.
 fn units(encoding: PositionEncoding, code: char, bytes: usize) -> usize
     requires { 0 < bytes }
     ensures units { result ≡ units encoding (record { code = code; bytes = bytes }) }
@@ -82,7 +82,7 @@ fn is_newline(code: char) -> bool
     code == '\n' || code == '\r'
 }
 
-// The stop behind a character of so many bytes.
+// The stop after a character of `bytes` bytes.
 fn behind(encoding: PositionEncoding, from: Stop, code: char, bytes: usize) -> Stop
     requires some { 0 < bytes }
     requires small { from.offset + bytes < 2 ^ 63 }
@@ -105,7 +105,7 @@ fn behind(encoding: PositionEncoding, from: Stop, code: char, bytes: usize) -> S
     Stop { offset, position }
 }
 
-/// The stop of a source behind one of its stops, if there is one.
+/// The stop of a source after one of its stops, if there is one.
 pub(crate) fn next_stop(encoding: PositionEncoding, source: &[u8], from: Stop) -> Option<Stop>
     requires { IsWithin source.now from }
     ensures none { IsNone result → stops_from encoding source.now from ≡ [] }

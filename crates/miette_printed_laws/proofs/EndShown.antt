@@ -1,5 +1,5 @@
 -- Where labels at the end of a source are drawn and one of them is there, its last line is shown and they are drawn
--- behind it, with whatever lines of context.
+-- after it, with whatever lines of context.
 use Rattle.std.proofs.Common.{ℕ, ◌-◌, ◌<◌, ◌≤◌, ◌≡◌, inl, inr, max, Bool, true, false, cond, ltb, not, ◌&&◌}
 use Rattle.std.proofs.Common.{Option, Some, None, List, [], ◌∷◌, length, refl, sym, ap, ◌∙◌, arith}
 use Rattle.std.specs.Prelude.{unwrap_or}

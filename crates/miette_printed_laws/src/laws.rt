@@ -149,7 +149,7 @@ pub fn fixes_law()
 
 /// Of each printed diagnostic a report's text holds the snippets and the fixes: at each path, under the arrows that are
 /// on it, as they are where there is none (`holds`, `fixes`). There each row of the snippets stands in the bytes, with
-/// the line feed behind it, at the beginning of a line (`rows`), and so does each row below a fix's message
+/// the line feed after it, at the beginning of a line (`rows`), and so does each row below a fix's message
 /// (`fix_rows`). So it is of each text that may be printed (`text`).
 pub fn holding_law()
     ensures holds { (drawing : Drawing) (s : Settings) (t : Tree) (a : Answers) →

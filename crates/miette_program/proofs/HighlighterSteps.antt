@@ -173,7 +173,7 @@ led-on may_follow h k m p q = record {
 whole : (a b c d : List Call) → a ++ ((b ++ c) ++ d) ≡ ((a ++ b) ++ c) ++ d
 whole a b c d = sym (append_assoc a (b ++ c) d) ∙ ap (λ x. x ++ d) (sym (append_assoc a b c))
 
--- what happens behind calls that led there, happens later
+-- what happens after calls that led there, happens later
 pub happen-behind : {H : Type 0} (may_follow : H → List Call → Type 0) (h k : JobHandler H) (calls : List Call)
     → IsLed may_follow h k → HappenLater may_follow (highlighter_of k) calls
     → HappenLater may_follow (highlighter_of h) calls

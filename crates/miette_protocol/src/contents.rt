@@ -1,4 +1,4 @@
-//! What a read lends and says.
+//! The contents that a read gives.
 
 ghost use Rattle.std.specs.Prelude.{◌≡◌, Some, None};
 ghost use Rattle.std.specs.Option.{option_copied};
@@ -9,8 +9,8 @@ use miette_source_lines::near::{KnownLine, KnownLines};
 use std::alloc::AllocError;
 use std::marker::Model;
 
-/// What a read lends and says: the bytes, where they stand in the source, and whose they are. Nothing in
-/// it is a copy. It stands for the trait `SpanContents` of the original crate too.
+/// The contents that a read gives: the bytes, where they stand in the source, and whose they are. Nothing
+/// in it is a copy. It stands for the trait `SpanContents` of the original crate too.
 #[derive(Debug, Drop)]
 pub struct MietteSpanContents<'a> {
     bytes: &'a [u8],
@@ -39,7 +39,7 @@ impl<'a> Model for MietteSpanContents<'a> {
     } };
 }
 
-/// A clone lends and says the same. Takes no memory.
+/// A clone has the same contents. Takes no memory.
 impl<'a> Clone for MietteSpanContents<'a> {
     ghost use Rattle.std.specs.Prelude.{◌≡◌};
 
@@ -52,7 +52,7 @@ impl<'a> Clone for MietteSpanContents<'a> {
     }
 }
 
-/// A clone of contents keeps all that they lend and say.
+/// A clone of contents is equal to them.
 pub fn contents_clone_law<'a>()
     ensures { (a b : Contents) → ⟦<MietteSpanContents<'a> as Clone>⟧.is_clone a b → b ≡ a }
 {}

@@ -19,7 +19,7 @@ pub type ReadResult<'a> = Result<MietteSpanContents<'a>, MietteError>;
 pub trait SourceCode: Drop {
     ghost source: { Self → Source };
 
-    /// Reads a span with `before` lines of context before it and `after` lines after it. The contents lend the
+    /// Reads a span with `before` lines of context before it and `after` lines after it. The contents borrow the
     /// source's own bytes at the span that they report.
     ///
     /// A line ends with LF, CRLF or a CR that no LF follows. On a side without context the data begin or end

@@ -194,7 +194,7 @@ both_ways true y h k = sym (h refl)
 both_ways false true h k = k refl
 both_ways false false h k = refl
 
--- a line, and the one behind it
+-- a line, and the one after it
 record Follow (a b : Line) : Type 0 where
   pub here : a.start ≤ a.end
   pub next : a.end ≡ b.start

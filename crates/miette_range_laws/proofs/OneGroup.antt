@@ -39,7 +39,7 @@ held_from from lent (span ∷ spans) h any =
           (sym (ap (λ b. b || list_any (λ m. holds m lent) spans) f) ∙ any),
     ))
 
--- groups that all begin behind a place, or behind the beginning of data
+-- groups that all begin after a place, or after the beginning of data
 none_at : (o : ℕ) (before : Span) (spans : List Span) → o < before.offset → IsAscending before.offset spans
     → filter (at_place o) (stretches_from before spans) ≡ []
 none_at o before [] lt h = rw (lt-leb before.offset o lt) refl

@@ -1,4 +1,4 @@
--- The runs of the numbers that pass a test: the number before a run doesn't pass, nor does the one behind it.
+-- The runs of the numbers that pass a test: the number before a run doesn't pass, nor does the one after it.
 use Rattle.std.proofs.Common.{ℕ, zero, suc, ◌+◌, ◌-◌, ◌<◌, ◌≤◌, ◌≡◌, Bool, true, false, eqb, List, [], ◌∷◌, length}
 use Rattle.std.proofs.Common.{refl, sym, ap, ◌∙◌, ⊎_elim, subst, arith}
 use Rattle.std.specs.List.{range_with_len, filter, AllByRecursion}
@@ -115,7 +115,7 @@ stretches p from (suc many) to e =
     (λ t. rw t (onto p from to (ranges (filter p (range_with_len (from + 1) many))) (omega (arith, e)) t rest))
     (λ f. rw f (unpassed p from to (ranges (filter p (range_with_len (from + 1) many))) f rest))
 
--- some of the numbers up to a place: all of them pass, but not the one before them or the one behind
+-- some of the numbers up to a place: all of them pass, but not the one before them or the one after
 pub record IsMaximal (p : ℕ → Bool) (to low many : ℕ) : Type 0 where
   pub some : 0 < many
   pub inside : low + many ≤ to

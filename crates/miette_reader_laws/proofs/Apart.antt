@@ -126,7 +126,7 @@ found_by opens n left true e h = inr e
 found_by opens n left false e (inl is) = inl (omega (arith, is))
 found_by opens n left false e (inr is) = inr is
 
--- a number behind all lists, or that of one that is open
+-- a number after all lists, or that of one that is open
 found_list : (opens : ℕ → Bool) (n left : ℕ)
     → (n + left ≤ first_open opens n left) ⊎ (opens (first_open opens n left) ≡ true)
 found_list opens n zero = inl (omega arith)

@@ -64,7 +64,7 @@ none_overlap (x ∷ xs) e h k =
     or_from (list_any (overlap x) (xs ++ e ∷ [])) (some_overlap (xs ++ e ∷ []))
     (none_more (overlap x) xs e parts.0 (no_overlap e x conflicts.0)) (none_overlap xs e parts.1 conflicts.1)
 
--- ---- the fixes of a proposal over a file of so many bytes
+-- ---- the fixes of a proposal over a file of `n` bytes
 
 module _ (name : List ℕ) (n : ℕ) where
   abbrev IsGood : Proposal → Type 0

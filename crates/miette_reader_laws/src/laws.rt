@@ -35,7 +35,7 @@ pub fn own_words_stay()
 
 /// What is told at a place that is in its file is shown in a list over that file: by a label over just these bytes,
 /// with each row of it, or, where it has no rows, by a label around them (`found`). What is told at any other place is
-/// a cause text, behind the place's name, line and column (`missed`), and what is told at no place is one of its own
+/// a cause text, after the place's name, line and column (`missed`), and what is told at no place is one of its own
 /// (`placeless`).
 pub fn places_are_shown()
     ensures found { (files : List ℕ → Option Source) (said : Said) (told : List Told) (offers : List Offer)

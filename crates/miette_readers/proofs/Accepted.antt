@@ -104,7 +104,7 @@ opened_by opens n left true e h = inr e
 opened_by opens n left false e (inl is) = inl (omega (arith, is))
 opened_by opens n left false e (inr is) = inr is
 
--- the number behind all lists, or that of one that is open
+-- the number after all lists, or that of one that is open
 opened : (opens : ℕ → Bool) (n left : ℕ)
     → (first_open opens n left ≡ n + left) ⊎ (opens (first_open opens n left) ≡ true)
 opened opens n zero = inl (omega arith)

@@ -42,7 +42,7 @@ part_behind : (row front text : List ℕ) → IsPart row text → IsPart row (fr
 part_behind row front text h =
     (front ++ h.0, h.1, ap (λ t. front ++ t) h.2 ∙ sym (append_assoc front h.0 (row ++ h.1)))
 
--- a row behind a text begins with a line feed
+-- a row after a text begins with a line feed
 part_next : (row text : List ℕ) → IsPart row (row_behind text row)
 part_next row text = part_behind row text (10 ∷ row) (part_behind row (10 ∷ []) row (part_self row))
 

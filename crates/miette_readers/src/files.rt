@@ -10,7 +10,7 @@ use std::marker::Model;
 /// A file that was read: its bytes, with its name.
 pub type SourceFile = NamedSource<IndexedSource>;
 
-/// A file that is lent to the reports over it, so that none of them has a copy. It always reads.
+/// A file that the reports over it borrow, so that none of them has a copy. It always reads.
 #[derive(Drop)]
 pub struct LentFile<'f> {
     file: &'f SourceFile,
@@ -26,14 +26,14 @@ impl<'f> Model for LentFile<'f> {
 }
 
 impl<'f> LentFile<'f> {
-    /// This file, lent. Takes no memory.
+    /// This file, borrowed. Takes no memory.
     pub fn new(file: &'f SourceFile) -> LentFile<'f>
         ensures { result ≡ file_source file.now }
     {
         LentFile { file }
     }
 
-    /// The same file, lent once more. Takes no memory.
+    /// The same file, borrowed once more. Takes no memory.
     pub fn again(&self) -> LentFile<'f>
         ensures { result ≡ self.now }
     {

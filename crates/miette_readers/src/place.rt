@@ -14,7 +14,7 @@ use std::marker::Model;
 pub struct Stretch {
     /// The offset of its first byte.
     pub start: usize,
-    /// The offset behind its last byte.
+    /// The offset after its last byte.
     pub end: usize,
 }
 
@@ -141,7 +141,7 @@ fn push_counted(text: &mut String, number: u64) -> Result<(), AllocError>
     push_number(text, number as usize)
 }
 
-/// Appends what stands behind a place's name, line and column.
+/// Appends what stands after a place's name, line and column.
 fn push_behind(text: &mut String, alloc: Global, rows: &[String]) -> Result<(), AllocError>
     ensures { OnOk result (string_bytes text.new
         ≡ string_bytes text.old ++ text_behind (joined (map string_bytes rows.now))) }

@@ -92,7 +92,7 @@ impl<'a> Asked<'a> {
         self.meets_any(list, marks) && !self.clashes_with_any(list, marks)
     }
 
-    /// The first list that it may join, else the number behind them.
+    /// The first list that it may join, else the number after them.
     fn list(&self, count: usize, marks: &[Mark<'_>]) -> usize
         ensures { result ≡ first_open (is_open marks.now self.now.name.now self.now.bytes.now self.now.stretch
             self.now.own) 0 count }

@@ -158,7 +158,7 @@ fn call_of(span: &Value) -> Option<&Value>
     object_at(expansion_of(span)?, "span")
 }
 
-/// The first span whose file is there, of this one and so many calls of macros.
+/// The first span whose file is there, of this one and the calls of macros around it, `left` spans at most.
 #[tactic(auto, unfolding(crate::specs::rules::Rustc::standing_from))]
 fn standing_from<'v, F: Files>(files: &F, span: &'v Value, left: usize) -> Option<&'v Value>
     ensures { option_map (λ v. view v.now) result ≡ standing_from (F.found files.now) left (view span.now) }
@@ -182,7 +182,7 @@ pub(crate) fn standing<'v, F: Files>(files: &F, span: &'v Value) -> &'v Value
     }
 }
 
-/// What is said of the outermost of so many calls of macros.
+/// What is said of the outermost call of a macro, at most `left` calls further out.
 #[tactic(auto, unfolding(crate::specs::rules::Rustc::outermost_from))]
 pub(crate) fn outermost_from(expansion: &Value, left: usize) -> &Value
     ensures { view result.now ≡ outermost_from left (view expansion.now) }

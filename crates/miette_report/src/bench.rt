@@ -98,7 +98,7 @@ fn read_words(alloc: Global, words: &[String]) -> Result<(usize, Arguments), Fau
     Ok((times, Arguments::read(alloc, options)?))
 }
 
-/// Reads all, renders so many times, and writes the length of one rendering.
+/// Reads all, renders `times` times, and writes the length of one rendering.
 fn measure<R: Read, W: Write>(
     alloc: Global,
     reader: &mut Device<R>,

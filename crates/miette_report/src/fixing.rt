@@ -28,7 +28,7 @@ pub(crate) struct FixedText {
     pub(crate) some_left: bool,
 }
 
-// With these fixes behind those that were there.
+// With these fixes after those that were there.
 fn with_fixes<'a>(mut list: Vec<&'a Fix>, fixes: &'a [Fix]) -> Result<Vec<&'a Fix>, AllocError>
     ensures { IfOk result (λ it. fixes_in it.items ≡ fixes_in list.entry.items ++ fixes.now) }
 {
@@ -38,7 +38,7 @@ fn with_fixes<'a>(mut list: Vec<&'a Fix>, fixes: &'a [Fix]) -> Result<Vec<&'a Fi
     Ok(list)
 }
 
-// With the fixes over a report's source behind those that were there.
+// With the fixes over a report's source after those that were there.
 #[cycle(fixes)]
 fn with_all<'a, D: Diagnostic, S: SourceCode>(
     list: Vec<&'a Fix>,

@@ -75,7 +75,7 @@ fn text_of(alloc: Global, bytes: &[u8], settings: Arguments) -> Result<String, F
     handler.render(alloc, &report)
 }
 
-/// The last of so many texts of a report, at least one.
+/// The last of `times` texts of a report, or of one where that is 0.
 fn render_times<H: Highlighter>(
     handler: &mut JobHandler<H>,
     alloc: Global,
@@ -98,7 +98,8 @@ fn render_times<H: Highlighter>(
     handler.render(alloc, report)
 }
 
-/// The number of bytes of the text for a description, which is rendered so many times; 0 where that is not at all.
+/// The number of bytes of the text for a description, which is rendered `times` times; 0 where it isn't rendered at
+/// all.
 pub(crate) fn rendered_length(
     alloc: Global,
     bytes: &[u8],

@@ -89,7 +89,7 @@ other-columns s w columns labels line n room =
           (multi_line line labels) room,
     )
 
--- marks and texts behind a prefix, with more rows below
+-- marks and texts after a prefix, with more rows below
 marked : (s : SnippetSettings) (n : IsNarrow s.width s.theme.characters) (prefix : Row) (more : List Row)
     (ms : List Mark)
     → AreApart 0 ms →

@@ -30,7 +30,7 @@ code_at-front f from (suc many) (suc column) rest one lt =
     ∙ ap (code_at (map f (range_with_len (from + 1) many) ++ rest)) d
     ∙ code_at-front f (from + 1) many column rest one (omega arith))
 
--- and behind it
+-- and after it
 pub code_at-behind : (f : ℕ → Glyph) (from many column : ℕ) (rest : List Glyph) → ((k : ℕ) → (f k).columns ≡ 1)
     → code_at (map f (range_with_len from many) ++ rest) (many + column) ≡ code_at rest column
 code_at-behind f from zero column rest one = let e : zero + column ≡ column = omega arith in ap (code_at rest) e
@@ -49,7 +49,7 @@ pub columns_of-append : (a b : List Glyph) → columns_of (a ++ b) ≡ columns_o
 columns_of-append [] b = omega arith
 columns_of-append (p ∷ a) b = omega (arith, columns_of-append a b)
 
--- what stands behind any row
+-- what stands after any row
 pub code_at-append : (a b : List Glyph) (column : ℕ) → code_at (a ++ b) (columns_of a + column) ≡ code_at b column
 code_at-append [] b column = ap (code_at b) (omega arith)
 code_at-append (p ∷ a) b column =

@@ -1,4 +1,4 @@
--- Labels at the end of a source on a line that is cut: their marks stand behind what is shown of the line.
+-- Labels at the end of a source on a line that is cut: their marks stand after what is shown of the line.
 use Rattle.std.proofs.Common.{◌≡◌, ℕ, ◌+◌, ◌-◌, ◌<◌, ◌≤◌, max, Bool, true, false, cond, ltb, leb, List, [], ◌∷◌, map}
 use Rattle.std.proofs.Common.{sym}
 use Rattle.std.proofs.Common.{ap, ◌∙◌, subst, Option, Some, None, arith}
@@ -25,7 +25,7 @@ use Rattle.miette_row_laws.proofs.EndLabels.{behind_text}
 use Rattle.miette_row_laws.proofs.Whole.{line_columns}
 use Rattle.miette_snippet_rules.specs.rules.Settings.{SnippetSettings}
 
--- ---- columns of the row: behind all stretches, and before
+-- ---- columns of the row: after all stretches, and before
 
 module _ (many : ℕ) (dotted : 0 < many) where
   row_behind : (ss : List Stretch) (column : ℕ) → columns_in (cells_in ss) ≤ column
@@ -82,7 +82,7 @@ module _ (many : ℕ) (dotted : 0 < many) where
       sooner : (a b : ℕ) → b < a → max b a ≡ a
       sooner a b lt = omega (arith, lt)
 
-  -- ---- marks of labels behind the text
+  -- ---- marks of labels after the text
 
   moved_behind : (ss : List Stretch) (columns shown reached low : ℕ) (ms : List Mark)
       → columns_in (cells_in ss) ≡ columns → shown ≡ text_columns many ss

@@ -86,7 +86,7 @@ cut_limit many (Some n) all cells cut is =
 
 -- ---- lines are cut by their reach
 
--- the cut of a line by which of its cells are near, in a row of so many dots
+-- the cut of a line by which of its cells are near, with `many` dots for what is left out
 near_to : (limit many : ℕ) (all : List ℕ) (cells : List Cell)
     → cut_to limit many all cells
     ≡ with_short many (stretches (is_near_by limit many (reach_of limit many all cells) all) false cells)

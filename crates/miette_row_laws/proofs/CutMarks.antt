@@ -27,7 +27,7 @@ use Rattle.miette_row_laws.proofs.CutShows.{cells_in, cut_cells, whole_cells}
 use Rattle.miette_row_laws.proofs.CutWidth.{cells-columns, dots-columns, own-columns, own_pieces}
 use Rattle.miette_row_laws.proofs.Whole.{line_columns}
 
--- ---- what stands at the columns of two texts, one behind the other
+-- ---- what stands at the columns of two texts, one after the other
 
 pub standing-front : (a b : List Glyph) (column : ℕ) → column < columns_of a
     → standing_at (a ++ b) column ≡ standing_at a column
@@ -52,7 +52,7 @@ printed-append (c ∷ a) b = ap (λ r. printed_glyphs c ++ r) (printed-append a 
 -- ---- a column that is shown, in the row
 
 module _ (run : Run) (many : ℕ) (all : columns_of run.glyphs ≡ many) where
-  -- of a first stretch and of those behind it
+  -- of a first stretch and of those after it
   here_same : (s : Stretch) (later : List Stretch) (column : ℕ) → s.shown ≡ true → column < columns_in s.cells →
       standing_at (own_pieces run s ++ pieces_shown run later) column
       ≡ standing_at (printed_cells (s.cells ++ cells_in later)) column

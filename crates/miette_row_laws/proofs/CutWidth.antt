@@ -74,7 +74,7 @@ whole-columns column (c ∷ cs) h = omega (arith, h.0, h.1, whole-columns c.unti
 
 -- ---- without ends
 
--- behind a column that has no room no cell has room, and what is left out has at most the columns of the dots
+-- after a column that has no room no cell has room, and what is left out has at most the columns of the dots
 far_columns : (limit many column passed : ℕ) (cells : List Cell) → AreColumns column cells → limit < column + many
     → shown_columns many (has_room limit many) passed cells ≤ many
 far_columns limit many column passed [] h far = omega arith
@@ -85,7 +85,7 @@ far_columns limit many column passed (c ∷ cs) h far =
     (λ n. let none : has_room limit many c ≡ false = lt-leb (c.until + many) limit beyond in
     rw (n, none) (far_columns limit many c.until (passed + (c.until - c.from)) cs h.2 beyond))
 
--- the cells that have room, and the dots behind them
+-- the cells that have room, and the dots after them
 room_columns : (limit many column : ℕ) (cells : List Cell) → AreColumns column cells → column + many ≤ limit
     → column + shown_columns many (has_room limit many) 0 cells ≤ limit
 room_columns limit many column [] h le = omega (arith, le)

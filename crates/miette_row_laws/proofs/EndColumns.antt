@@ -25,7 +25,7 @@ fewer many near p q (c ∷ cs) le =
     (λ y. rw (n, y) (omega (arith, le)))
     (λ f. rw (n, f) (fewer many near (p + (c.until - c.from)) (q + (c.until - c.from)) cs (omega (arith, le)))))
 
--- behind a column no cell has it
+-- after a column no cell has it
 behind_same : (many end column p : ℕ) (near : Cell → Bool) (cells : List Cell) → AreColumns column cells
     → end < column → shown_columns many (also_at end near) p cells ≡ shown_columns many near p cells
 behind_same many end column p near [] h lt = refl

@@ -1,4 +1,4 @@
--- Labels at the end of a source stand behind the text of its last line, and the rows of no other label change.
+-- Labels at the end of a source stand after the text of its last line, and the rows of no other label change.
 use Rattle.std.proofs.Common.{ℕ, ◌+◌, ◌-◌, ◌<◌, ◌≡◌, max, Bool, true, false, cond, eqb, ltb, leb, ◌||◌, List, []}
 use Rattle.std.proofs.Common.{◌∷◌, ◌++◌, map, length, Option, Some, None, refl, sym, ap, ap₂, ◌∙◌, arith, drop}
 use Rattle.std.specs.Prelude.{unwrap_or, option_map}

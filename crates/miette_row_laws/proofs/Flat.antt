@@ -20,7 +20,7 @@ glyphs_of-append [] b = refl
 glyphs_of-append (run ∷ a) b = ap (λ r. run.glyphs ++ r) (glyphs_of-append a b)
     ∙ sym (append_assoc run.glyphs (glyphs_of a) (glyphs_of b))
 
--- rows behind one row
+-- rows after one row
 pub before_pieces : (front : Row) (rows : List Row) → map glyphs_of (before_each front rows)
     ≡ map (λ r. glyphs_of front ++ r) (map glyphs_of rows)
 before_pieces front [] = refl
@@ -95,7 +95,7 @@ flat_marks s reached (m ∷ ms) h =
     ∙ ap (λ r. replicate a (glyph_of s.width 32) ++ (map own (range_with_len m.from b) ++ r))
     (rest ∙ sym (flat_marks s m.until ms h.2)))
 
--- anchors one behind the other, before a column
+-- anchors one after the other, before a column
 abbrev pub AreAnchored : ℕ → List Mark → ℕ → Type 0
 AreAnchored reached [] column = reached ≤ column
 AreAnchored reached (m ∷ ms) column = (reached ≤ m.anchor) × AreAnchored (m.anchor + 1) ms column
@@ -142,7 +142,7 @@ flat_lead s reached column (m ∷ ms) h =
     ∙ ap (λ r. replicate a (glyph_of s.width 32) ++ (glyph_of s.width s.theme.characters.vbar ∷ r))
     (rest ∙ sym (flat_lead s (at + 1) column ms h.1)))
 
--- marks that are apart have anchors one behind the other
+-- marks that are apart have anchors one after the other
 apart-weaker : (a b : ℕ) (ms : List Mark) → b ≤ a → AreApart a ms → AreApart b ms
 apart-weaker a b [] le h = tt
 apart-weaker a b (m ∷ ms) le h = (omega (arith, h.0), h.1, h.2)

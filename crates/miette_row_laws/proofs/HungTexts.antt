@@ -144,7 +144,7 @@ hang_more t column part (row ∷ rows) more h =
     ⊎_elim {C = HangsFrom t column part ((row ∷ rows) ++ more)} (λ a. inl a)
     (λ b. inr (b.0, hang_more t column part rows more b.1)) h
 
--- a row with a corner, and the text behind it
+-- a row with a corner, and the text after it
 cornered : (v : SnippetSettings) (n : IsNarrow v.width v.theme.characters) (earlier : List Mark) (mark : Mark)
     (p q r s : Glyph)
     (part : List Glyph) → p.code ≡ v.theme.characters.lbot → p.columns ≡ 1 → q.columns ≡ 1 → r.columns ≡ 1 → s.columns

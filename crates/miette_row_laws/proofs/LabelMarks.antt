@@ -109,7 +109,7 @@ first_at at end (c ∷ cs) text_end width offset cell are there has =
     rw n (first_at c.after end cs text_end width offset cell are.3 later has))
     (first_or_later c cs cell there)
 
--- behind an offset up to which no cell begins
+-- after an offset up to which no cell begins
 behind_at : (column at end : ℕ) (cells : List Cell) (offset : ℕ) → AreColumns column cells → AreBytes at end cells
     → offset ≤ at → at ≤ end → last_column cells end (cells_width column cells) offset ≡ column
 behind_at column at end [] offset columns are le fits = rw (le-leb offset end (omega (arith, le, fits))) refl
@@ -161,7 +161,7 @@ stand_under s labels source line =
     under_from line.text_end (cells_of s source line) line.start 0 (one_line line labels) (line_columns s source line)
     (line_bytes s source line)
 
--- ---- marks behind the text, which no cell has
+-- ---- marks after the text, which no cell has
 
 first_at_end : (at end : ℕ) (cells : List Cell) (width offset : ℕ) → AreBytes at end cells → offset ≡ end
     → first_column cells end width offset ≡ width

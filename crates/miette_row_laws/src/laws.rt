@@ -49,7 +49,7 @@ pub fn marks_are_apart()
 
 /// The stretches of a line that is cut have its cells, each once and in order, in a stretch that is shown where the
 /// cell is near or stands among others that aren't and are no wider than the dots; no stretch is empty, and of two that
-/// follow one another one is shown (`cut`). A cell that has columns is within so many columns of an end where one of
+/// follow one another one is shown (`cut`). A cell that has columns is within `reach` columns of an end where one of
 /// its own columns is (`within`). Of each stretch that is shown all cells are printed, and the dots in place of each
 /// other one (`printed`).
 pub fn cut_lines_are_parted()
@@ -87,7 +87,7 @@ pub fn wide_lines_are_cut()
 {}
 
 /// In the row of a line that is cut, at the column to which one that is shown is moved, stands what stands at that one
-/// in the whole line; behind the text it is as far behind (`columns`). So under the line's marks stand their own
+/// in the whole line; a column after the text is as far after it (`columns`). So under the line's marks stand their own
 /// characters: at the first column of each, its last column, its anchor where a text hangs from it, and each column of
 /// it that is shown (`marks`).
 pub fn marks_stand_on_their_characters()
@@ -104,10 +104,10 @@ pub fn marks_stand_on_their_characters()
 
 /// The labels of a line's marks are those that lie on the line alone, in their order (`labels`). In the columns of the
 /// whole line, where the mark before it ends no later, a mark begins at the first column of the character that has the
-/// label's first byte, and ends behind the last column of the one that has its last byte (`under`). At each of these
+/// label's first byte, and ends with the last column of the one that has its last byte (`under`). At each of these
 /// columns stands what is printed of that character (`characters`). Where a label begins at the end of the line's text,
-/// as at its terminator, its mark begins in the column after the text, or one further on behind a terminator's first
-/// byte; where it ends in the terminator, its mark ends behind the column after the text (`past`).
+/// as at its terminator, its mark begins in the column after the text, or one further on after a terminator's first
+/// byte; where it ends in the terminator, its mark ends with the column after the text (`past`).
 pub fn marks_stand_under_their_labels()
     ensures labels { (s : SnippetSettings) (labels : List DrawnLabel) (source : List ℕ) (line : Line) →
         map (λ mark. mark.label) (marks_of_line s labels line (cells_of s source line)) ≡ one_line line labels }
@@ -158,7 +158,7 @@ pub fn lines_that_fit_stay()
 {}
 
 /// Where the labels at the end of a source are drawn, and one of them has a line of context, just these labels stand
-/// behind the text of the last line, each as an empty label that lies on that line alone; its mark begins in the column
+/// after the text of the last line, each as an empty label that lies on that line alone; its mark begins in the column
 /// after the text, in its row in the one after what is shown of it, or where the mark before it ends, if that is later.
 /// Where none of them has one, or no label is at the end, or the source is empty, the rows are those of before.
 pub fn ends_are_drawn()

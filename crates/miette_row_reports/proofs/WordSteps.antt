@@ -11,7 +11,7 @@ pick b x y e = rw e refl
 skip : {A : Type 0} (b : Bool) (x y : A) → b ≡ false → (if b then x else y) ≡ y
 skip b x y e = rw e refl
 
--- two words that are taken, and those behind them
+-- two words that are taken, and those after them
 pub words_left : {A : Type 0} (bytes : A → List ℕ) (rest more after : List A) (word value : A) → rest ≡ word ∷ more
     → more ≡ value ∷ after → map bytes rest ≡ bytes word ∷ (bytes value ∷ map bytes after)
 words_left bytes rest more after word value is next = ap (map bytes) (is ∙ ap (λ m. word ∷ m) next)

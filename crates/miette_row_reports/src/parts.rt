@@ -127,7 +127,7 @@ fn part_reports<'f, F: Files>(
     }
 }
 
-/// The number of the row behind a part whose first row has this number.
+/// The number of the row after a part whose first row has this number.
 fn number_behind(number: u64, part: &[u8]) -> Result<u64, Fault>
     ensures value { IfOk result (λ following. following ≡ number + ends_in part.now) }
     ensures others { OnErr result (result ≡ Err Fault.Memory) }

@@ -47,7 +47,7 @@ pub fn is_error(severity: Option<Severity>) -> bool
     }
 }
 
-/// Passes on a row that isn't shown, behind a note where it can't be read.
+/// Passes on a row that isn't shown, after a note where it can't be read.
 pub fn pass_on<E: Write>(
     alloc: Global,
     faults: &mut Device<E>,

@@ -85,14 +85,14 @@ impl<'w> ShowWords<'w> {
         })
     }
 
-    /// Whether no word of `job` stands behind `--fix`.
+    /// Whether no word of `job` stands after `--fix`.
     fn is_alone(&self) -> bool
         ensures { result ≡ is_alone (request_of self.now) }
     {
         !self.fix || self.options.is_empty()
     }
 
-    /// What the words ask for; nothing where those in front are wrong, or others stand behind `--fix`.
+    /// What the words ask for; nothing where those in front are wrong, or others stand after `--fix`.
     pub fn read(words: &'w [String]) -> Option<ShowWords<'w>>
         ensures { option_map request_of result ≡ asked_for (words_of words.entry) }
     {

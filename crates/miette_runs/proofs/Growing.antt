@@ -75,7 +75,7 @@ pub spell-characters : (cs : List ℕ) → spell (map Character cs) ≡ cs
 spell-characters [] = refl
 spell-characters (c ∷ cs) = ap (λ xs. c ∷ xs) (spell-characters cs)
 
--- what is printed where characters, or a sequence, come behind
+-- what is printed where characters, or a sequence, are added
 pub spell-more : (old new : List Token) (cs : List ℕ) → new ≡ old ++ map Character cs → spell new ≡ spell old ++ cs
 spell-more old new cs e = ap spell e ∙ spell-append old (map Character cs)
     ∙ ap (λ xs. spell old ++ xs) (spell-characters cs)

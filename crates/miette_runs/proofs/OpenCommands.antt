@@ -11,7 +11,7 @@ none_more : (n : ℕ) → one_more n ≡ 0 → n ≡ 0
 none_more zero h = refl
 none_more (suc n) h = absurd (omega arith)
 
--- behind a character but a line feed
+-- after a character but a line feed
 command_behind : (c : ℕ) (cs : List ℕ) → is_line_feed c ≡ false → command_len (c ∷ cs) ≡ 0 → command_len cs ≡ 0
 command_behind c cs h k = grind (arith, nat_tests, none_more (command_len cs))
 

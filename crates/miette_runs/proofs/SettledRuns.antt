@@ -20,7 +20,7 @@ use Rattle.miette_runs.proofs.Tokens.{colour-sequence, tokens_character, tokens_
 use Rattle.miette_runs.proofs.Parameters.{start_colour}
 use Rattle.miette_runs.specs.steps.WholeTags.{are_whole}
 
--- ---- a sequence at the front of a text is one whatever stands behind it
+-- ---- a sequence at the front of a text is one whatever stands after it
 
 some-more : (n : ℕ) → 0 < one_more n → 0 < n
 some-more zero h = h

@@ -12,7 +12,7 @@ use Rattle.miette_runs.specs.views.Interleaving.{tag_text, tag_token, upto, beyo
 use Rattle.miette_runs.specs.views.Interleaving.{tags_spelled}
 use Rattle.miette_runs.specs.declared.runs.sign.Tag.{Tag}
 
--- ---- a tag that stands behind a place, or not
+-- ---- a tag that stands after a place, or not
 
 upto-far : (p : ℕ) (m : Tag) (ms : List Tag) → p < m.at → upto p (m ∷ ms) ≡ []
 upto-far p m ms h = grind (arith, nat_tests)
@@ -199,7 +199,7 @@ text-step o o1 o2 p s n k cs ms m h i e l f g =
     ∙ sym (text-tag p k (drop s cs) m (drop (n + 1) ms) e l)
     ∙ ap (λ vs. piece_text (cells_at p (drop s cs) vs)) (sym (tags-next ms n m h i)))
 
--- where the next tag stands behind the last character
+-- where the next tag stands after the last character
 pub text-rest : (p s n k : ℕ) (cs : List ℕ) (ms : List Tag) (m : Tag) → n < length ms → m ≡ get_or ms n m → k ≡ m.at - p
     → length (drop s cs) ≤ k → drop s cs ≡ piece_text (cells_at p (drop s cs) (drop n ms))
 text-rest p s n k cs ms m h i e l =

@@ -92,8 +92,7 @@ impl Runs {
         ensures tokens { OnOk result (self.new ≡ self.old ++ map Character codes.now) }
         ensures text { OnOk result (spell self.new ≡ spell self.old ++ codes.now) }
     {
-        self.codes.extend_from_slice(codes)?;
-        Ok(())
+        self.codes.extend_from_slice(codes)
     }
 
     /// Appends the characters of a text.
@@ -110,7 +109,7 @@ impl Runs {
         Ok(())
     }
 
-    // A sign behind the last character.
+    // A sign after the last character.
     fn push_tag(&mut self, sign: Rc<Sign>) -> Result<(), AllocError>
         ensures tokens { OnOk result (self.new ≡ self.old ++ Sequence (sign_text sign.value) ∷ []) }
         ensures text { OnOk result (spell self.new ≡ spell self.old ++ sign_text sign.value) }
@@ -280,8 +279,7 @@ impl Canvas for Runs {
     ghost written = { λ runs. spell runs };
 
     fn reserve(&mut self, _c: char, many: usize) -> Result<(), AllocError> {
-        self.codes.reserve(many)?;
-        Ok(())
+        self.codes.reserve(many)
     }
 
     fn push(&mut self, c: char) -> Result<(), AllocError> {

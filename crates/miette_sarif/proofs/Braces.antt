@@ -4,10 +4,10 @@ use Rattle.std.proofs.lemmas.Bool.Decides.{nat_tests}
 use Rattle.miette_tree.proofs.Escapes.{Escapes}
 use Rattle.miette_sarif.specs.rules.Messages.{is_brace, double_byte, doubled}
 
-byte_single : (x : ℕ) → is_brace x ≡ false → double_byte x ≡ x ∷ []
+pub byte_single : (x : ℕ) → is_brace x ≡ false → double_byte x ≡ x ∷ []
 byte_single x e = rw e refl
 
-brace_is_ascii : (x : ℕ) → is_brace x ≡ true → x < 128
+pub brace_is_ascii : (x : ℕ) → is_brace x ≡ true → x < 128
 brace_is_ascii x e = grind (arith, nat_tests)
 
 -- a text with its braces doubled

@@ -1,4 +1,4 @@
--- Texts that are written one behind the other: objects by their members, lists by their items.
+-- Texts that are written one after the other: objects by their members, lists by their items.
 use Rattle.std.proofs.Common.{◌≡◌, ℕ, ◌<◌, ◌^◌, List, [], ◌∷◌, ◌++◌, Bool, true, false, cond, length, map, refl}
 use Rattle.std.proofs.Common.{sym, ap, ◌∙◌, append_assoc, append-nil, arith, eqb-true}
 use Rattle.std.specs.Fmt.{decimal}
@@ -11,7 +11,7 @@ use Rattle.miette_sarif.specs.rules.Objects.{Pairs, array_of, items_of, members_
 use Rattle.miette_sarif.specs.steps.Members.{further, more_texts_listed, opened, rest_texts, texts_listed}
 use Rattle.miette_sarif.specs.views.Values.{rest_items}
 
--- ---- one text behind the other
+-- ---- one text after the other
 
 pub two_put : (old one new a b : List ℕ) → one ≡ old ++ a → new ≡ one ++ b → new ≡ old ++ (a ++ b)
 two_put old one new a b e f = f ∙ ap (λ l. l ++ b) e ∙ append_assoc old a b
@@ -30,7 +30,7 @@ pub five_put : (old one two three four new a b c d k : List ℕ) → one ≡ old
 five_put old one two three four new a b c d k e f g h i =
     two_put old one new a (b ++ (c ++ (d ++ k))) e (four_put one two three four new b c d k f g h i)
 
--- a number behind a text
+-- a number after a text
 pub number_put : (n : ℕ) (before old mid new : List ℕ) → n < 2 ^ 64 → mid ≡ old ++ before → new ≡ mid ++ decimal n
     → new ≡ old ++ (before ++ json_text (number n))
 number_put n before old mid new small e f =

@@ -65,7 +65,7 @@ no_label test xs e =
 
 -- ---- in those of several sources
 
--- what is picked behind some groups
+-- what is picked after some groups
 abbrev pub behind : List Group → Option Picked → Option Picked
 behind gs found = option_map (λ it. record { mark = it.mark; others = gs ++ it.others }) found
 

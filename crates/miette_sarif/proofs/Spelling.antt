@@ -30,7 +30,7 @@ read_text t ts old new put reads =
     found.are ∙ trees_read 0 None found.answers ts reads found.possible in
     put.appended ∙ ap (λ l. old ++ l) (put.is_given.spelled ∙ ap (λ fs. json_text (log t fs)) same)
 
--- of a log that is put behind a text
+-- of a log that is put after a text
 pub text_read : (t u : ToolName) (ts : Trees) (text added old new : List ℕ) → t ≡ u → IsLogOf t ts text
     → new ≡ old ++ added → added ≡ text → AllAlwaysRead ts → new ≡ old ++ log_text u ts
 text_read t u ts text added old new e h put same reads =

@@ -32,11 +32,11 @@ object_written v slice members old mid new is begun same e =
     ∙ append_assoc old (123 ∷ []) (members_text (members_view slice))
     ∙ ap (λ l. old ++ 123 ∷ members_text (members_view l)) same ∙ ap (λ l. old ++ json_text l) (sym is)
 
--- a text, and then others behind it
+-- a text, and then others after it
 behind : (old mid new text more : List ℕ) → mid ≡ old ++ text → new ≡ mid ++ more → new ≡ old ++ (text ++ more)
 behind old mid new text more e f = f ∙ ap (λ l. l ++ more) e ∙ append_assoc old text more
 
--- the rows of a message, one behind the other
+-- the rows of a message, one after the other
 pub message_written : (r : Rules) (f : Finding) (old own caused helped fixed new : List ℕ)
     → own ≡ old ++ doubled f.message → caused ≡ own ++ rows (codes "caused by: ") f.causes
     → helped ≡ caused ++ maybe_row (codes "help: ") f.help → fixed ≡ helped ++ rows (codes "fix: ") f.unapplied

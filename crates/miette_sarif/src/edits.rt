@@ -56,7 +56,7 @@ fn meets(before: Stretch, stretch: Stretch) -> bool
     stretch.start.offset < before.end.offset || stretch.start.offset == before.start.offset
 }
 
-// A stretch up to the end of another one, where that ends behind it.
+// A stretch up to the end of another one, where that ends after it.
 fn later_end(before: Stretch, stretch: Stretch) -> Stretch
     ensures { result ≡ later_end before stretch }
 {

@@ -1,4 +1,4 @@
-//! Results, one for each finding, written one behind the other.
+//! Results, one for each finding, written one after the other.
 
 ghost use Rattle.std.specs.Prelude.{◌≡◌, ◌++◌, IfOk, OnOk, codes, map, string_bytes};
 ghost use Rattle.std.specs.Option.{option_map};

@@ -27,7 +27,7 @@ pub(crate) struct Seen<'a> {
     pub(crate) text: Option<WholeText<'a>>,
 }
 
-// Reads a source before which so many stand.
+// Reads a source before which `number` sources stand.
 fn see<'a, S: SourceCode>(
     alloc: Global,
     number: usize,

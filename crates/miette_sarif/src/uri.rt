@@ -47,7 +47,7 @@ fn is_scheme_byte(byte: u8) -> bool
     byte.is_ascii_alphanumeric() || byte == b'+' || byte == b'-' || byte == b'.'
 }
 
-// The bytes behind the `:` of a scheme, whose first byte was a letter.
+// The bytes after the `:` of a scheme, whose first byte was a letter.
 fn behind_scheme(bytes: &[u8]) -> Option<&[u8]>
     ensures { option_copied result ≡ behind_scheme bytes.now }
 {
@@ -64,7 +64,7 @@ fn behind_scheme(bytes: &[u8]) -> Option<&[u8]>
     None
 }
 
-// The bytes behind the `:` of a scheme, none where a text begins with no scheme.
+// The bytes after the `:` of a scheme, none where a text begins with no scheme.
 fn after_scheme(bytes: &[u8]) -> Option<&[u8]>
     ensures { option_copied result ≡ after_scheme bytes.now }
 {
@@ -149,7 +149,7 @@ fn first_slash(bytes: &[u8]) -> Option<usize>
     bytes.iter().position(|b| *b == b'/')
 }
 
-// Appends a path: `:` stands for itself behind a first `/`.
+// Appends a path: `:` stands for itself after a first `/`.
 fn push_path(out: &mut String, path: &str) -> Result<(), AllocError>
     ensures { OnOk result (string_bytes out.new ≡ string_bytes out.old ++ path_uri path.now) }
 {

@@ -79,7 +79,7 @@ impl<'a> WholeText<'a> {
         self.index.stop_before(offset)
     }
 
-    /// The first one at an offset or behind it.
+    /// The first one at an offset or after it.
     pub(crate) fn stop_after(&self, offset: usize) -> Stop
         ensures { result ≡ stop_after Utf16 self.now offset }
     {

@@ -1,4 +1,4 @@
--- Pieces of a text, one behind another.
+-- Pieces of a text, one after another.
 use Rattle.std.proofs.Common.{◌≡◌, ℕ, zero, suc, ◌+◌, ◌<◌, ◌≤◌, Bool, true, false, cond, List, [], ◌∷◌, ◌++◌, refl, sym}
 use Rattle.std.proofs.Common.{ap, ◌∙◌, arith, append_assoc, length, get_or, take, drop}
 use Rattle.std.specs.Prelude.{nat_lt, not, Some, None, position, ◌||◌, ◌==◌, if◌then◌else◌}

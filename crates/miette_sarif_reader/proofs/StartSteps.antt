@@ -15,7 +15,7 @@ module _ (newlines : List (List ℕ)) (bytes : List ℕ) where
   abbrev InBytes : List ℕ → Type 0
   InBytes starts = (k : ℕ) → ForSome (slice_get starts k) (λ start. start ≤ length bytes)
 
-  -- ---- a line that ends, and those behind it
+  -- ---- a line that ends, and those after it
 
   first_same : (at size : ℕ) (rest : List ℕ) → Some size ≡ line_size newlines (drop at bytes)
       → AreStarts newlines bytes (at + size) rest → (k : ℕ)

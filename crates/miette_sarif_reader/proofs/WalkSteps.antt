@@ -1,4 +1,4 @@
--- One byte of a text behind another, where a loop goes over them.
+-- One byte of a text after another, where a loop goes over them.
 use Rattle.std.proofs.Common.{◌≡◌, ℕ, zero, suc, ◌+◌, ◌<◌, ◌≤◌, Bool, true, false, List, [], ◌∷◌, length, get_or}
 use Rattle.std.proofs.Common.{take, drop, sym, ap, subst, ◌∙◌, arith, add-one, refl}
 use Rattle.std.proofs.Common.{◌^◌, Option, Some, None, Result, Ok, Err}
@@ -53,7 +53,7 @@ low_within [] (suc i) h = absurd (omega (arith, h))
 low_within (x ∷ xs) zero h = omega arith
 low_within (x ∷ xs) (suc i) h = omega (arith, low_within xs i h)
 
--- a text may be cut behind an ASCII byte
+-- a text may be cut after an ASCII byte
 pub after_low : (xs : List ℕ) (i : ℕ) → IsUtf8 xs → 0 < get_or xs i 0 → get_or xs i 0 < 128 → IsCharBoundary xs (i + 1)
 after_low xs i u some low = IsCharBoundary-after_ascii xs i u (low_within xs i some) low
 

@@ -35,7 +35,7 @@ fn is_absolute(uri: &[u8]) -> bool
     (!uri.is_empty() && uri[0] == b'/') || has_scheme(uri)
 }
 
-/// A URI behind that of its base.
+/// A URI after that of its base.
 fn behind_base(alloc: Global, base: String, uri: &str) -> Result<String, AllocError>
     ensures { IfOk result (λ full. string_bytes full ≡ behind_base (string_bytes base) uri.now) }
 {
@@ -88,7 +88,7 @@ fn base_of<'v>(bases: Option<&'v Value>, location: &Value) -> Option<&'v Value>
     object_at(bases?, id)
 }
 
-/// What stands in a base begins so, with so many further bases in front at most.
+/// What stands in a base begins so; at most `most` bases count, this one and those in front.
 #[tactic(auto, unfolding(crate::specs::rules::Bases::base_uri))]
 fn base_uri(
     alloc: Global,

@@ -26,7 +26,7 @@ fn start_at(starts: &[usize], line: usize) -> Option<usize>
 }
 
 impl<'a, 'v> FileLines<'a, 'v> {
-    /// Where the line begins that stands so many lines behind the first: by the table, else by a walk.
+    /// Where the line begins that stands `lines` lines after the first: by the table, else by a walk.
     pub(crate) fn line_behind(&self, lines: usize) -> Option<usize>
         ensures value { result ≡ line_behind (texts self.now.ends.now.newlines.items) self.now.bytes.now 0 lines }
         ensures within { IfSome result (λ at. at ≤ length self.now.bytes.now) }

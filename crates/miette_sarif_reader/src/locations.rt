@@ -67,7 +67,7 @@ impl Model for Spot {
 }
 
 impl Located {
-    /// It, with its name lent.
+    /// It, with its name borrowed.
     pub(crate) fn lent(&self) -> Place<'_>
         ensures { result ≡ self.now }
     {
@@ -92,7 +92,7 @@ fn rows_of(alloc: Global, row: &Option<String>) -> Result<Vec<String>, AllocErro
 }
 
 impl Spot {
-    /// What it tells, with the name of its file lent.
+    /// What it tells, with the name of its file borrowed.
     pub(crate) fn told(&self, alloc: Global) -> Result<Told<'_>, AllocError>
         ensures { IfOk result (λ it. it ≡ self.now) }
     {

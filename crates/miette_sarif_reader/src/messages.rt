@@ -16,7 +16,7 @@ use serde_json::Value;
 use std::alloc::{AllocError, Global};
 use std::marker::Model;
 
-/// A piece of a text: what is shown for it, the text behind it, and whether a link's text goes on there.
+/// A piece of a text: what is shown for it, the text after it, and whether a link's text goes on there.
 #[derive(Drop)]
 struct Piece<'t> {
     shown: &'t str,
@@ -33,7 +33,7 @@ impl<'t> Model for Piece<'t> {
 }
 
 impl<'t> Piece<'t> {
-    /// The text behind it.
+    /// The text after it.
     fn left(&self) -> &'t str
         ensures { result.now ≡ self.now.rest }
     {
@@ -79,7 +79,7 @@ fn byte_at(text: &[u8], at: usize) -> u8
     }
 }
 
-/// What stands behind so many bytes.
+/// What stands after the first `count` bytes.
 fn behind(text: &[u8], count: usize) -> &[u8]
     ensures { result.now ≡ drop count text.now }
 {
@@ -149,7 +149,7 @@ fn numbered<'v>(arguments: &'v [Value], digits: &str) -> Option<&'v str>
     argument(arguments, number)
 }
 
-/// The argument whose number begins a text, with `}` behind it.
+/// The argument whose number begins a text, with `}` after it.
 fn argument_at<'v>(arguments: &'v [Value], text: &str) -> Option<&'v str>
     ensures { option_copied result ≡ argument_at (viewed arguments.now) text.now }
 {
@@ -230,7 +230,7 @@ fn destination_end(text: &[u8]) -> Option<usize>
     text.iter().position(|b| ends_destination(*b))
 }
 
-/// How many bytes the destination has that stands behind the first byte of a text.
+/// How many bytes the destination has that stands after the first byte of a text.
 fn destination_count(text: &[u8]) -> usize
     ensures { result ≡ destination_count text.now }
 {
@@ -249,7 +249,7 @@ fn has_destination(text: &[u8]) -> bool
     byte_at(text, 0) == b'(' && (0 < count && byte_at(text, count + 1) == b')')
 }
 
-/// Whether a link goes on behind its `[`.
+/// Whether a link goes on after its `[`.
 fn is_link(text: &[u8]) -> bool
     ensures { result ≡ is_link text.now }
 {

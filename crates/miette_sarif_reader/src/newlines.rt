@@ -142,7 +142,7 @@ pub(crate) fn line_size(ends: &Ends<'_>, bytes: &[u8]) -> Option<usize>
     if end == 0 { None } else { Some(text + end) }
 }
 
-/// Where the line begins that stands so many lines behind the first.
+/// Where the line begins that stands `lines` lines after the first.
 pub(crate) fn line_behind(ends: &Ends<'_>, bytes: &[u8], lines: usize) -> Option<usize>
     ensures value { result ≡ line_behind (texts ends.now.newlines.items) bytes.now 0 lines }
     ensures within { IfSome result (λ at. at ≤ length bytes.now) }

@@ -48,7 +48,7 @@ fn front_to(bytes: &[u8], stop: usize) -> &[u8]
     &bytes[..stop]
 }
 
-/// So many columns behind the beginning of a line: behind the line's text its end, inside a character its start.
+/// `columns` columns after the beginning of a line: after the line's text its end, inside a character its start.
 fn column_at(
     encoding: PositionEncoding,
     ends: &Ends<'_>,
@@ -63,7 +63,7 @@ fn column_at(
     units_behind(encoding, front_to(bytes, stop), start, columns).unwrap_or(stop)
 }
 
-/// The offset of so many columns on a line, the first with 1.
+/// The offset `columns` columns after the beginning of a line; lines count from 1.
 fn offset_at(
     encoding: PositionEncoding,
     lines: &FileLines<'_, '_>,
@@ -128,7 +128,7 @@ fn line_stretch(
 
 // ---- by offsets
 
-/// How many code units a character of so many bytes has.
+/// How many code units a character of `bytes` bytes has.
 fn units(encoding: PositionEncoding, code: char, bytes: usize) -> usize
     ensures { result ≡ units encoding (record { code = code; bytes = bytes }) }
 {
@@ -139,7 +139,7 @@ fn units(encoding: PositionEncoding, code: char, bytes: usize) -> usize
     }
 }
 
-/// So many code units behind an offset: inside a character its start, behind the last one nowhere.
+/// `count` code units after an offset: inside a character its start, after the last one nowhere.
 fn units_behind(
     encoding: PositionEncoding,
     bytes: &[u8],
@@ -165,7 +165,7 @@ fn units_behind(
     if left == 0 { Some(at) } else { None }
 }
 
-/// So many characters from an offset in characters on.
+/// `count` characters from an offset in characters on.
 fn char_stretch(
     encoding: PositionEncoding,
     bytes: &[u8],
@@ -179,7 +179,7 @@ fn char_stretch(
     Some(Stretch { start, end })
 }
 
-/// So many bytes from an offset on.
+/// `count` bytes from an offset on.
 fn byte_stretch(bytes: &[u8], from: usize, count: usize) -> Option<Stretch>
     ensures { result ≡ byte_stretch bytes.now from count }
 {

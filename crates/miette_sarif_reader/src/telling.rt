@@ -47,7 +47,7 @@ fn row_alone(row: Option<String>, own: bool) -> Spot
     }
 }
 
-/// The name of a file, and a text behind it, where there is one.
+/// The name of a file, and a text after it, where there is one.
 fn file_row(name: String, text: Option<String>) -> Result<String, AllocError>
     ensures { IfOk result (λ row. string_bytes row
         ≡ file_row (string_bytes name) (option_map string_bytes text)) }
@@ -257,7 +257,7 @@ impl<'f, 'l, 'v, F: Files> Ground<'f, 'l, 'v, F> {
     }
 }
 
-/// What is told, with the names of files lent.
+/// What is told, with the names of files borrowed.
 pub(crate) fn lent(alloc: Global, spots: &[Spot]) -> Result<Vec<Told<'_>>, AllocError>
     ensures { IfOk result (λ list. list.items ≡ spots.now) }
 {

@@ -8,7 +8,7 @@ use percent_encoding::percent_decode_str;
 use std::alloc::{AllocError, Global};
 use std::borrow::CowStr;
 
-/// What stands behind a front of a text.
+/// What stands after a front of a text.
 fn behind<'t>(text: &'t str, front: &str) -> Option<&'t str>
     ensures { option_copied result ≡ behind front.now text.now }
 {

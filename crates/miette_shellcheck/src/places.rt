@@ -14,7 +14,7 @@ use miette_readers::members::{text_at, whole_at};
 use miette_readers::place::{Place, Stretch};
 use serde_json::Value;
 
-/// So many characters behind the beginning of a line: behind the line's text its end.
+/// `count` characters after the beginning of a line: after the line's text its end.
 fn characters_behind(bytes: &[u8], start: usize, count: usize) -> usize
     requires { start ≤ length bytes.now }
     ensures { result ≡ characters_behind bytes.now start count }

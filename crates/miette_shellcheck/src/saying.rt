@@ -31,7 +31,7 @@ fn severity_by(level: &str) -> Severity
     }
 }
 
-/// A text with a number behind it.
+/// A text with a number after it.
 fn numbered(alloc: Global, text: &str, number: u64) -> Result<String, AllocError>
     ensures { IfOk result (λ it. string_bytes it ≡ text.now ++ decimal number) }
 {
@@ -40,7 +40,7 @@ fn numbered(alloc: Global, text: &str, number: u64) -> Result<String, AllocError
     Ok(numbered)
 }
 
-/// A text with the number of a comment's code behind it, where it has one.
+/// A text with the number of a comment's code after it, where it has one.
 fn coded(alloc: Global, text: &str, comment: &Value) -> Result<Option<String>, AllocError>
     ensures { IfOk result (λ o. option_map string_bytes o ≡ coded text.now (view comment.now)) }
 {

@@ -1,4 +1,4 @@
--- Words, one behind another.
+-- Words, one after another.
 use Rattle.std.proofs.Common.{◌≡◌, ℕ, ◌+◌, ◌<◌, ◌≤◌, List, [], ◌∷◌, ◌++◌, Option, Some, String, length, get_or, codes}
 use Rattle.std.proofs.Common.{map, string_bytes, take, sym, ap, ◌∙◌, append_assoc}
 use Rattle.std.specs.Prelude.{decimal, option_map}

@@ -84,7 +84,7 @@ told_ok from gives found files row d (Ok it) begins utf8 is known said =
 
 -- ---- texts of several reports
 
--- the text of one more, behind those of these
+-- the text of one more, after those of these
 pub drawn_more : (gives : Given) (ts : List Tree) (t : Tree) (text drawn : List ℕ) → AreDrawn gives ts text
     → gives t drawn → AreDrawn gives (ts ++ t ∷ []) (text ++ (drawn ++ 10 ∷ []))
 drawn_more gives [] t text drawn none given =

@@ -22,7 +22,7 @@ use miette_tool_rows::verdict::Verdict;
 use std::alloc::Global;
 use std::io::{Read, Write};
 
-/// Reads all rows that are left, and writes one log of all their messages, in order, behind what is passed on.
+/// Reads all rows that are left, and writes one log of all their messages, in order, after what is passed on.
 ///
 /// # Errors
 /// `Read` exactly where a call of the reader failed, `Write` exactly where one of the writers failed. `Memory`.
@@ -42,7 +42,7 @@ pub fn log_on<F: Loader, R: Read, W: Write, E: Write>(
         Appends (W.contents streams.old.writer.inner) (W.contents streams.new.writer.inner)
         (logged_text log.entry (trees ts))
         × Appends (E.contents streams.old.faults.inner) (E.contents streams.new.faults.inner) notes) verdict)) }
-    // After an error the writer took nothing, or a beginning of the log, behind all that is passed on.
+    // After an error the writer took nothing, or a beginning of the log, after all that is passed on.
     ensures beginning { OnErr result ((streams.new.writer ≡ streams.old.writer)
         ⊎ IfSome (left_of R.remaining streams.old.rows) (λ bytes.
         LogsSome from (IsFoundBy F.found F.knows files.old) bytes (λ ts notes.

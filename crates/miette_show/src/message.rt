@@ -73,7 +73,7 @@ fn either(one: bool, other: bool) -> bool
     one || other
 }
 
-/// The texts of reports whose labels are accepted, with an empty row behind each; whether one is an error.
+/// The texts of reports whose labels are accepted, with an empty row after each; whether one is an error.
 fn texts_of<H: Highlighter, D: Diagnostic, S: SourceCode>(
     alloc: Global,
     handler: &mut JobHandler<H>,

@@ -123,7 +123,7 @@ fn push_words(words: &mut Vec<String>, alloc: Global, more: &[String]) -> Result
     Ok(())
 }
 
-/// Words of `job` behind those that say what is known of the terminal that standard output goes to: of words that say
+/// Words of `job` after those that say what is known of the terminal that standard output goes to: of words that say
 /// the same the last ones count.
 ///
 /// # Errors

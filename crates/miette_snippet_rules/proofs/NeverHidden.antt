@@ -7,7 +7,7 @@ use Rattle.miette_source_lines.specs.rules.Lines.{Line}
 use Rattle.miette_snippet_rules.specs.rules.Folds.{Spread, is_around, is_beside_hidden, is_hidden, is_near, leaves_out}
 use Rattle.miette_snippet_rules.specs.rules.Folds.{line_at, place_among}
 
--- the line that stands for one where there are not so many
+-- the line that stands for one that isn't there
 abbrev pub no_line : Line
 no_line = record { start = 0; text_end = 0; end = 0 }
 

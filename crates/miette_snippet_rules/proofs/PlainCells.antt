@@ -27,7 +27,7 @@ printable_cells tab offset column bs h =
     (cells_end width_of tab false (offset + length bs) (column + length bs) [] refl)
     ∙ append-nil (plain_cells offset column bs)
 
--- what is left behind some of them
+-- what is left after some of them
 pub dropped : (n : ℕ) (bs : List ℕ) → list_all is_printable bs ≡ true → list_all is_printable (drop n bs) ≡ true
 dropped zero bs h = h
 dropped (suc n) [] h = refl

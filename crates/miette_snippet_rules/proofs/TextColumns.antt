@@ -8,8 +8,8 @@ use Rattle.miette_snippet_rules.specs.rules.CutLines.{passes_after, stretches, t
 use Rattle.miette_snippet_rules.proofs.CutColumns.{columns_in-append}
 use Rattle.miette_basics.proofs.Cases.{by_cases}
 
--- The columns of the row's text where so many columns stand before that aren't near: of such a stretch as many count as
--- there are dots, if it has more. A cell without columns changes nothing.
+-- The columns of the row's text where `passed` columns stand before that aren't near: of such a stretch as many count
+-- as there are dots, if it has more. A cell without columns changes nothing.
 abbrev pub shown_columns : ℕ → (Cell → Bool) → ℕ → List Cell → ℕ
 shown_columns many near passed [] = min passed many
 shown_columns many near passed (cell ∷ cells) =
@@ -60,7 +60,7 @@ onto_left : (many : ℕ) (s : Stretch) (ss : List Stretch) → s.shown ≡ false
 onto_left many s [] h first = rw h refl
 onto_left many s (next ∷ later) h first = rw (h, first) refl
 
--- behind one that is left out the next one is near, so it is shown
+-- after one that is left out the next one is near, so it is shown
 next_shown : (many : ℕ) (s : Stretch) (later : List Stretch) → s.shown ≡ false → AreParted (s ∷ later)
     → IsFirstShown (with_short many later)
 next_shown many s [] h parted = tt
@@ -176,7 +176,7 @@ far_none many (next ∷ later) =
 far_last : (many : ℕ) (passed : List Cell) → stretch_columns many (far passed ∷ []) ≡ min (columns_in passed) many
 far_last many passed = omega arith
 
--- the stretches of some cells, behind others of a stretch that isn't near where the cell before isn't
+-- the stretches of some cells, after others of a stretch that isn't near where the cell before isn't
 abbrev behind : Bool → List Cell → List Stretch → List Stretch
 behind true passed ss = ss
 behind false passed ss = onto_stretches (far passed) ss

@@ -2,4 +2,4 @@
 pub mod Cuts
 pub mod LineTexts
 pub mod MadeMarks
-pub mod SettingsView
+pub mod Settings

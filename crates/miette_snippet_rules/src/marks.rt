@@ -7,7 +7,7 @@ use miette_label_rules::placed::PlacedLabel;
 pub struct Mark<'a> {
     /// Its first column, counted from 0 where the line's text begins.
     pub from: usize,
-    /// The column behind its last one.
+    /// The column after its last one.
     pub until: usize,
     /// The one of its columns from which the label's text hangs.
     pub anchor: usize,

@@ -6,7 +6,7 @@ use std::alloc::Global;
 /// How snippets are laid out.
 #[derive(Clone, Copy, Debug, PartialEq, Eq, Drop)]
 pub struct LayoutOptions {
-    /// A tab goes on to the next multiple of so many columns; at 0 it has no columns.
+    /// A tab goes on to the next multiple of `tab_width` columns; at 0 it has no columns.
     pub tab_width: usize,
     /// How many lines are shown before and after each label that has no number of its own.
     pub context_lines: usize,
@@ -14,7 +14,7 @@ pub struct LayoutOptions {
     pub primary_start: bool,
     /// Whether a frame over one line of a source without a name shows it too.
     pub one_line_start: bool,
-    /// Whether a label at the end of a source is drawn, behind the text of its last line.
+    /// Whether a label at the end of a source is drawn, after the text of its last line.
     pub end_labels: bool,
     /// A label over more lines than these is folded: only the lines around its first and its last one are shown.
     pub label_lines: Option<usize>,

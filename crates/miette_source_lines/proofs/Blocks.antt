@@ -65,7 +65,7 @@ split : (p : ℕ → Bool) (d : List ℕ) (i n : ℕ) → len_before p (drop i d
 split p d i n =
     ap (len_before p) (chunk-drop i n d) ∙ prefix_len-append (λ b. not (p b)) (chunk i n d) (drop (i + n) d)
 
--- so many bytes were passed, each of which passes a test
+-- `i` bytes were passed, each of which passes a test
 abbrev pub HasPassed : (ℕ → Bool) → List ℕ → ℕ → Type 0
 HasPassed q d i = record { within : i ≤ length d; told : i + prefix_len q (drop i d) ≡ prefix_len q d }
 

@@ -5,7 +5,7 @@ use Rattle.std.proofs.lemmas.Bool.{cases_eq, eq-eqb, ne_eqb}
 use Rattle.miette_source_lines.specs.rules.Lines.{LF, CR, ends_line, line_of}
 use Rattle.miette_source_lines.proofs.Places.{line_of_yes, line_of_no}
 
--- so many LF and CR were seen between two offsets: without CR, the LF end the lines
+-- `feeds` LF and `returns` CR were seen between two offsets: without CR, the LF end the lines
 pub record HasFeeds (bytes : List ℕ) (from at feeds returns : ℕ) : Type 0 where
   pub count : returns ≡ 0 → line_of bytes from + feeds ≡ line_of bytes at
   pub few : feeds ≤ at - from

@@ -162,7 +162,7 @@ first_is start bytes text whole within some fits part =
       to = omega (arith, fits);
     }
 
--- the line that begins so many bytes on
+-- the line that begins `at` bytes on
 pub line_parted : (start at : ℕ) (bytes rest : List ℕ) (line : LineOfText) → rest ≡ drop at bytes
     → IsFirst (record { start = start + at; bytes = rest }) line →
     lines_from (start + at) (drop at bytes) ≡ line_of_text line

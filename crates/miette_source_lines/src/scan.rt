@@ -64,7 +64,7 @@ fn count_if(byte: u8, sought: u8) -> u8
 }
 
 /// How many terminators end between two offsets of a block, where these are LF alone; none where there is a CR. No byte
-/// is compared with the one behind it. Of a whole block the compiler sees how many bytes there are.
+/// is compared with the one after it. Of a whole block the compiler sees how many bytes there are.
 #[inline(always)]
 fn feeds_between(bytes: &[u8], from: usize, to: usize) -> Option<u8>
     requires order { from ≤ to }
@@ -112,7 +112,7 @@ fn pass_feeds(bytes: &[u8], from: usize, to: usize) -> (usize, usize)
     }
 }
 
-/// How many terminators end between two offsets. Behind the first block with a CR, each may have one.
+/// How many terminators end between two offsets. After the first block with a CR, each may have one.
 #[tactic(auto, using(crate::proofs::Places::scan_steps))]
 pub(crate) fn ends_between(bytes: &[u8], from: usize, to: usize) -> usize
     requires order { from ≤ to }

@@ -58,7 +58,7 @@ part_ends part (b ∷ bs) none =
 abbrev pub Fits : List ℕ → List ℕ → Type 0
 Fits held left = (held ≡ []) ⊎ (goes_on held left ≡ true)
 
--- the parts of what was there at first are those of what is left behind what the part begins with
+-- the parts of what was there at first are those of what is left after what the part begins with
 abbrev pub RowHeld : Option (List ℕ) → Option (List ℕ) → List ℕ → Type 0
 RowHeld None new held = ⊤
 RowHeld (Some xs) None held = ⊥
@@ -97,7 +97,7 @@ row_more (Some xs) (Some ys) (Some zs) held row part one some is next =
     ∙ row_taken held row zs (rows_of zs) some (subst (Fits held) next.0 is.1)
     ∙ ap (λ p. parts_from p (rows_of zs)) (sym one)
 
--- what is open behind one row more
+-- what is open after one row more
 pub behind_more : (held row part : List ℕ) (was now : Open) → part ≡ held ++ row → was ≡ behind closed held
     → now ≡ behind was row → now ≡ behind closed part
 behind_more held row part was now is before after =

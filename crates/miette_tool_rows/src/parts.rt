@@ -5,7 +5,7 @@ ghost use Rattle.miette_tool_rows.specs.rules.Parts.{begins_alone, begins_value,
 ghost use Rattle.miette_tool_rows.specs.rules.Parts.{in_text, is_inner, is_open, with_byte};
 ghost use Rattle.miette_tool_rows.specs.rules.Rows.{begins_with, is_closing, is_mark, is_opening, is_space, leads_in};
 
-/// What is open behind some bytes of JSON.
+/// What is open after some bytes of JSON.
 #[derive(Clone, Copy)]
 pub(crate) struct Open {
     /// How many brackets.
@@ -17,7 +17,7 @@ pub(crate) struct Open {
 }
 
 impl Open {
-    /// Behind no byte.
+    /// After no byte.
     pub(crate) fn nothing() -> Open
         ensures { result ≡ closed }
     {
@@ -28,7 +28,7 @@ impl Open {
         }
     }
 
-    /// Behind a byte more, which is within a text.
+    /// After a byte more, which is within a text.
     fn in_text(self, byte: u8) -> Open
         ensures { result ≡ in_text self byte }
     {
@@ -51,7 +51,7 @@ impl Open {
         }
     }
 
-    /// Behind a byte more, which is beside texts.
+    /// After a byte more, which is beside texts.
     fn beside_text(self, byte: u8) -> Open
         ensures { result ≡ beside_text self byte }
     {
@@ -72,7 +72,7 @@ impl Open {
         }
     }
 
-    /// Behind a byte more.
+    /// After a byte more.
     fn with_byte(self, byte: u8) -> Open
         ensures { result ≡ with_byte self byte }
     {
@@ -83,7 +83,7 @@ impl Open {
         }
     }
 
-    /// Behind further bytes.
+    /// After further bytes.
     pub(crate) fn behind(self, bytes: &[u8]) -> Open
         ensures { result ≡ behind self bytes.now }
     {
@@ -130,7 +130,7 @@ fn is_mark(byte: u8) -> bool
     byte == b'"' || is_opening(byte) || is_closing(byte)
 }
 
-/// Whether white space alone begins these bytes, or a quote or a bracket behind it.
+/// Whether white space alone begins these bytes, or a quote or a bracket after it.
 fn leads_in(bytes: &[u8]) -> bool
     ensures { result ≡ leads_in bytes.now }
 {
@@ -144,7 +144,7 @@ fn leads_in(bytes: &[u8]) -> bool
     true
 }
 
-/// Whether a part begins with this bracket, behind which, beside white space, a quote, a bracket or nothing stands.
+/// Whether a part begins with this bracket, after which, beside white space, a quote, a bracket or nothing stands.
 pub(crate) fn begins_with(bracket: u8, part: &[u8]) -> bool
     ensures { result ≡ begins_with bracket part.now }
 {
@@ -154,7 +154,7 @@ pub(crate) fn begins_with(bracket: u8, part: &[u8]) -> bool
     }
 }
 
-/// Whether a part begins with a bracket, behind which a quote, a bracket, white space or the row's end stands.
+/// Whether a part begins with a bracket, after which a quote, a bracket, white space or the row's end stands.
 pub(crate) fn begins_value(part: &[u8]) -> bool
     ensures { result ≡ begins_value part.now }
 {

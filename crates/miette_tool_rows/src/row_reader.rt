@@ -190,7 +190,7 @@ impl<R: Read> RowReader<R> {
     }
 
     /// Reads the next part, a row or the rows of a value, through `row` in place of what `part` holds; none is left
-    /// where it is empty then. Gives the number of the row behind it, where its first one has this number.
+    /// where it is empty then. Gives the number of the row after it, where its first one has this number.
     ///
     /// # Errors
     /// `Read` exactly where a call of the reader failed, and `Memory`.

@@ -5,7 +5,7 @@ use Rattle.std.proofs.lemmas.List.{reverse-append}
 use Rattle.miette_tree.specs.laws.BothEnds.{EndItem, in_front, behind, Gives, front_of, back_of}
 
 module _ {S A B : Type 0} (view : A → B) (rest : S → List B) where
-  -- each item once: what was left is what was given in front, what is left now, and what was given behind
+  -- each item once: what was left is what was given in front, what is left now, and what was given at the back
   pub mixed : (taken : List (EndItem A)) (s t : S) → Gives (YieldsFirstBy view rest) (YieldsLastBy view rest) s taken t
       → rest s ≡ front_of view taken ++ (rest t ++ back_of view taken)
   mixed [] s t same = ap rest same ∙ sym (append-nil (rest t))

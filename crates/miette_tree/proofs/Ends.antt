@@ -16,7 +16,7 @@ use Rattle.miette_tree.specs.declared.tree.Report.{Report}
 use Rattle.miette_tree.specs.declared.tree.Cause as shown
 use Rattle.miette_tree.specs.declared.tree.Cause.TheVariants as seen
 
--- the texts of a chain, behind the last of its messages
+-- the texts of a chain, after the last of its messages
 abbrev mutual
   pub tail : Tree → List (List ℕ)
   tail (tree m s c r) = tail_below c
@@ -33,7 +33,7 @@ spine_parts (tree m s c r) = refl
 not_past : (t u : Tree) (k : ℕ) → drop k (spine t) ≡ spine u → k < length (spine t)
 not_past t u k e = omega (arith, length-drop k (spine t), ap length (e ∙ spine_parts u))
 
--- the messages behind the first k, from their first on
+-- the messages after the first k, from their first on
 behind : (t u : Tree) (k : ℕ) → drop k (spine t) ≡ spine u → get_or (spine t) k [] ∷ drop (k + 1) (spine t)
     ≡ (head u).message ∷ spine_below (cause_of u)
 behind t u k e = sym (drop_more (spine t) k [] (not_past t u k e)) ∙ (e ∙ spine_parts u)
@@ -101,7 +101,7 @@ first_left t below ts n k m one rest first =
     ap (λ i. take i (spine t) ++ ts) one ∙ (ap (λ l. take (suc k) l ++ ts) (spine_parts t)
     ∙ (ap (λ x. x ∷ (take k (spine_below (cause_of t)) ++ ts)) (sym first) ∙ ap (λ l. m ∷ (take k l ++ ts)) (sym rest)))
 
--- its last message, where no text stands behind it
+-- its last message, where no text stands after it
 pub last_left : (xs : List (List ℕ)) (ts : List (String Global)) (n k : ℕ) (m : List ℕ) → length ts ≡ 0 → take n xs
     ≡ take k xs ++ m ∷ [] → take n xs ++ map string_bytes ts ≡ (take k xs ++ map string_bytes ts) ++ m ∷ []
 last_left xs [] n k m none last = append-nil (take n xs) ∙ (last ∙ ap (λ l. l ++ m ∷ []) (sym (append-nil (take k xs))))
@@ -127,7 +127,7 @@ last_or-append : (before : Option (List ℕ)) (xs : List (List ℕ)) (x : List �
 last_or-append before [] x = refl
 last_or-append before (y ∷ ys) x = last_or-append (Some y) ys x
 
--- where texts stand behind the last report, the last of them is the chain's
+-- where texts stand after the last report, the last of them is the chain's
 pub last_text : (t : Tree) (ts rest : List (List ℕ)) (x : List ℕ) → length (spine_below (cause_of t)) ≡ 0 → ts
     ≡ tail_below (cause_of t) → ts ≡ rest ++ x ∷ [] → last_or None (chain_of t) ≡ Some x
 last_text (tree m s (diagnostic n) r) ts rest x none same split = absurd (omega (arith, none, spine_down n))

@@ -31,7 +31,7 @@ module _ {W : Type 0} (took : W → List ℕ → W → Type 0) where
   leads_to_end f g h r all rest so_far wrote = λ plain ok.
       let (here, on) = so_far plain in on h (wrote here ok)
 
--- the first of a chain, and those behind it
+-- the first of a chain, and those after it
 pub chain_led : (t : Tree) → behind_colons (chain_of t)
     ≡ (58 ∷ 32 ∷ (head t).message) ++ behind_colons (causes_of (cause_of t))
 chain_led (tree m s c r) = refl

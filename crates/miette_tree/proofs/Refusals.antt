@@ -10,7 +10,7 @@ use Rattle.miette_fixes.specs.rules.Edits.{Replacement, ends_behind}
 never_both : {X : Type 0} (o : Option X) (x : X) → o ≡ None → o ≡ Some x → ⊥
 never_both o x e f = cc
 
--- none of edits that can be applied ends behind the end
+-- none of edits that can be applied ends past the end
 pub applied_inside : (n : ℕ) (edits : List Replacement) → refusal n edits ≡ None
     → list_any (ends_behind n) edits ≡ false
 applied_inside n edits e =

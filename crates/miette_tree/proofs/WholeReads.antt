@@ -1,4 +1,4 @@
--- The read of a whole source: as many lines behind it as can be asked for, more than a source that is in memory has.
+-- The read of a whole source: as many lines after it as can be asked for, more than a source that is in memory has.
 use Rattle.std.proofs.Common.{◌≡◌, ℕ, ◌+◌, ◌-◌, ◌<◌, ◌≤◌, false, true, List, length, Option, Some, None, refl}
 use Rattle.std.proofs.Common.{ap, ap₂, ◌∙◌, arith, inl, inr}
 use Rattle.std.specs.Prelude.{slice_range}
@@ -18,7 +18,7 @@ use Rattle.miette_tree.specs.rules.Reads.{MayMeet}
 abbrev pub nowhere : Span
 nowhere = record { offset = 0; len = 0 }
 
--- so many lines of context reach the end of a source of which fewer bytes were read
+-- `most` lines of context reach the end of a source of which fewer bytes were read
 reaches_end : (source : Source) (before most : ℕ) → data_start source.bytes nowhere before ≡ 0 → 1 ≤ most
     → length (contents_of source nowhere before most).bytes < most
     → (contents_of source nowhere before most).bytes ≡ source.bytes
@@ -37,7 +37,7 @@ reaches_end source before most start some small =
     ] in
     ap₂ (slice_range bytes) start full ∙ take_all (length bytes - 0) bytes (omega arith)
 
--- what such a read lends has the bytes of the source
+-- the contents of such a read have the bytes of the source
 pub lent_whole : (source : Source) (before : ℕ) (span : Span) (lent : Contents) (bytes : List ℕ)
     → data_start source.bytes nowhere before ≡ 0 → span ≡ nowhere
     → lent ≡ contents_of source span before 18446744073709551615 → bytes ≡ lent.bytes

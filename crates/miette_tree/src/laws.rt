@@ -16,8 +16,8 @@ use miette_protocol::protocol::Diagnostic;
 use miette_protocol::source::SourceCode;
 
 /// Whatever calls of `next` and `next_back` gave, in any order, each item of the chain comes once: those
-/// given in front in order, then those that are left, then those given behind. `next` to the end gives the
-/// chain, and `next_back` to the end gives it in reverse.
+/// given in front in order, then those that are left, then those given at the back. `next` to the end gives
+/// the chain, and `next_back` to the end gives it in reverse.
 pub fn chains_from_both_ends<D: Diagnostic + 'static, S: SourceCode + 'static>()
     ensures once { (chain later : Chain D S) (taken : List (EndItem _))
         → Gives ⟦<Chain<'static, D, S> as Iterator>⟧.next_gives
@@ -32,8 +32,8 @@ pub fn chains_from_both_ends<D: Diagnostic + 'static, S: SourceCode + 'static>()
         map (λ x. x.now) items ≡ reverse (left_of D.meaning S.source chain) }
 {}
 
-/// A clone of a cause, of what a report was made of, or of a source that is lent is the same, and takes no memory: no
-/// such clone is refused.
+/// A clone of a cause, of what a report was made of, or of a source that is borrowed is the same, and takes no memory:
+/// no such clone is refused.
 pub fn clones_take_no_memory<D: Diagnostic + 'static, S: SourceCode + 'static>()
     ensures same_causes { (a b : Cause D S) → ⟦<Cause<'static, D, S> as Clone>⟧.is_clone a b → b ≡ a }
     ensures same_kinds { (a b : ReportKind D) → ⟦<ReportKind<'static, D> as Clone>⟧.is_clone a b → b ≡ a }

@@ -1,4 +1,4 @@
-//! The messages of a report's causes, written one behind another.
+//! The messages of a report's causes, written one after another.
 
 ghost use Rattle.std.specs.Prelude.{◌∷◌, map, string_bytes};
 ghost use Rattle.std.specs.Fmt.{WritesOnOk};

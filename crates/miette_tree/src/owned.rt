@@ -179,7 +179,7 @@ pub(crate) enum OwnSource<S> {
     Owned(OwnedSource),
 }
 
-/// The source of a report, lent: a reference to the place where the report keeps it.
+/// The source of a report, borrowed: a reference to the place where the report keeps it.
 #[derive_where(Clone, Copy)]
 pub struct SourceRef<'a, S = Box<dyn SourceCode>> {
     place: &'a OwnSource<S>,
@@ -197,8 +197,8 @@ impl<'a, S: SourceCode> SourceRef<'a, S> {
     ghost use Rattle.miette_tree.specs.views.Owned.{shown_source};
 
     /// Reads a span of the source with `before` lines of context before it and `after` lines after it. Takes
-    /// memory only where the source does. The data, name and language are lent by the report. The errors are those
-    /// of `SourceCode::read_span`; an owned source never answers `IoError`.
+    /// memory only where the source does. The data, name and language are borrowed from the report. The errors are
+    /// those of `SourceCode::read_span`; an owned source never answers `IoError`.
     pub fn read_span(self, span: &SourceSpan, before: usize, after: usize) -> ReadResult<'a>
         ensures { Answers (shown_source S.source self.entry) span.now before after result }
     {
@@ -227,7 +227,7 @@ impl<'a, S: SourceCode> SourceRef<'a, S> {
     }
 }
 
-/// A lent source reads as the source that it shows.
+/// A borrowed source reads as the source that it shows.
 impl<'a, S: SourceCode> SourceCode for SourceRef<'a, S> {
     ghost use Rattle.miette_tree.specs.views.Owned.{shown_source};
 

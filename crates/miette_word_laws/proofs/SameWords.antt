@@ -122,7 +122,7 @@ at_with k sp hebrew = record {
   has_half_flag = false;
 }
 
--- behind a character that is no space, if there is one, and spaces or not
+-- after a character that is no space, if there is one, and spaces or not
 abbrev at : Kind → Bool → State
 at k sp = at_with k sp false
 
@@ -146,7 +146,7 @@ behind-kind k Quote sp = ap (at_with Quote false) (no-hebrew sp k)
 behind-kind k Dash sp = ap (at_with Dash false) (no-hebrew sp k)
 behind-kind k Point sp = ap (at_with Point false) (no-hebrew sp k)
 
--- ---- each pair of them, behind each character before
+-- ---- each pair of them, after each character before
 
 abbrev all_kinds : (Kind → Bool) → Bool
 all_kinds p = p Gap && (p Letter && (p Digit && (p Quote && (p Dash && p Point))))
@@ -171,7 +171,7 @@ of_all p h k =
 abbrev begins : Kind → Kind → Kind → Bool
 begins k m n = not (is_dash m) && is_some (break_in (at (next k m) (is_gap m)) (char_of n))
 
--- where no point stands behind a space it begins as by spaces
+-- where no point stands after a space it begins as by spaces
 abbrev agrees : Kind → Kind → Kind → Bool
 agrees k m n = (is_gap m && is_stop n) || beq (begins k m n) (is_gap m && not (is_gap n))
 

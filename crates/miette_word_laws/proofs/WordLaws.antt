@@ -125,7 +125,7 @@ no-mark before b c m h =
     (or-right (ends_joined (b ∷ before)) (is_mark (character_of c).class
     && nearest_is takes_marks (bases (b ∷ before))) joins))
 
--- ---- closing marks, and what is behind opening brackets
+-- ---- closing marks, and what is after opening brackets
 
 second : (a b c d e f g : Bool) → b ≡ true → (a || b || c || d || e || f || g) ≡ true
 second true b c d e f g h = refl

@@ -13,8 +13,8 @@ ghost use Rattle.miette_wrap_rules.specs.rules.Wrapping.{starts_word, words};
 ghost use Rattle.miette_wrapping.specs.steps.Ends.{codes_of};
 ghost use Rattle.miette_runs.specs.rules.Cells.{Cell};
 
-/// Where no word begins by the rules of Unicode: with a mark, but behind a space, a zero width space or what ends a
-/// line; with what closes, but behind the last two, the zero width space also with spaces behind it; behind an opening
+/// Where no word begins by the rules of Unicode: with a mark, but after a space, a zero width space or what ends a
+/// line; with what closes, but after the last two, the zero width space also with spaces after it; after an opening
 /// bracket and its spaces; and inside a flag.
 pub fn words_law()
     ensures marks { (before : List ℕ) (b c : ℕ) → is_mark (character_of c).class ≡ true →
@@ -31,7 +31,7 @@ pub fn words_law()
 {}
 
 /// Both separators give the same words of a plain line: of spaces, letters and digits of ASCII, quotes, backquotes,
-/// `# & * < = > @ ^ _ ~ -`, and `. , : ;` that don't stand behind a space.
+/// `# & * < = > @ ^ _ ~ -`, and `. , : ;` that don't stand after a space.
 pub fn separators_law()
     ensures { (line : List Cell) → is_plain_text (codes_of line) ≡ true →
         words UnicodeBreakProperties line ≡ words AsciiSpace line }

@@ -29,7 +29,7 @@ cut_front-erased (Character c ∷ ts) = elim (is_line_feed c) as
     ]
 cut_front-erased (Sequence s ∷ ts) = grind (arith, nat_tests, cut_front-erased ts)
 
--- what waits still waits behind line feeds and colours
+-- what waits still waits after line feeds and colours
 feeds_wait : (ts : List Token) → only_feeds ts ≡ true → state_behind Waiting ts ≡ Waiting
 feeds_wait [] h = refl
 feeds_wait (Character c ∷ ts) h = grind (arith, nat_tests, feeds_wait ts)

@@ -128,7 +128,7 @@ broken_stays [] = refl
 broken_stays (Character c ∷ ts) = broken_stays ts
 broken_stays (Sequence s ∷ ts) = broken_stays ts
 
--- what is behind an `ESC ]` that isn't finished on its line
+-- what is after an `ESC ]` that isn't finished on its line
 opened_command : (ts : List Token) → state_behind Opened ts ≡ Free → command_len (spell ts) ≡ 0
 opened_command [] h = refl
 opened_command (Sequence s ∷ ts) h = cc (broken_stays ts)

@@ -64,7 +64,7 @@ plain-closed : (b : List ℕ) → no_escape b ≡ true → state_behind Free (ma
 plain-closed b h = run-append Free (map Character b) (map Character terminator)
     ∙ ap (λ s. state_behind s (map Character terminator)) (plain-run b h)
 
--- behind a line feed, what is to be seen comes
+-- after a line feed, what is to be seen comes
 waiting-run : (b : List ℕ) → no_escape b ≡ true → state_behind Waiting (map Character b ++ map Character terminator)
     ≡ Free
 waiting-run [] h = refl

@@ -137,7 +137,7 @@ alive_before Broken ts h = cc (broken_stays ts)
 alive_free : (s : State) → s ≡ Free → alive s ≡ true
 alive_free s h = ap alive h
 
--- behind a line feed a row may begin
+-- after a line feed a row may begin
 feed_settles : (s : State) → alive s ≡ true → settled (step s line_feed) ≡ true
 feed_settles Free h = refl
 feed_settles Escaped h = refl
@@ -230,8 +230,8 @@ alive_settled Broken a = cc
 
 -- ---- lists of rows
 
--- A run over rows, cut out of one over the text: behind each row it is where it was, or behind a line feed.
--- What Q says holds behind the last.
+-- A run over rows, cut out of one over the text: after each row it is where it was, or after a line feed. What
+-- Q says holds after the last.
 abbrev pub Ends : (State → Type 0) → State → List (List Token) → Type 0
 Ends Q s [] = ⊥
 Ends Q s (r ∷ rs) = elim rs [
@@ -243,7 +243,7 @@ Ends Q s (r ∷ rs) = elim rs [
 abbrev pub IsFree : State → Type 0
 IsFree s = s ≡ Free
 
--- rows behind rows, with a line feed between them
+-- rows after rows, with a line feed between them
 Ends-append : (s e : State) (rs us : List (List Token)) → alive e ≡ true → Ends (λ t. t ≡ e) s rs
     → Ends IsFree (step e line_feed) us → Ends IsFree s (rs ++ us)
 Ends-append s e [] us a h k = absurd h

@@ -55,7 +55,7 @@ pub fn colours_law()
 {}
 
 /// The rows that words fill, by what holds of them: they hold the words in order, and each word begins a row exactly
-/// where it doesn't fit behind those before it. No other rows are such. What is printed of a row is all but its last
+/// where it doesn't fit after those before it. No other rows are such. What is printed of a row is all but its last
 /// spaces, and nothing else is.
 pub fn rows_law()
     ensures words { (room further : ℕ) (words : List Word) → all_words (rows room further words) ≡ words }

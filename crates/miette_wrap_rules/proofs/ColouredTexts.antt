@@ -70,7 +70,7 @@ colour_begins c (d ∷ cs) k a h =
       | false ↦ λ e g. cc
     ] refl h
 
--- the tokens behind k codes, one step on
+-- the tokens after k codes, one step on
 abbrev tokens_by : ℕ → ℕ → List ℕ → List Token
 tokens_by n c cs = elim n as (λ _. List Token) [
   | zero ↦ Character c ∷ tokens_behind 0 cs

@@ -5,7 +5,7 @@ use Rattle.miette_wrap_rules.specs.rules.Wrapping.{Word, columns, word_cells, ro
 use Rattle.miette_wrap_rules.specs.laws.FilledRows.{all_words, Fits, used_behind, Below, IsFilled}
 use Rattle.miette_basics.specs.rules.Lists.{onto}
 
--- the rest of a row behind so many columns, and the rows below it
+-- the rest of a row after `used` columns, and the rows below it
 abbrev Behind : ℕ → ℕ → ℕ → List Word → List (List Word) → Type 0
 Behind used room further r rs = Fits room used r × Below room further (used_behind used r) rs
 

@@ -8,9 +8,9 @@ use miette_runs::runs::Runs;
 /// How words are told apart.
 #[derive(Clone, Copy, Debug, PartialEq, Eq)]
 pub enum WordSeparator {
-    /// Behind each run of spaces (U+0020).
+    /// After each run of spaces (U+0020).
     AsciiSpace,
-    /// Where a line may be broken by the rules of Unicode, but not behind `-` and the soft hyphen.
+    /// Where a line may be broken by the rules of Unicode, but not after `-` and the soft hyphen.
     UnicodeBreakProperties,
 }
 
@@ -19,7 +19,7 @@ pub enum WordSeparator {
 pub enum WordSplitter {
     /// Nowhere.
     NoHyphenation,
-    /// Behind each `-` between two ASCII letters or digits.
+    /// After each `-` between two ASCII letters or digits.
     HyphenSplitter,
 }
 
@@ -49,7 +49,7 @@ pub struct Plan<'a> {
     pub wraps: bool,
     /// How words are told apart.
     pub separator: WordSeparator,
-    /// Whether words are cut behind hyphens.
+    /// Whether words are cut after hyphens.
     pub hyphens: bool,
     /// Whether words that are too wide are cut.
     pub breaks: bool,
@@ -61,7 +61,7 @@ pub struct Plan<'a> {
     pub further: &'a Runs,
 }
 
-/// Whether words are cut behind hyphens.
+/// Whether words are cut after hyphens.
 pub fn cuts_hyphens(splitter: WordSplitter) -> bool
     ensures { result ≡ cuts_hyphens splitter }
 {

@@ -33,7 +33,7 @@ piece-goes s t joined next i c cs d e f g =
     ∙ (let z : i + suc more ≡ (i + 1) + more = omega arith in z)
     ∙ ap₂ (λ s k. (i + 1) + piece_len s k (drop (i + 1) cs)) (sym f) (sym g)
 
--- behind so many printable codes: what is left of the word, whose first code begins no word behind a hyphen
+-- after `i` printable codes: what is left of the word, whose first code begins no word after a hyphen
 pub record Walked (start s : State) (i : ℕ) (cs : List ℕ) : Type 0 where
   pub len : piece_len start true cs ≡ i + piece_len s (is_hyphen (code_behind 0 i cs)) (drop i cs)
   pub state : s ≡ state_at start i cs
@@ -113,7 +113,7 @@ left-some : (it : Broken) (cuts : Cuts) (cells : List Cell) → 0 < length cells
 left-some it cuts [] l = absurd (omega arith)
 left-some it cuts (c ∷ cs) l = refl
 
--- the rest of a word, and the words behind it
+-- the rest of a word, and the words after it
 abbrev rest_word : Broken → List Cell → Word
 rest_word it cells = record { letters = take it.letters cells; spaces = take it.spaces (drop it.letters cells) }
 
@@ -225,7 +225,7 @@ more-part cuts it n b codes d h e f g = λ cells q.
 abbrev pub begun : ℕ → ℕ → State → Broken
 begun letters spaces s = record { before = 0; letters = letters; spaces = spaces; state = s }
 
--- so many codes are the word and its spaces, and so many its letters
+-- `k` codes are the word and its spaces, and `b` its letters
 pub first-left : (cuts : Cuts) (s t : State) (k b : ℕ) (cells : List Cell) (codes : List ℕ) → codes_of cells ≡ codes →
     0 < length codes → k ≡ piece_len s true codes → 0 < k → b ≤ k → t ≡ state_at s k codes →
     b ≡ bare_len (plain_cells (take k codes)) →

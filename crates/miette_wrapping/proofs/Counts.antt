@@ -22,7 +22,7 @@ pub line-row : (cs : List ℕ) → prefix_len is_in_row cs ≡ line_len cs
 line-row [] = refl
 line-row (c ∷ cs) = row-more (is_line_feed c) (prefix_len is_in_row cs) (line_len cs) (line-row cs)
 
--- ---- behind i of them
+-- ---- after i of them
 
 module _ (count : List ℕ → ℕ) (class : ℕ → Bool) (counts : Counts count class) (cs : List ℕ) (i x : ℕ) where
   here : i < length cs → x ≡ get_or cs i 0
@@ -49,7 +49,7 @@ counted-all count class counts cs i l told =
     let end : count (drop i cs) ≡ 0 = ap count (drop_all i cs l) ∙ counts.none in
     omega (arith, told, end)
 
--- ---- so many codes of what is left of a list stand in it
+-- ---- `n` codes of what is left of a list stand in it
 
 module _ (start n : ℕ) (cs rest : List ℕ) (room : start ≤ length cs) (is : rest ≡ drop start cs)
     (within : n ≤ length rest) where

@@ -168,7 +168,7 @@ feeds-behind [] vs h = h
 feeds-behind (Character c ∷ us) vs h = ap (λ b. is_line_feed c && b) (feeds-behind us vs h) ∙ and-false (is_line_feed c)
 feeds-behind (Sequence s ∷ us) vs h = ap (λ b. is_colour s && b) (feeds-behind us vs h) ∙ and-false (is_colour s)
 
--- where something is seen behind
+-- where something is seen after a line feed
 pub seen-behind : (x y : List ℕ) → only_feeds (tokens y) ≡ false → only_feeds (tokens (x ++ 10 ∷ y)) ≡ false
 seen-behind x y h = ap only_feeds (tokens-fed x y) ∙ feeds-behind (tokens x) (Character 10 ∷ tokens y) h
 

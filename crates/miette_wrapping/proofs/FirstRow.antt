@@ -183,7 +183,7 @@ row-whole first left room further end used cells codes h e l i =
     ∙ ap (pack (nat_lt 0 end) (take end cells) used room further) (ap left z ∙ h)
     ∙ ap (λ us. take end cells ∷ rows_left left further us) (sym z)
 
--- ---- the code behind
+-- ---- the code before
 
 pub behind-at : (a n d : ℕ) (cs : List ℕ) → n < length cs → get_or cs n d ≡ code_behind a (suc n) cs
 behind-at a n d [] l = absurd (omega arith)

@@ -1,4 +1,4 @@
--- Rows that have room stand in a wrapped text each behind an indent.
+-- Rows that have room stand in a wrapped text each after an indent.
 use Rattle.std.proofs.Common.{◌≡◌, ℕ, zero, suc, ◌+◌, ◌<◌, ◌≤◌, Bool, true, false, not, ◌&&◌, List, [], ◌∷◌, ◌++◌, map}
 use Rattle.std.proofs.Common.{flat_map, length, refl, sym, ap, ap₂, ◌∙◌, append_assoc, arith}
 use Rattle.std.proofs.Common.{if◌then◌else◌, nat_lt, subst}
@@ -110,7 +110,7 @@ trimmed-rest (Character c ∷ ts) rest =
     else Character c ∷ (trimmed_row ts ++ map Sequence rest)) ≡ (if b then trimmed_row ts
     else Character c ∷ trimmed_row ts) ++ map Sequence rest) [ true ↦ refl | false ↦ refl ]
 
--- words that have room behind so many columns stay there
+-- words that have room after `used` columns stay there
 behind-one : (used room further : ℕ) (ws : List Word) → used + columns (row_cells ws) ≤ room
     → rows_behind used room further ws ≡ ws ∷ []
 behind-one used room further [] h = refl
@@ -146,7 +146,7 @@ row-row c room further row h =
     line-row c room further (row_line row) (omega (arith, h, line-columns (tokens row)))
     ∙ ap (λ us. trimmed_row us ∷ []) (line-tokens (tokens row))
 
--- ---- rows of a text, each with a line feed behind it
+-- ---- rows of a text, each with a line feed after it
 
 abbrev fed : List Token → List Token → List (List Token) → List ℕ
 fed first further [] = []
@@ -325,7 +325,7 @@ module _ (p : Plan (List ℕ)) (text : List ℕ) where
             (spell-tokens p.first),
       )
 
-  -- a text that ends with a line feed has a line behind it
+  -- a text that ends with a line feed has a line after it
   two-lines : (back more : List ℕ) → back ≡ more ++ 10 ∷ [] → 1 < length (lines back)
   two-lines back more same = omega (
     arith,

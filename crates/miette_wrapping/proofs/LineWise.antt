@@ -105,7 +105,7 @@ rows-of-text cuts room room' ts = omega (
   length-map (text_rows cuts room room' (text_lines ts)) spell,
 )
 
--- behind the first indent
+-- after the first indent
 pub filled-text : (p : Plan (List Token)) (text : List Token) (narrow room room' : ℕ) (f f' t : List Token) → f
     ≡ p.first → f' ≡ p.further → t ≡ text → room ≡ p.room - columns_of f → room' ≡ p.room - columns_of f' → narrow
     ≡ min room room' →
@@ -154,7 +154,7 @@ filled-text p text narrow room room' f f' t i j k q r e =
     (text_lines t)))) i j
     ∙ ap (λ us. spell (filled_text p us)) k
 
--- what is printed behind it
+-- what is printed after it
 pub under-filled : (p : Plan (List Token)) (separator : WordSeparator) (text : List Token) (narrow room room' : ℕ)
     (f f' t : List Token) (old o o1 : List ℕ) → separator ≡ p.separator → f ≡ p.first → f' ≡ p.further → t ≡ text →
     room ≡ p.room - columns_of f → room' ≡ p.room - columns_of f' → narrow ≡ min room room' → o ≡ old ++ spell f →
@@ -169,7 +169,7 @@ under-filled p separator text narrow room room' f f' t old o o1 h i j k q r e a 
     ∙ append_assoc old (spell f) (rows p.separator)
     ∙ ap (λ us. old ++ us) (filled-text p text narrow room room' f f' t i j k q r e)
 
--- ---- what stands behind the rows of a piece
+-- ---- what stands after the rows of a piece
 
 rest-rows : (further : List ℕ) (rest : List (List ℕ)) (r s : List Cell) (ss : List (List Cell))
     → bare_lines further (lines_of rest (r ∷ s ∷ ss)) ≡ shown r
@@ -247,7 +247,7 @@ tags-end : (ms : List Tag) → text_lines (map tag_token ms) ≡ record { cells 
 tags-end [] = refl
 tags-end (m ∷ ms) = ap (on_first (with_tag (tag_text m))) (tags-end ms)
 
--- what is behind a line that ends at a line feed
+-- what is after a line that ends at a line feed
 abbrev rest_of : ℕ → ℕ → List ℕ → List Tag → List (List ℕ)
 rest_of n at cs ms = map tag_text (upto (at + n) (left_at at (take n cs) ms))
 
@@ -294,7 +294,7 @@ line-last at (c ∷ cs) ms h = elim (is_line_feed c) as (λ v. is_line_feed c �
 
 -- ---- what a line prints
 
--- the rows of a line, and behind them nothing
+-- the rows of a line, and after them nothing
 abbrev pub line_text : Cuts → List ℕ → ℕ → ℕ → ℕ → List ℕ → List Tag → List ℕ
 line_text cuts further room room' at line ms = bare_lines further
     (lines_of [] (map row_cells (rows room room' (cut_words cuts (cells_at at line ms)))))

@@ -10,7 +10,7 @@ use Rattle.miette_wrapping.specs.steps.Ends.{begins_word, part_len}
 use Rattle.miette_wrapping.proofs.SolidRuns.{chosen}
 
 module _ (stop : ℕ → Bool) (cuts : Cuts) (all before used : ℕ) (cs : List ℕ) (i x : ℕ) where
-  -- what is looked for is so many codes on
+  -- what is looked for is `i` codes and the first part of what is left after them
   abbrev IsLeft : Type 0
   IsLeft = all ≡ i + part_len stop cuts before used (drop i cs)
 

@@ -302,7 +302,7 @@ pub gap-is : (cs : List Cell) → gap_len (codes_of cs) ≡ spaces_len cs
 gap-is [] = refl
 gap-is (c ∷ cs) = ap (λ n. if is_space c.code then suc n else 0) (gap-is cs)
 
--- behind a space and at the front nothing is cut
+-- after a space and at the front nothing is cut
 none-behind : (h : Bool) (cs : List Cell) → (if h then hyphen_parts 32 cs else cs ∷ [])
     ≡ (if h then hyphen_parts 0 cs else cs ∷ [])
 none-behind true [] = refl
@@ -331,7 +331,7 @@ words-alone cuts cs = elim (spaced_words cs) as (λ ws. (elim ws as (λ _. List 
       ++ flat_map (parts cuts) ws
 ]) ≡ flat_map (parts cuts) ws) [ [] ↦ refl | w ∷ ws ↦ refl ]
 
--- the parts of a word's letters, and the words behind it
+-- the parts of a word's letters, and the words after it
 abbrev from_parts : Cuts → List (List Cell) → List Cell → List Word
 from_parts cuts ps behind = with_spaces (take (spaces_len behind) behind) ps
     ++ flat_map (parts cuts) (spaced_words (drop (spaces_len behind) behind))
@@ -386,7 +386,7 @@ next-part cuts before after p (c ∷ cs) f g = elim (is_space c.code) as (λ v. 
           (sym m)
     ] refl
 
--- ---- the code behind
+-- ---- the code before
 
 behind-nothing : (a n : ℕ) → code_behind a n [] ≡ a
 behind-nothing a zero = refl
@@ -417,7 +417,7 @@ gap-space a (c ∷ cs) h = elim (is_space c) as (λ v. is_space c ≡ v → 0 < 
 pub drop-codes : (n : ℕ) (cs : List Cell) → drop n (codes_of cs) ≡ codes_of (drop n cs)
 drop-codes n cs = drop-map (λ (c : Cell). c.code) n cs
 
--- The first word of what stands behind a code, where something does.
+-- The first word of what stands after a code, where something does.
 pub words-next : (cuts : Cuts) (before n m : ℕ) (cs : List Cell) → 0 < length cs → n
     ≡ part_len is_space cuts before 0 (codes_of cs) → m ≡ gap_len (drop n (codes_of cs)) →
     words_behind cuts before cs ≡ record { letters = take n cs; spaces = take m (drop n cs) }

@@ -125,7 +125,7 @@ front_unseen b bs h =
       | false ↦ λ e p. colour_unseen b (take (colour_len bs) bs) (colour_front bs p)
     ] refl h
 
--- a text behind what is passed at its front
+-- a text after what is passed at its front
 pub record IsBehind (b : Bool) (bs : List ℕ) (n : ℕ) : Type 0 where
   pub boundary : IsCharBoundary bs n
   pub same : are_passed b (tokens (chars (drop n bs))) ≡ are_passed b (tokens (chars bs))

@@ -22,7 +22,7 @@ state-more s (suc i) n zero cs e = absurd (omega (arith, e))
 state-more s (suc i) n (suc k) [] e = sym (state-none s n)
 state-more s (suc i) n (suc k) (c ∷ cs) e = state-more (behind s c) i n k cs (omega (arith, e))
 
--- so many more are passed
+-- `n` more are passed
 pub piece-passes : (s : State) (joined : Bool) (all i n : ℕ) (cs : List ℕ) →
     all ≡ i + piece_len s joined (drop i cs) →
     piece_len s joined (drop i cs) ≡ n + piece_len s joined (drop n (drop i cs)) →

@@ -1,4 +1,4 @@
--- Printable ASCII without a hyphen: each character has a column, and no word is cut behind one.
+-- Printable ASCII without a hyphen: each character has a column, and no word is cut after one.
 use Rattle.std.proofs.Common.{◌≡◌, ℕ, zero, suc, ◌+◌, ◌<◌, ◌≤◌, Bool, true, false, ◌&&◌, ◌==◌}
 use Rattle.std.proofs.Common.{List, [], ◌∷◌, ◌++◌, get_or, length, take, refl, sym, ap, ap₂, ◌∙◌, arith}
 use Rattle.std.proofs.lemmas.Bool.{and_parts}

@@ -1,4 +1,4 @@
--- A character that is seen at the end of a line: it stands behind one that would end a sequence.
+-- A character that is seen at the end of a line: it stands after one that would end a sequence.
 use Rattle.std.proofs.Common.{◌≡◌, ℕ, zero, suc, ◌+◌, ◌-◌, ◌<◌, ◌≤◌, Bool, true, false, not, ◌&&◌, ◌==◌, ◌⊎◌, inl, inr}
 use Rattle.std.proofs.Common.{List, [], ◌∷◌, ◌++◌, IsAscii, IsUtf8, length, take, drop, get_or, refl, sym, ap, ◌∙◌}
 use Rattle.std.proofs.Common.{arith}
@@ -124,7 +124,7 @@ visible_low c h = grind (arith, nat_tests)
 visible_high : (c : ℕ) → is_visible c ≡ true → c ≤ 126
 visible_high c h = grind (arith, nat_tests)
 
--- ---- a walk up to codes of which one is seen, where no sequence that begins before them is longer than so many more
+-- ---- a walk up to codes of which one is seen, where a sequence that begins before them has at most `m` of them
 
 walk_seen : (b : Bool) (s : List ℕ) (m : ℕ)
     → ((c : ℕ) (y : List ℕ) → sequence_len (c ∷ (y ++ s)) ≤ suc (m + length y))
@@ -144,7 +144,7 @@ walk_seen b s m ends seen (c ∷ y) zero l =
       | suc i ↦ λ k. walk_seen b s m ends seen y i (omega (arith, k))
     ] (ends c y)
 
--- ---- so what is behind that code is seen
+-- ---- so what is after that code is seen
 
 final_low : (p : ℕ) → is_final p ≡ true → 33 ≤ p
 final_low p h = grind (arith, nat_tests)

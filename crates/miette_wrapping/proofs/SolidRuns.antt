@@ -42,7 +42,7 @@ no_row cuts used w room =
     ap (λ b. cuts.breaks && (nat_lt 0 used && b)) room ∙ ap (λ b. cuts.breaks && b) (and-false (nat_lt 0 used))
     ∙ and-false cuts.breaks
 
--- and no part of a word ends behind what is no hyphen
+-- and no part of a word ends after what is no hyphen
 pub no_part : (cuts : Cuts) (c before : ℕ) (cs : List ℕ) → (c == 45) ≡ false
     → (cuts.hyphens && ((c == 45) && is_alphanumeric before && begins_word cs)) ≡ false
 no_part cuts c before cs h =
@@ -92,7 +92,7 @@ one_more : (b : Bool) (x y m : ℕ) → x ≡ min y m → (if b then suc x else 
 one_more true x y m h = omega (arith, h)
 one_more false x y m h = omega arith
 
--- of so many codes they are the least of both
+-- of the first `m` codes they are the least of both
 pub solid-least : (m j : ℕ) (cs : List ℕ) → j ≡ min (length cs) m →
     solid_len (take j cs) ≡ min (solid_len cs) m
 solid-least m zero [] e = omega arith

@@ -97,7 +97,7 @@ whole-next indent further row rest h =
     ∙ more-lines indent further (row_line row) (lines rest) (pieces-some (tokens rest))
     ∙ ap (λ us. us ++ 10 ∷ whole_text further further rest) (row-under indent row)
 
--- ---- by the first line of a text, and what is behind it
+-- ---- by the first line of a text, and what is after it
 
 -- a line is printed, and its line feed
 pub line-printed : (indent further : List Token) (text line rest fed : List ℕ) (white : Bool) (o p q : List ℕ)
@@ -197,7 +197,7 @@ pub last-printed : (indent further : List Token) (text : List ℕ) (n : ℕ) →
     → n ≡ length text → last_under indent (chars text) ≡ whole_text indent further (chars text)
 last-printed indent further text n u e h = sym (whole-end indent further (chars text) (no-feed text n u e h))
 
--- a text cut behind its first line feed
+-- a text cut after its first line feed
 pub record IsCut (text line fed rest : List ℕ) : Type 0 where
   pub ending : chars fed ≡ chars line ++ 10 ∷ []
   pub is_first : IsFirstLine (chars text) (chars line) (chars rest)
@@ -228,7 +228,7 @@ first-feed text fed rest n u e h a b =
 
 -- ---- how long the first line is
 
--- so many bytes, behind which a text may be cut
+-- `n` bytes, after which a text may be cut
 pub record IsLine (text : List ℕ) (n : ℕ) : Type 0 where
   pub len : n ≡ prefix_len is_in_row text
   pub inside : n ≤ length text

@@ -1,9 +1,9 @@
 //! Text, wrapped under indents.
 //!
 //!     one two-three         a line of the text
-//!     one␣|two-three        words: each has the spaces behind it
-//!     one␣|two-|three       parts: a word is cut behind a hyphen, or where it is too wide
-//!     × one two-            rows: as many parts as have room behind the indent,
+//!     one␣|two-three        words: each has the spaces after it
+//!     one␣|two-|three       parts: a word is cut after a hyphen, or where it is too wide
+//!     × one two-            rows: as many parts as have room after the indent,
 //!       three               without their last spaces; the other rows stand under an indent of their own
 //!
 //! | Stage | Function |
@@ -11,10 +11,10 @@
 //! | a text is read where it stands, if it is ASCII without an escape | `Ascii` (`codes.rt` of `miette_runs`) |
 //! | or as runs, its escape sequences as signs | `read_text`, `reread` (`reading.rt` of `miette_runs`) |
 //! | lines are parted at line feeds | `line_len` (`lines.rt`) |
-//! | the part at the front, with the spaces behind it: of words that end at spaces | `Spaced` (`ends.rt`) |
+//! | the part at the front, with the spaces after it: of words that end at spaces | `Spaced` (`ends.rt`) |
 //! | of words that lie between the places at which a line may be broken | `Broken` (`breaks.rt`) |
 //! | the part's letters: a word's, or what is cut from them | `first_part` (`ends.rt`) |
-//! | how many characters a row takes: parts, each with the spaces behind it | `row_len` (`ends.rt`) |
+//! | how many characters a row takes: parts, each with the spaces after it | `row_len` (`ends.rt`) |
 //! | rows are printed with the signs that stand in them | `push_filled` (`lines.rt`) |
 //! | lines of a text that aren't wrapped are printed whole, and not read | `push_whole` (`whole.rt`) |
 //! | of a line in which nothing is seen the indent is shorter | `first_line` (`white.rt`) |

@@ -1,5 +1,5 @@
-//! What tests compare. A test is proved too, and a comparison in its own body, beside reports that are let go, is dear:
-//! so it calls one of these.
+//! What tests compare. A test is proved too, and a comparison in its own body, beside reports that are dropped, is
+//! dear: so it calls one of these.
 
 use std::fmt::Debug;
 use std::process::Abort;

@@ -1,4 +1,4 @@
-//! Reports of many parts are let go: on the stack of any test, and each part once.
+//! Reports of many parts are dropped: on the stack of any test, and each part once.
 
 use crate::comparing::same;
 use miette_protocol::protocol::{Diagnostic, LabeledSpan, Severity};
@@ -19,7 +19,7 @@ fn report_over(
     }
 }
 
-/// A report with so many causes, each the cause of the one before it.
+/// A report with `count` causes, each the cause of the one before it.
 fn long_chain(alloc: Global, count: usize) -> Result<Report, AllocError> {
     let mut report: Report = Report::msg(alloc, "innermost")?;
     for _ in 0..count {
@@ -130,7 +130,7 @@ fn owners(alloc: Global) -> Result<(usize, usize), AllocError> {
     Ok((with, Rc::strong_count(&token)))
 }
 
-/// Each boxed part is let go once, and a long chain of causes is gone through and let go.
+/// Each boxed part is dropped once, and a long chain of causes is gone through and dropped.
 #[test]
 fn all_parts_are_let_go(rt: HostRuntime) -> Result<(), AllocError> {
     same(&rt, owners(rt.alloc()), Ok((9, 1)));

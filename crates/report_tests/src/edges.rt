@@ -21,7 +21,7 @@ fn without_bars(alloc: Global) -> Result<GraphicalReportHandler, AllocError> {
     )
 }
 
-/// One report with line feeds behind its message.
+/// One report with line feeds after its message.
 fn line_feeds(alloc: Global) -> Result<Vec<Report>, AllocError> {
     let mut related = Vec::new(alloc);
     related.push(Report::msg(alloc, "r\n\n")?)?;
@@ -34,7 +34,7 @@ fn nest(alloc: Global) -> Result<Report, AllocError> {
     Ok(Report::msg(alloc, "top")?.with_related(related))
 }
 
-/// Behind the message of the related report stand a line feed, the colours of a bar without spaces, and two line feeds.
+/// After the message of the related report stand a line feed, the colours of a bar without spaces, and two line feeds.
 const NESTED: &str =
     "  \u{1B}[31m×\u{1B}[0m top\n\u{1B}[31m  ╰─▶ \u{1B}[0m  \u{1B}[31m×\u{1B}[0m r\u{1B}[31m\u{1B}[0m\n";
 

@@ -1,4 +1,4 @@
-//! Tests of reports and handlers as callers write them: what is let go, themes, highlighters, sources that stop. The
+//! Tests of reports and handlers as callers write them: what is dropped, themes, highlighters, sources that stop. The
 //! expected texts were written by hand from the rules. What a description can say stands in `cases/`, and so does what
 //! the program `calls` prints of each call, with refused memory and over sources that stop; and what programs write,
 //! with devices that fail and words that could not be had.

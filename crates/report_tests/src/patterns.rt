@@ -1,4 +1,4 @@
-//! Lines that rules style, with what they style in brackets and a letter behind them.
+//! Lines that rules style, with what they style in brackets and a letter after them.
 
 use crate::comparing::gives;
 use miette_highlight::highlight::{Delimiters, Highlighter, Pattern, PatternHighlighter, Rule};

@@ -78,7 +78,7 @@ static ROWS: [Row; 30] = [
     (MIXED, PositionEncoding::Utf8, (9, 2), Some((1, 1, 1, 3))),
     (MIXED, PositionEncoding::Utf32, (9, 2), Some((1, 1, 1, 2))),
     (MIXED, PositionEncoding::Utf8, (15, 3), Some((3, 0, 3, 3))),
-    // ends of sources, and behind them
+    // ends of sources, and after them
     (b"", UTF16, (0, 0), Some((0, 0, 0, 0))),
     (b"", UTF16, (0, 1), Some((0, 0, 0, 0))),
     (b"a\n", UTF16, (2, 0), Some((1, 0, 1, 0))),
@@ -102,7 +102,7 @@ static REGIONS: [(Numbers, Option<(usize, usize)>); 8] = [
     ((0, 5, 1, 0), Some((7, 1))),
     ((1, 2, 2, 0), Some((11, 2))),
     ((3, 3, 3, 3), Some((18, 0))),
-    // inside the emoji, behind a line's text, on no line, and an end before the start
+    // inside the emoji, after a line's text, on no line, and an end before the start
     ((0, 3, 0, 4), None),
     ((0, 2, 0, 6), None),
     ((1, 0, 4, 0), None),

@@ -28,8 +28,8 @@ fn parts_of<'a>(contents: &MietteSpanContents<'a>) -> ReadParts<'a> {
     )
 }
 
-/// A source, the offset and the length that are asked for, the lines of context before and behind, and what is read:
-/// its offset and length, line, column and count of lines; nothing where it lies outside.
+/// A source, the offset and the length that are asked for, the lines of context before and after, and what is read: its
+/// offset and length, line, column and count of lines; nothing where it lies outside.
 type Row<'a> = (
     &'a [u8],
     (usize, usize),

@@ -8,7 +8,7 @@ use miette_text::wrap::{WordSeparator, WordSplitter, WrapOptions, fill};
 use std::alloc::{AllocError, Global};
 use std::process::Abort;
 
-/// Without indents; words are cut behind hyphens and where they are too wide.
+/// Without indents; words are cut after hyphens and where they are too wide.
 const PLAIN: WrapOptions<'static> = WrapOptions {
     width: 80,
     first_indent: "",
@@ -94,7 +94,7 @@ static TABLES: [(WrapOptions<'static>, &[Row<'static>]); 9] = [
         &[("ab-cd ef", 5, "ab-cd\nef"), ("ab-cd ef", 4, "ab-\ncd\nef")],
     ),
     (WITHOUT_HYPHENS, &[("ab-cd ef", 4, "ab-c\nd ef")]),
-    // what is white loses its indent's last spaces, and sequences behind the last line feed stay
+    // what is white loses its indent's last spaces, and sequences after the last line feed stay
     (
         WHOLE,
         &[
@@ -132,14 +132,14 @@ static TABLES: [(WrapOptions<'static>, &[Row<'static>]); 9] = [
     (
         BY_UNICODE,
         &[
-            // neither before a closing mark nor behind an opening one, also where spaces stand there
+            // neither before a closing mark nor after an opening one, also where spaces stand there
             ("漢字。", 2, "漢\n字。"),
             ("「漢字」", 2, "「漢\n字」"),
             ("a ( b ) c", 1, "a\n( b )\nc"),
             // neither before a mark nor inside a flag
             ("漢か\u{3099}字", 2, "漢\nか\u{3099}\n字"),
             ("🇩🇪🇫🇷", 1, "🇩🇪\n🇫🇷"),
-            // a number stays with its sign, and behind a hyphen there is no place
+            // a number stays with its sign, and after a hyphen there is no place
             ("漢-5字", 1, "漢-5\n字"),
             ("漢-字", 1, "漢-字"),
             ("a- b", 1, "a-\nb"),
@@ -163,7 +163,7 @@ static TABLES: [(WrapOptions<'static>, &[Row<'static>]); 9] = [
     ),
 ];
 
-/// Whether the text fits behind a red indent of two columns.
+/// Whether the text fits after a red indent of two columns.
 fn fits(alloc: Global, wraps: bool, width: usize, text: &str) -> Result<bool, AllocError> {
     let first = read_text(alloc, "\u{1B}[31m>\u{1B}[0m ")?;
     push_fitting(wraps, width, &first, text, &mut Output::for_text(alloc))

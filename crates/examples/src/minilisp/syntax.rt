@@ -21,7 +21,7 @@ enum State {
     Code,
     /// In a text that begins here.
     Text(usize),
-    /// Behind a backslash of a text that begins here.
+    /// After a backslash of a text that begins here.
     Escape(usize),
     Comment,
 }

@@ -19,16 +19,16 @@ with_one c (Some Error) = record c { errors = one_more c.errors }
 with_one c (Some Warning) = record c { warnings = one_more c.warnings }
 with_one c (Some Advice) = record c { advices = one_more c.advices }
 
--- the counts behind reports of these severities
+-- the counts after reports of these severities
 abbrev pub with_all : Counts → List (Option Severity) → Counts
 with_all c [] = c
 with_all c (s ∷ rest) = with_all (with_one c s) rest
 
--- what a word ends in, of so many
+-- what the word for `n` things ends in
 abbrev pub plural : ℕ → List ℕ
 plural n = if nat_eq n 1 then [] else codes "s"
 
--- so many of a thing
+-- `n` of a thing
 abbrev pub many : ℕ → List ℕ → List ℕ
 many n thing = decimal n ++ (thing ++ plural n)
 

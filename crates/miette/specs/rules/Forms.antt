@@ -26,7 +26,7 @@ front JsonArray true = codes ",\n"
 front JsonArray false = codes "["
 front JsonRows is_begun = []
 
--- behind each report
+-- after each report
 abbrev pub behind : Form → List ℕ
 behind Pictures = []
 behind Narrated = []
@@ -34,7 +34,7 @@ behind Brief = []
 behind JsonArray = []
 behind JsonRows = codes "\n"
 
--- behind the last one, or where there is none
+-- after the last one, or where there is none
 abbrev pub closing : Form → Bool → List ℕ
 closing Pictures is_begun = []
 closing Narrated is_begun = []

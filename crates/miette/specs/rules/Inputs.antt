@@ -27,7 +27,7 @@ abbrev pub stop_meaning : List ℕ → ℕ → Meaning
 stop_meaning name stop =
     record (message_alone (name ++ codes " isn't UTF-8")) { labels = Some (stop_label stop ∷ []) }
 
--- the report of an input that isn't text, over its bytes: it stops behind its longest beginning in UTF-8
+-- the report of an input that isn't text, over its bytes: it stops after its longest beginning in UTF-8
 abbrev pub no_text : List ℕ → List ℕ → Tree
 no_text name bytes =
     with_source (named_source (plain_source bytes) name None)

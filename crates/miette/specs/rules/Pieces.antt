@@ -12,11 +12,11 @@ pub record Left : Type 0 where
 abbrev pub is_lf : ℕ → Bool
 is_lf b = b == 10
 
--- so many bytes further on, up to the largest `usize`
+-- `n` bytes on from `start`, up to the largest `usize`
 abbrev pub further : ℕ → ℕ → ℕ
 further start n = min (start + n) (2 ^ 64 - 1)
 
--- a line is what stands before the first LF of what is left, or all of it; what stands behind that LF is left then
+-- a line is what stands before the first LF of what is left, or all of it; what stands after that LF is left then
 abbrev pub GivesLine : Left → Option Piece → Left → Type 0
 GivesLine left None new = length left.text ≡ 0
 GivesLine left (Some line) new =

@@ -28,7 +28,7 @@ behaving gives asks refuses keeps contents = record {
   contents = contents;
 }
 
--- How a report of this tree went, by what its call answered: the run before it, and behind it. Where it was told, the
+-- How a report of this tree went, by what its call answered: the run before it, and after it. Where it was told, the
 -- writer took one text of the handler, with what the form puts around it, by what was asked of its highlighter. Where
 -- it wasn't, nothing was written, unless the writer failed; after that nothing more is. `faults` is told nothing yet. A
 -- read is refused only where the handler may refuse, which stays or is kept. In any case the report is counted by its

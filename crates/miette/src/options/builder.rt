@@ -129,7 +129,7 @@ impl MietteHandlerOpts {
 }
 
 impl<H: Highlighter> MietteHandlerOpts<H> {
-    /// Whether a url becomes a link around the code, or a text behind it; else as the terminal shows links.
+    /// Whether a url becomes a link around the code, or a text after it; else as the terminal shows links.
     pub fn terminal_links(mut self, links: bool) -> Self
         ensures { result ≡ record self { links = Some links } }
     {
@@ -309,7 +309,7 @@ impl<H: Highlighter> MietteHandlerOpts<H> {
         self
     }
 
-    /// Whether a label at the end of a source that isn't empty is drawn in pictures, behind the text of the last line;
+    /// Whether a label at the end of a source that isn't empty is drawn in pictures, after the text of the last line;
     /// else it isn't. Where no lines are shown around labels, those over that source have one then.
     pub fn end_labels(mut self, drawn: bool) -> Self
         ensures { result ≡ record self { layout = record self.layout { end_labels = drawn } } }
@@ -329,7 +329,7 @@ impl<H: Highlighter> MietteHandlerOpts<H> {
         self
     }
 
-    /// Tabs go on to the next multiple of so many columns. At least 1 is the caller's condition.
+    /// Tabs go on to the next multiple of `width` columns. At least 1 is the caller's condition.
     pub fn tab_width(mut self, width: usize) -> Self
         requires { 1 ≤ width }
         ensures { result ≡ record self { layout = record self.layout { tab_width = width } } }
@@ -338,8 +338,8 @@ impl<H: Highlighter> MietteHandlerOpts<H> {
         self
     }
 
-    /// A line of more than so many columns is cut in pictures: it shows what stands around its labels, as much as fits
-    /// into so many columns, and dots in place of the rest. A limit below 8 counts as 8.
+    /// A line wider than `columns` is cut in pictures: it shows what stands around its labels, as much as fits into
+    /// that width, and dots in place of the rest. A limit below 8 counts as 8.
     pub fn line_columns(mut self, columns: usize) -> Self
         ensures { result ≡ record self { layout = record self.layout { line_columns = Some columns } } }
     {

@@ -18,7 +18,7 @@ use std::io::Write;
 use std::process::ExitCode;
 
 impl<T: ReportHandler, W: Write, F: Write> Reporter<T, W, F> {
-    /// Reports these one after another, each as `report` does, also behind one that can't be told. `failure` says why
+    /// Reports these one after another, each as `report` does, also after one that can't be told. `failure` says why
     /// one couldn't, of the last that couldn't.
     pub fn report_each<D: Diagnostic, S: SourceCode>(&mut self, reports: &[Report<D, S>])
         ensures { AreReported (behaving T.gives T.asks T.refuses T.keeps W.contents) self.old

@@ -85,7 +85,7 @@ impl fmt::Display for Counts {
     }
 }
 
-// What a word ends in, of so many.
+// What the word for `count` things ends in.
 fn plural(count: usize) -> &'static str
     ensures { result.now ≡ plural count }
 {

@@ -50,7 +50,7 @@ impl Form {
         }
     }
 
-    // What stands behind each report.
+    // What stands after each report.
     pub(crate) fn behind(self) -> &'static str
         ensures { result.now ≡ behind self }
     {

@@ -95,7 +95,7 @@ impl RunWords {
     }
 }
 
-// What stands behind `--` in a word that begins so.
+// What stands after `--` in a word that begins so.
 fn asked_name(word: &str) -> Option<&str>
     ensures { option_copied result ≡ asked_name word.now }
 {

@@ -9,7 +9,7 @@ use Rattle.miette_brief.specs.rules.Commands.{Command, Property, Saying, command
 
 -- ---- escapes
 
--- where a reader of a text is: at a byte as it is, behind `%`, or behind the first digit
+-- where a reader of a text is: at a byte as it is, after `%`, or after the first digit
 pub data Decoding : Type 0 where
   as_it_is : Decoding
   escape : Decoding
@@ -36,11 +36,11 @@ abbrev pub pieces_of : List ℕ → List (List ℕ)
 pieces_of [] = [] ∷ []
 pieces_of (b ∷ bs) = if b == 44 then [] ∷ pieces_of bs else onto_first b (pieces_of bs)
 
--- a key up to `=`, and the value behind it
+-- a key up to `=`, and the value after it
 abbrev pub property_of : List ℕ → Property
 property_of piece = record { key = up_to 61 piece; value = decoded as_it_is (behind 61 piece) }
 
--- behind a space
+-- after a space
 abbrev pub properties_behind : List ℕ → List Property
 properties_behind [] = []
 properties_behind (b ∷ bs) = map property_of (pieces_of (b ∷ bs))
@@ -51,11 +51,11 @@ properties_behind (b ∷ bs) = map property_of (pieces_of (b ∷ bs))
 abbrev pub head_in : List ℕ → List ℕ
 head_in row = up_to 58 (drop 2 row)
 
--- behind the second `::`
+-- after the second `::`
 abbrev pub body_in : List ℕ → List ℕ
 body_in row = drop 1 (behind 58 (drop 2 row))
 
--- the texts of a message, each row below the first behind LF
+-- the texts of a message, each row below the first one after an LF
 abbrev pub said : Saying → List ℕ
 said it = 10 ∷ (it.title ++ it.text)
 

@@ -8,14 +8,14 @@ use Rattle.miette_brief.specs.laws.ReadBack.{is_digit}
 
 -- ---- texts in quotes
 
--- where a reader of a text is: at a byte as it is, behind a backslash, or behind its first digit or its first two
+-- where a reader of a text is: at a byte as it is, after a backslash, or after its first digit or its first two
 pub data Reading : Type 0 where
   as_it_is : Reading
   escaping : Reading
   one_digit : ℕ → Reading
   two_digits : ℕ → Reading
 
--- where the reader is behind a byte that ends no text
+-- where the reader is after a byte that ends no text
 abbrev pub after_byte : Reading → ℕ → Reading
 after_byte as_it_is b = if b == 92 then escaping else as_it_is
 after_byte escaping b = if is_digit b then one_digit (b - 48) else as_it_is
@@ -29,14 +29,14 @@ given_by escaping b = if is_digit b then [] else (if b == 110 then 10 ∷ [] els
 given_by (one_digit n) b = []
 given_by (two_digits n) b = (n * 8 + (b - 48)) ∷ []
 
--- a quote ends the text, but behind a backslash
+-- a quote ends the text, except after a backslash
 abbrev pub ends_text : Reading → ℕ → Bool
 ends_text as_it_is b = b == 34
 ends_text escaping b = false
 ends_text (one_digit n) b = false
 ends_text (two_digits n) b = false
 
--- the text up to the quote that ends it, and what stands behind that quote
+-- the text up to the quote that ends it, and what stands after that quote
 abbrev pub text_to_quote : Reading → List ℕ → List ℕ
 text_to_quote at [] = []
 text_to_quote at (b ∷ bs) = if ends_text at b then [] else given_by at b ++ text_to_quote (after_byte at b) bs
@@ -64,19 +64,19 @@ position_to end bs = record {
 
 -- ---- rows
 
--- behind `fix-it:"`
+-- after `fix-it:"`
 abbrev pub name_onwards : List ℕ → List ℕ
 name_onwards row = drop 8 row
 
--- behind the name and `":{`
+-- after the name and `":{`
 abbrev pub start_onwards : List ℕ → List ℕ
 start_onwards row = drop 2 (behind_quote as_it_is (name_onwards row))
 
--- behind `-`
+-- after `-`
 abbrev pub end_onwards : List ℕ → List ℕ
 end_onwards row = behind 45 (start_onwards row)
 
--- behind `}:"`
+-- after `}:"`
 abbrev pub text_onwards : List ℕ → List ℕ
 text_onwards row = drop 2 (behind 125 (end_onwards row))
 

@@ -70,12 +70,12 @@ abbrev mutual
 abbrev pub parts : Bool → Tree → Answers → ℕ
 parts chain t a = parts_below chain None a t
 
--- rows, each with a line feed behind it
+-- rows, each with a line feed after it
 abbrev pub text_of_rows : List (List ℕ) → List ℕ
 text_of_rows [] = []
 text_of_rows (row ∷ rows) = row ++ (10 ∷ text_of_rows rows)
 
--- A text is so many rows, each ended by a line feed: none is empty, and none holds a control character.
+-- A text is `count` rows, each ended by a line feed: none is empty, and none holds a control character.
 pub record IsRows (count : ℕ) (text : List ℕ) : Type 0 where
   pub rows : List (List ℕ)
   pub are : text ≡ text_of_rows rows

@@ -13,7 +13,7 @@ abbrev pub before_colon : List ℕ → List ℕ
 before_colon [] = []
 before_colon (b ∷ bs) = if b == 58 then [] else b ∷ before_colon bs
 
--- behind the first colon
+-- after the first colon
 abbrev pub after_colon : List ℕ → List ℕ
 after_colon [] = []
 after_colon (b ∷ bs) = if b == 58 then bs else after_colon bs
@@ -26,7 +26,7 @@ number_before bs = digits_value 10 (before_colon bs)
 abbrev pub numbers_in : List ℕ → Position
 numbers_in bs = record { line = number_before bs; column = number_before (after_colon bs) }
 
--- what stands behind a name's colon: a line and a column, or a space, and then no position
+-- what stands after a name's colon: a line and a column, or a space, and then no position
 abbrev pub position_in : List ℕ → Option Position
 position_in [] = None
 position_in (b ∷ bs) = if b == 32 then None else Some (numbers_in (b ∷ bs))

@@ -4,7 +4,7 @@ use Rattle.std.specs.Prelude.{codes, decimal, if◌then◌else◌, unwrap_or}
 use Rattle.std.specs.List.{flat_map}
 use Rattle.miette_brief.specs.declared.fix_its.Position.{Position}
 
--- an edit of a source, which may have a name: where it begins, where it ends, behind its last byte, and its text
+-- an edit of a source, which may have a name: where it begins, where it ends, after its last byte, and its text
 pub record FixIt : Type 0 where
   pub name : Option (List ℕ)
   pub start : Position

@@ -46,7 +46,7 @@ abbrev pub gap : Bool → List ℕ
 gap true = []
 gap false = 32 ∷ []
 
--- what stands for a character, behind a control character or not
+-- what stands for a character, after a control character or not
 abbrev pub shown_for : Bool → ℕ → List ℕ
 shown_for goes_on c = if is_control c then gap goes_on else c ∷ []
 

@@ -1,4 +1,4 @@
--- Parts of a command as they are written one behind the other, and what a program gives for them.
+-- Parts of a command as they are written one after the other, and what a program gives for them.
 use Rattle.std.specs.Prelude.{ℕ, List, [], ◌++◌, Option, Some, None, codes, option_map}
 use Rattle.miette_protocol.specs.rules.Reading.{Source}
 use Rattle.miette_tree.specs.views.Owned.{shown_source}
@@ -13,7 +13,7 @@ site_of it = record { file = it.file.now; region = it.region }
 abbrev pub mark_of : {S : Type 0} → (S → Source) → GivenMark S → Mark
 mark_of is it = record { source = option_map (shown_source is) it.source; label = it.label.now }
 
--- a title behind a file or not
+-- a title after a file or not
 abbrev pub title_text : Option Site → Option (List ℕ) → List ℕ
 title_text site None = []
 title_text None (Some title) = codes " " ++ property_text (record { key = codes "title"; value = title })

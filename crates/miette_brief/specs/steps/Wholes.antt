@@ -50,6 +50,6 @@ abbrev pub IsOwnIn : Form → Option Source → Option Whole → Type 0
 IsOwnIn Gcc source own = ⊤
 IsOwnIn Github source own = IsOwn source own
 
--- the first so many labels lie over this source
+-- the first `n` labels lie over this source
 abbrev pub AreOver : Option Source → ℕ → List Mark → Type 0
 AreOver source n its = (at : ℕ) (it : Mark) → at < n → slice_get its at ≡ Some it → it.source ≡ source

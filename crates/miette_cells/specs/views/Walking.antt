@@ -10,7 +10,7 @@ use Rattle.miette_cells.specs.views.Printable.{is_printable, plain_cells}
 abbrev pub cell_of : MadeCell → Cell
 cell_of c = record { code = c.code; start = c.start; after = c.after; from = c.from; until = c.until }
 
--- of some cells these come first, of printable ASCII, and the later ones behind them
+-- of some cells these come first, of printable ASCII, and the later ones after them
 pub record ComeFirst (first : PlainCells) (cells later : List Cell) : Type 0 where
   pub bytes : List ℕ
   pub printable : list_all is_printable bytes ≡ true

@@ -4,12 +4,12 @@ use Rattle.unicode_width.specs.Width.{str_width}
 use Rattle.miette_cells.specs.rules.Cells.{Character}
 use Rattle.miette_cells.specs.rules.Widths.{width_of}
 
--- the characters of a text that begin before so many of its bytes are over
+-- the characters of a text that begin within its first `bytes` bytes
 abbrev pub begun_text : ℕ → List Character → List ℕ
 begun_text bytes [] = []
 begun_text bytes (c ∷ cs) = if bytes == 0 then [] else c.code ∷ begun_text (bytes - c.bytes) cs
 
--- whether so many bytes are whole characters of the text, and no more bytes than it has
+-- whether `bytes` bytes are whole characters of the text, and no more bytes than it has
 abbrev pub is_boundary : ℕ → List Character → Bool
 is_boundary bytes [] = bytes == 0
 is_boundary bytes (c ∷ cs) = if bytes == 0 then true
@@ -20,7 +20,7 @@ abbrev pub widths : List ℕ → ℕ
 widths [] = 0
 widths (code ∷ codes) = width_of code + widths codes
 
--- The column behind so many bytes: the width of the text before it; inside a character and past the text the widths
--- of the characters that begin before it.
+-- The column after `bytes` bytes: the width of the text before it; inside a character and past the text the widths of
+-- the characters that begin before it.
 abbrev pub column : ℕ → List Character → ℕ
 column bytes cs = if is_boundary bytes cs then str_width false (begun_text bytes cs) else widths (begun_text bytes cs)

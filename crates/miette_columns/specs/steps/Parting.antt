@@ -7,7 +7,7 @@ use Rattle.miette_cells.specs.rules.Widths.{width_of}
 use Rattle.miette_columns.specs.declared.overlap.Overlap.{Overlap}
 use Rattle.miette_columns.specs.declared.overlap.Overlap.TheVariants.{Nothing, One, Selected}
 
--- ASCII characters and letters of scripts that join nothing that stands behind them
+-- ASCII characters and letters of scripts that join nothing that stands after them
 abbrev pub is_lone : ℕ → Bool
 is_lone c =
     is_in_range 0x20 0x22 c || is_in_range 0x24 0x29 c || is_in_range 0x2B 0x2F c || is_in_range 0x3A 0x7E c
@@ -39,7 +39,7 @@ abbrev pub may_part_flags : ℕ → Bool → ℕ → Bool
 may_part_flags last is_half next = not is_half && (is_indicator last && is_indicator next)
 
 -- Skin tones, and letters that may join those before them: what they leave to be read is the same, unless a selector or
--- a skin tone stands behind them.
+-- a skin tone stands after them.
 abbrev pub is_keeping : ℕ → Bool
 is_keeping c =
     is_in_range 0x5DC 0x5DC c || is_in_range 0x671 0x675 c || is_in_range 0x773 0x774 c || is_in_range 0x870 0x882 c
@@ -56,7 +56,7 @@ end_overlap before last = if is_closing last || is_keeping last then Some (One l
     else (if (last == 0xFE0F) && is_emoji_variation_base before then Some (Selected before) else None)
 
 -- What a place between two neighbours holds, if one may lie there: nothing where the text may be parted, else the last
--- characters, from whose columns those behind are told.
+-- characters, from whose columns those after them are told.
 abbrev pub overlap_between : ℕ → ℕ → Bool → ℕ → Option Overlap
 overlap_between before last is_half next = if may_part last next || may_part_flags last is_half next then Some Nothing
     else (if opens next then end_overlap before last else None)

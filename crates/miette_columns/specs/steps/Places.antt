@@ -23,12 +23,11 @@ ends_in_flag (Selected c) = false
 abbrev pub IsHeld : Overlap → Type 0
 IsHeld first = ends_in_flag first ≡ false
 
--- the columns that are counted twice behind so many bytes: those of the characters that a walk begins with
+-- the columns that are counted twice after `bytes` bytes: those of the characters that a walk begins with
 abbrev pub twice : PartingPlace → ℕ → List Character → ℕ
 twice place bytes cs = if is_boundary bytes cs then place.twice else 0
 
--- the column behind so many bytes more than those before a place, in the characters behind it, and what is counted
--- twice
+-- the column after `bytes` bytes more than those before a place, in the characters after it, and what is counted twice
 abbrev pub column_behind : PartingPlace → ℕ → List Character → ℕ
 column_behind place bytes cs = if is_boundary bytes cs
     then place.column + str_width false (overlap_text place.overlap ++ begun_text bytes cs)

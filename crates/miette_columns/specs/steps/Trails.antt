@@ -1,4 +1,4 @@
--- Trails of characters that take no columns: behind each of them is the column that is behind the first one.
+-- Trails of characters that take no columns: after each of them is the column that is after the first one.
 use Rattle.std.specs.Prelude.{ℕ, ◌+◌, ◌-◌, ◌≤◌, ◌≡◌, ◌==◌, ◌&&◌, nat_lt, Bool, true, List, [], ◌∷◌, length, drop}
 use Rattle.std.specs.Prelude.{if◌then◌else◌}
 use Rattle.std.specs.List.{list_all}
@@ -19,7 +19,7 @@ AreFaint text bytes until =
     × ((is_boundary (until - bytes) (characters (drop bytes text)) ≡ true)
     × (list_all is_faint (begun_text (until - bytes) (characters (drop bytes text))) ≡ true)))
 
--- such characters, and the column behind each, and within it
+-- such characters, and the column after each, and within it
 abbrev pub IsTrail : List ℕ → Trail → Type 0
 IsTrail text trail =
     AreFaint text trail.bytes trail.until

@@ -3,8 +3,8 @@ use Rattle.std.specs.Prelude.{ℕ, ◌≡◌, ◌+◌, ◌-◌, ◌≤◌, min, 
 use Rattle.miette_cells.specs.rules.Cells.{Cell}
 use Rattle.miette_cuts.specs.declared.counting.Count.{Count}
 
--- The columns of a row's text, where so many columns stand before its cells that aren't near: of such a stretch as many
--- count as there are dots.
+-- The columns of a row's text, with `passed` columns before them, of cells that aren't near: of such a stretch at most
+-- `dots` count.
 abbrev pub columns_from : ℕ → (Cell → Bool) → ℕ → List Cell → ℕ
 columns_from dots near passed [] = min passed dots
 columns_from dots near passed (cell ∷ cells) =

@@ -9,7 +9,7 @@ use Rattle.miette_snippet_rules.specs.declared.marks.Mark.{Mark as MadeMark}
 abbrev pub lone : Bool → Cell → MadeStretch
 lone shown cell = record { shown = shown; cells = 1; columns = cell.until - cell.from; bytes = text_bytes cell.code }
 
--- so many cells of one column and one byte each, all shown or none
+-- `many` cells of one column and one byte each, all shown or none
 abbrev pub even : Bool → ℕ → MadeStretch
 even shown many = record { shown = shown; cells = many; columns = many; bytes = many }
 
@@ -17,7 +17,7 @@ even shown many = record { shown = shown; cells = many; columns = many; bytes = 
 abbrev pub cell_at : ℕ → Cell
 cell_at column = record { code = 32; start = 0; after = 1; from = column; until = column + 1 }
 
--- a stretch with the one behind it
+-- a stretch with the one after it
 abbrev pub grown_stretch : MadeStretch → MadeStretch → MadeStretch
 grown_stretch s next = record {
   shown = s.shown;
@@ -30,7 +30,7 @@ abbrev pub onto_made : MadeStretch → List MadeStretch → List MadeStretch
 onto_made s [] = s ∷ []
 onto_made s (next ∷ later) = if agree s.shown next.shown then grown_stretch s next ∷ later else s ∷ next ∷ later
 
--- a stretch that is shown too where it has no more columns than so many dots
+-- a stretch that is shown too where it has no more columns than `many` dots
 abbrev pub kept_made : ℕ → MadeStretch → MadeStretch
 kept_made many s = record {
   shown = s.shown || nat_le s.columns many;

@@ -15,17 +15,17 @@ pub record LineEnds : Type 0 where
   pub room : Room
   pub ends : List ℕ
 
--- the first of some ends that is at most so many columns in front of this one
+-- the first of some ends that is at most `reach` columns in front of `column`
 abbrev pub end_ahead : ℕ → ℕ → List ℕ → Option ℕ
 end_ahead reach column [] = None
 end_ahead reach column (end ∷ ends) = if nat_lt (end + reach) column then end_ahead reach column ends else Some end
 
--- from a column on, none of the first so many ends is at most so many columns in front
+-- from `column` on, none of the first `many` ends is at most `reach` columns in front
 abbrev pub ArePassed : ℕ → List ℕ → ℕ → ℕ → Type 0
 ArePassed reach ends many column = (later : ℕ) → column ≤ later →
     end_ahead reach later ends ≡ end_ahead reach later (drop many ends)
 
--- ends that ascend, of which the first so many are passed at a column
+-- ends that ascend, of which the first `many` are passed at a column
 pub record IsSearched (reach : ℕ) (ends : List ℕ) (many column : ℕ) : Type 0 where
   pub ascending : IsNonDecreasing ends
   pub passed : ArePassed reach ends many column

@@ -6,7 +6,7 @@ use Rattle.miette_cuts.specs.declared.window.Window.{Window}
 use Rattle.miette_cuts.specs.steps.Counting.{columns_from}
 use Rattle.miette_cuts.specs.steps.Nearness.{near_by}
 
--- cells one behind the other, from a column on
+-- cells one after the other, from a column on
 abbrev pub StandFrom : ℕ → List Cell → Type 0
 StandFrom column [] = Unit {0}
 StandFrom column (cell ∷ cells) = (cell.from ≡ column) × (cell.from ≤ cell.until) × StandFrom cell.until cells

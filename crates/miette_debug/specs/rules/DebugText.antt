@@ -13,7 +13,7 @@ use Rattle.miette_tree.specs.rules.DiagnosticParts.{given_labels}
 abbrev pub IsQuoted : List ℕ → List ℕ → Type 0
 IsQuoted text quoted = IfSome (debug_str text) (λ form. quoted ≡ form)
 
--- a field behind another, `, name: "text"`
+-- a field after another, `, name: "text"`
 pub record IsShown (name text shown : List ℕ) : Type 0 where
   pub quoted : List ℕ
   pub is_quoted : IsQuoted text quoted

@@ -31,6 +31,6 @@ said_of is it = diagnosis_with (meaning_of it.diagnostic)
     (unwrap_or (option_map (λ v. map (section_of is) v.items) it.snippets) [])
     (unwrap_or (option_map (λ v. v.items) it.fixes) [])
 
--- a fix with edits behind those that it has
+-- a fix with edits after those that it has
 abbrev pub edited : Proposal → List Replacement → Proposal
 edited fix edits = record fix { edits = fix.edits ++ edits }

@@ -7,7 +7,7 @@ use Rattle.miette_drawing.specs.declared.snippet.Drawing.{Drawing}
 use Rattle.miette_drawing.specs.declared.snippet.Snippet.{Snippet}
 use Rattle.miette_folds.specs.views.Spreads.{spread_of}
 use Rattle.miette_frames.specs.views.Places.{place_at}
-use Rattle.miette_snippet_rules.specs.views.SettingsView.{settings_of}
+use Rattle.miette_snippet_rules.specs.views.Settings.{settings_of}
 use Rattle.miette_label_rules.specs.views.GivenLabels.{drawn_of}
 use Rattle.miette_page.specs.views.Printouts.{Printout}
 use Rattle.miette_frames.specs.views.LentRows.{texts_in, lent_snippet, PutsRows}

@@ -11,7 +11,7 @@ use Rattle.miette_snippet_rules.specs.views.Cuts.{measure}
 use Rattle.miette_fix_rows.specs.rules.DiffRows.{ChangedLine, changed_cut}
 use Rattle.miette_fix_rows.specs.rules.DiffTexts.{ends_at, has_bytes, part_in}
 
--- the ends of what a span has in a line of so many bytes from an offset on, whose text is given
+-- the ends of what a span has in a line of `bytes` bytes from an offset on, whose text is given
 abbrev pub span_ends : Text → ℕ → ℕ → Span → List ℕ
 span_ends text start bytes span =
     if has_bytes (part_in start bytes plain span) then ends_at (marks text (part_in start bytes plain span ∷ []))

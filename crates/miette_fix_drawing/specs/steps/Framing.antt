@@ -3,7 +3,7 @@ use Rattle.std.specs.Prelude.{ℕ, ◌≡◌, ◌≤◌, List, [], ◌∷◌, �
 use Rattle.std.specs.Prelude.{false}
 use Rattle.miette_page.specs.rules.Rows.{Row}
 use Rattle.miette_snippet_rules.specs.rules.Frames.{top_row_of, bottom_row}
-use Rattle.miette_snippet_rules.specs.views.SettingsView.{settings_of}
+use Rattle.miette_snippet_rules.specs.views.Settings.{settings_of}
 use Rattle.miette_fix_rows.specs.rules.Hunks.{Hunk}
 use Rattle.miette_fix_rows.specs.rules.DiffFrames.{DiffFrame, first_place, is_near}
 use Rattle.miette_fix_rows.specs.rules.DiffRows.{DiffContext, frame_width, place_at, rows_of_lines}

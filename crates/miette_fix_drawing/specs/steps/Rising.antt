@@ -1,8 +1,8 @@
--- Changes that come one behind the other.
+-- Changes that come one after the other.
 use Rattle.std.specs.Prelude.{ℕ, suc, ◌≤◌, List, [], ◌∷◌, ◌==◌, if◌then◌else◌}
 use Rattle.miette_fix_rows.specs.rules.Hunks.{Change}
 
--- from an offset on, within a source of so many bytes, in which they point
+-- from an offset on, within a source of `size` bytes, in which they point
 abbrev pub AreRising : ℕ → ℕ → List Change → Type 0
 AreRising size at [] = at ≤ size
 AreRising size at (change ∷ changes) =

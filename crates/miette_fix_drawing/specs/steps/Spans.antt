@@ -1,4 +1,4 @@
--- Spans that come one behind the other.
+-- Spans that come one after the other.
 use Rattle.std.specs.Prelude.{ℕ, ◌+◌, ◌≤◌, List, [], ◌∷◌}
 use Rattle.miette_protocol.specs.rules.Reading.{Span}
 

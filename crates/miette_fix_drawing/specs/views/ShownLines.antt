@@ -23,13 +23,13 @@ line_by Added text other = added text other
 abbrev pub line_of_shown : ShownLine → DiffLine
 line_of_shown line = line_by line.kind line.text.now (option_map other_of line.other)
 
--- lines one behind the other, with those that go with them
+-- lines one after the other, with those that go with them
 abbrev pub lines_by : Kind → ℕ → List (List ℕ) → List (List ℕ) → List DiffLine
 lines_by Kept away lines others = kept_lines lines
 lines_by Removed away lines others = removed_with away lines others
 lines_by Added away lines others = added_with away lines others
 
--- where the next of the others stands, behind one of so many bytes
+-- where the next of the others stands, after one of `size` bytes
 abbrev pub away_behind : Kind → ℕ → ℕ → ℕ
 away_behind Kept away size = away
 away_behind Removed away size = away + size

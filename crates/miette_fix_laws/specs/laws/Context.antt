@@ -8,7 +8,7 @@ is_changed (kept text) = false
 is_changed (removed text other) = true
 is_changed (added text other) = true
 
--- Whether a line is shown, between those before it, from the last one back, and those behind it: it is changed, or one
+-- Whether a line is shown, between those before it, from the last one back, and those after it: it is changed, or one
 -- of the context lines on a side of it is.
 abbrev pub is_shown : ℕ → List DiffLine → DiffLine → List DiffLine → Bool
 is_shown context before line behind =

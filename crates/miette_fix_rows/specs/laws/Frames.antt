@@ -5,7 +5,7 @@ use Rattle.miette_fix_rows.specs.rules.DiffFrames.{kept_lines}
 use Rattle.miette_fix_rows.specs.rules.DiffRows.{past}
 use Rattle.miette_fix_rows.specs.rules.Hunks.{Diff, Hunk}
 
--- all lines of a diff, in order: those of hunks, and those that stay behind the last of them
+-- all lines of a diff, in order: those of hunks, and those that stay after the last of them
 abbrev pub lines_with : List (List ℕ) → List Hunk → List DiffLine
 lines_with behind [] = kept_lines behind
 lines_with behind (hunk ∷ hunks) =
@@ -27,7 +27,7 @@ new_texts (kept text ∷ lines) = text ∷ new_texts lines
 new_texts (removed text other ∷ lines) = new_texts lines
 new_texts (added text other ∷ lines) = text ∷ new_texts lines
 
--- behind lines
+-- after lines
 abbrev pub past_lines : Standing → List DiffLine → Standing
 past_lines at [] = at
 past_lines at (line ∷ lines) = past_lines (past at line) lines
@@ -35,8 +35,8 @@ past_lines at (line ∷ lines) = past_lines (past at line) lines
 abbrev pub at_start : Standing
 at_start = record { old_line = 0; new_line = 0; old_offset = 0; new_offset = 0 }
 
--- Frames stand among lines: in front of each one, and behind the last, nothing but unchanged lines is left out, and
--- some between two frames. What a frame says of the lines before it is what stands before it.
+-- Frames stand among lines: before each one, and after the last, nothing but unchanged lines is left out, and some
+-- between two frames. What a frame says of the lines before it is what stands before it.
 abbrev pub StandAmong : Bool → Standing → List DiffFrame → List DiffLine → Type 0
 StandAmong goes_on at [] lines = (left : List (List ℕ)) × (lines ≡ kept_lines left)
 StandAmong goes_on at (frame ∷ frames) lines =

@@ -22,8 +22,8 @@ bytes_of [] = 0
 bytes_of (line ∷ lines) = length line + bytes_of lines
 
 -- Where the lines begin that a block's edits touch, and where they end. The lines of an edit are those from that of its
--- offset to that of its end; the line that isn't there, behind a last terminator and in an empty source, is one of
--- them, and begins and ends where the source does.
+-- offset to that of its end; the line that isn't there, after a last terminator and in an empty source, is one of them,
+-- and begins and ends where the source does.
 abbrev pub touched_from : List ℕ → List Replacement → ℕ
 touched_from source [] = length source
 touched_from source (edit ∷ edits) = line_start source (line_of source edit.span.offset)
@@ -37,7 +37,7 @@ touched_to source (edit ∷ next ∷ edits) = touched_to source (next ∷ edits)
 abbrev pub text_between : List ℕ → ℕ → ℕ → List Replacement → List ℕ
 text_between source from to edits = text_from (take to source) from edits
 
--- whether the new text of touched lines begins with LF behind a lone CR: they become one terminator
+-- whether the new text of touched lines begins with LF after a lone CR: they become one terminator
 abbrev pub joins_terminator : List ℕ → List Replacement → Bool
 joins_terminator source edits =
     nat_lt 0 (touched_from source edits)
@@ -54,7 +54,7 @@ block_from source edits =
 abbrev pub block_to : List ℕ → List Replacement → ℕ
 block_to source edits = touched_to source edits
 
--- an edit before blocks shares a line with the first of them where it ends at the start of that block or behind it
+-- an edit before blocks shares a line with the first of them where it ends at the start of that block or after it
 abbrev pub onto_blocks : List ℕ → Replacement → List (List Replacement) → List (List Replacement)
 onto_blocks source edit [] = (edit ∷ []) ∷ []
 onto_blocks source edit (block ∷ blocks) =

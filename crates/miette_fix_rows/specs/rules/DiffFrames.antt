@@ -5,8 +5,8 @@ use Rattle.miette_fix_rows.specs.rules.Hunks.{Change, Hunk, Diff, removed_lines,
 use Rattle.miette_fix_rows.specs.rules.Blocks.{bytes_of}
 
 -- The line that goes with a changed one, with its terminator, and where it stands among the changes with no unchanged
--- line between them: of an added one, how many bytes the added lines in front of it have; of a removed one, how many it
--- and the removed lines behind it have.
+-- line between them: of an added one, how many bytes the added lines before it have; of a removed one, how many it and
+-- the removed lines after it have.
 pub record OtherLine : Type 0 where
   pub text : List ℕ
   pub away : ℕ
@@ -21,14 +21,14 @@ pub data DiffLine : Type 0 where
   removed : List ℕ → Option OtherLine → DiffLine
   added : List ℕ → Option OtherLine → DiffLine
 
--- removed lines with added ones, in front of which so many bytes are added
+-- removed lines with added ones, before which `away` bytes are added
 abbrev pub removed_with : ℕ → List (List ℕ) → List (List ℕ) → List DiffLine
 removed_with away [] others = []
 removed_with away (line ∷ lines) [] = removed line None ∷ removed_with away lines []
 removed_with away (line ∷ lines) (other ∷ others) =
     removed line (Some (other_line other away)) ∷ removed_with (away + length other) lines others
 
--- added lines with removed ones, from the first of which on so many bytes are removed
+-- added lines with removed ones, from the first of which on `away` bytes are removed
 abbrev pub added_with : ℕ → List (List ℕ) → List (List ℕ) → List DiffLine
 added_with away [] others = []
 added_with away (line ∷ lines) [] = added line None ∷ added_with away lines []
@@ -88,7 +88,7 @@ pub record DiffFrame : Type 0 where
 abbrev pub is_near : ℕ → Hunk → Bool
 is_near context hunk = nat_le (length hunk.kept) (context + context)
 
--- what stands in a frame behind a hunk
+-- what stands in a frame after a hunk
 abbrev pub behind_hunk : ℕ → List (List ℕ) → List Hunk → List DiffLine
 behind_hunk context behind [] = kept_lines (take context behind)
 behind_hunk context behind (hunk ∷ hunks) =
@@ -111,7 +111,7 @@ frame_at context at hunk later = record {
   lines = kept_lines (drop (left_before context hunk) hunk.kept) ++ (changed_lines hunk.changes ++ later);
 }
 
--- The frames of hunks: as many unchanged lines as are wanted stand before and behind the changed ones, and a frame ends
+-- The frames of hunks: as many unchanged lines as are wanted stand before and after the changed ones, and a frame ends
 -- where an unchanged line is left out. It is told whether there is a frame that may go on.
 abbrev pub frames_from : ℕ → List (List ℕ) → Bool → Standing → List Hunk → List DiffFrame
 frames_from context behind goes_on at [] = []

@@ -120,7 +120,7 @@ added_beside c at other = record (added_line c at other.text) { start = at.new_o
 abbrev pub removed_beside : DiffContext → Standing → OtherLine → ChangedLine
 removed_beside c at other = record (removed_line c at other.text) { start = at.old_offset - other.away }
 
--- behind a line
+-- after a line
 abbrev pub past : Standing → DiffLine → Standing
 past at (kept text) = record {
   old_line = at.old_line + 1;

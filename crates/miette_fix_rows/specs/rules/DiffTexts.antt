@@ -24,7 +24,7 @@ use Rattle.miette_fixes.specs.rules.Edits.{Replacement, end_of}
 abbrev pub deleted_spans : List Replacement → List Span
 deleted_spans edits = map (λ edit. edit.span) edits
 
--- where the texts of edits stand in the applied text, behind so many bytes of the source and so many of that text
+-- where the texts of edits stand in the applied text, after `old` bytes of the source and `new` of that text
 abbrev pub inserted_from : ℕ → ℕ → List Replacement → List Span
 inserted_from old new [] = []
 inserted_from old new (edit ∷ edits) =
@@ -72,7 +72,7 @@ pieces style spans cells =
 
 -- ---- marks
 
--- the part of a span that lies in a line from an offset on with so many bytes
+-- the part of a span that lies in a line from an offset on with `bytes` bytes
 abbrev pub part_in : ℕ → ℕ → Style → Span → DrawnLabel
 part_in start bytes style span = record {
   start = max start span.offset;
@@ -99,7 +99,7 @@ line_text s start line = record {
 abbrev pub edit_marks : SnippetSettings → ℕ → List ℕ → Style → List Span → List Mark
 edit_marks s start line style spans = marks (line_text s start line) (parts_in start (length line) style spans)
 
--- a row of marks, each behind the spaces before it
+-- a row of marks, each after the spaces before it
 abbrev pub sign_runs : SnippetSettings → ℕ → ℕ → List Mark → Row
 sign_runs s sign reached [] = []
 sign_runs s sign reached (mark ∷ marks) =
@@ -135,7 +135,7 @@ look_alike s line (Some other) = not (bytes_eq line other) && bytes_eq (look s l
 
 -- ---- cut lines
 
--- Whether an edit is one of a line's: it touches the line. Behind the last byte of a line with a terminator the next
+-- Whether an edit is one of a line's: it touches the line. After the last byte of a line with a terminator the next
 -- line is.
 abbrev pub is_on : ℕ → List ℕ → Span → Bool
 is_on start line span =

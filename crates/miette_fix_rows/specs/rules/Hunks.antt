@@ -21,7 +21,7 @@ pub record Parted : Type 0 where
   pub added : List (List ℕ)
   pub ending : List (List ℕ)
 
--- the old and the new lines, of which so many at the ends and so many at the fronts stay
+-- the old and the new lines, of which `behind` at the ends and `before` at the fronts stay
 abbrev pub parted_at : List (List ℕ) → List (List ℕ) → ℕ → ℕ → Parted
 parted_at olds news behind before = record {
   front = take before olds;
@@ -85,12 +85,12 @@ changes_of source (block ∷ blocks) = onto_changes (change_of source block) (ch
 abbrev pub changes : List ℕ → List Replacement → List Change
 changes source edits = changes_of source (blocks source (by_offset edits))
 
--- The changes of blocks with no unchanged line between them, behind unchanged lines.
+-- The changes of blocks with no unchanged line between them, after unchanged lines.
 pub record Hunk : Type 0 where
   pub kept : List (List ℕ)
   pub changes : List Change
 
--- all lines: hunks, and the unchanged lines behind the last of them
+-- all lines: hunks, and the unchanged lines after the last of them
 pub record Diff : Type 0 where
   pub hunks : List Hunk
   pub behind : List (List ℕ)

@@ -13,7 +13,7 @@ pub record IsBlock (source : List ℕ) (from to : ℕ) (edits : List Replacement
   pub order : from ≤ to
   pub fit : FitFrom to from edits
 
--- an edit shares no line with a block of those behind it
+-- an edit shares no line with a block of those after it
 abbrev pub IsApart : List ℕ → Replacement → List Replacement → Type 0
 IsApart source edit later = blocks source (edit ∷ later) ≡ (edit ∷ []) ∷ blocks source later
 
@@ -23,7 +23,7 @@ EndsApart source [] later = Unit {0}
 EndsApart source (edit ∷ []) later = IsApart source edit later
 EndsApart source (edit ∷ next ∷ edits) later = EndsApart source (next ∷ edits) later
 
--- Edits from an index on are the last block of these, whatever edits stand behind them, with which they share no line.
+-- Edits from an index on are the last block of these, whatever edits stand after them, with which they share no line.
 pub record IsLastBlock (source : List ℕ) (edits : List Replacement) (low : ℕ) : Type 0 where
   pub whole : (later : List Replacement) → EndsApart source edits later
       → blocks source (drop low edits ++ later) ≡ drop low edits ∷ blocks source later

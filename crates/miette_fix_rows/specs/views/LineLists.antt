@@ -4,7 +4,7 @@ use Rattle.miette_fix_rows.specs.declared.line_lists.Side.{Side}
 use Rattle.miette_fix_rows.specs.declared.line_lists.Side.TheVariants.{Front, Back}
 use denote.Ref.{Bor}
 
--- the bytes behind references
+-- the bytes after references
 abbrev pub texts_of : List (Bor (List ℕ)) → List (List ℕ)
 texts_of lines = map (λ line. line.now) lines
 

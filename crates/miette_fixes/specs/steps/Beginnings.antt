@@ -25,8 +25,8 @@ pub record AreBegun (begun : BTreeMap ℕ Beginning) (lists : List (List Replace
   pub whose : (offset : ℕ) (it : Beginning) → get nat_cmp begun offset ≡ Some it →
       (it.list < length lists) × (list_any (begins_at offset) (slice_index_or lists it.list []) ≡ true)
 
--- Two edits conflict where the other one begins at the edit's offset, or in front of it and ends behind it, or inside
--- the edit.
+-- Two edits conflict where the other one begins at the edit's offset, or before it and ends after it, or inside the
+-- edit.
 abbrev pub meets_from : Replacement → Replacement → Bool
 meets_from edit other = (other.span.offset == edit.span.offset)
     || (nat_lt other.span.offset edit.span.offset && nat_lt edit.span.offset (end_of other))

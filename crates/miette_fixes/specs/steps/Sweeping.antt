@@ -1,8 +1,8 @@
--- Edits as the code goes through them, one behind another.
+-- Edits as the code goes through them, one after another.
 use Rattle.std.specs.Prelude.{ℕ, List, [], ◌∷◌, Bool, true, false, ◌&&◌, ◌||◌, not, nat_lt}
 use Rattle.miette_fixes.specs.rules.Edits.{Replacement, end_of, is_behind}
 
--- no edit comes behind the next one
+-- no edit comes after the next one
 abbrev pub ascends_after : Replacement → List Replacement → Bool
 ascends_after before [] = true
 ascends_after before (edit ∷ edits) = not (is_behind before edit) && ascends_after edit edits

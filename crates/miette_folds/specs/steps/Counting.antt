@@ -15,7 +15,7 @@ begins_before labels first offset = nat_lt first (length labels) && nat_lt (star
 abbrev pub some_go_on : List PlacedLabel → Bool
 some_go_on running = not (length running == 0)
 
--- where the line begins that is counted behind a line: the one behind the gap, if it lies inside a label, and no label
+-- where the line begins that is counted after a line: the one after the gap, if it lies inside a label, and no label
 -- begins in it
 abbrev pub next_counted : List PlacedLabel → ℕ → Bool → List Fold → ℕ → Line → LineStart
 next_counted labels first inside folds place line = next_start folds place line

@@ -1,4 +1,4 @@
--- Whether a line lies in a label's context as it is folded to so many lines.
+-- Whether a line lies in a label's context as it is folded to a number of lines.
 use Rattle.std.specs.Prelude.{ℕ, Bool, not, ◌&&◌}
 use Rattle.miette_source_lines.specs.rules.Lines.{Line}
 use Rattle.miette_snippet_rules.specs.rules.Folds.{hides}

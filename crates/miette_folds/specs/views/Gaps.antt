@@ -8,7 +8,7 @@ use Rattle.miette_folds.specs.declared.folds.Fold.{Fold}
 use Rattle.miette_folds.specs.declared.folds.LineStart.{LineStart}
 use Rattle.miette_folds.specs.views.Folding.{is_around_fold}
 
--- where the line behind a line begins, and which line it is
+-- where the line after a line begins, and which line it is
 abbrev pub next_line : ℕ → Line → LineStart
 next_line place line = record { offset = line.end; place = place + 1 }
 
@@ -24,8 +24,8 @@ abbrev pub nearest : Option LineStart → LineStart → LineStart
 nearest None stop = stop
 nearest (Some end) stop = nearer end stop
 
--- Where lines behind one that is left out stop because of a label, if they go on to there: where its context begins
--- behind that line, or where its own lines are shown again behind it.
+-- Where lines after one that is left out stop because of a label, if they go on to there: where its context begins
+-- after that line, or where its own lines are shown again after it.
 abbrev pub nearer_stop : Line → Option LineStart → Fold → Option LineStart
 nearer_stop line end fold =
     if nat_le line.end fold.label.from then Some (nearest end fold.begun)
@@ -40,12 +40,12 @@ nearest_stop line end (fold ∷ folds) = nearest_stop line (nearer_stop line end
 abbrev pub goes_on : Line → LineStart → Fold → Bool
 goes_on line end fold = is_around_fold line fold && nat_le end.offset fold.label.until
 
--- where a gap ends, behind its first line: that one's next line where no context goes on
+-- where a gap ends, after its first line: that one's next line where no context goes on
 abbrev pub gap_end : Line → LineStart → List Fold → LineStart
 gap_end line next folds = option_map_or
     (λ end. if list_any (goes_on line end) folds then further next end else next) (nearest_stop line None folds) next
 
--- where the line begins that is looked at behind a line: the next one, or the one behind the gap
+-- where the line begins that is looked at after a line: the next one, or the one after the gap
 abbrev pub next_start : List Fold → ℕ → Line → Bool → LineStart
 next_start folds place line jumps =
     if jumps then gap_end line (next_line place line) folds else next_line place line

@@ -12,7 +12,7 @@ use Rattle.miette_snippet_rules.specs.rules.Folds.{Spread, leaves_out, line_at}
 abbrev pub lines_of_bytes : PlacedLine → List Line
 lines_of_bytes at = lines_from at.start at.bytes.now
 
--- behind so many of them stand the line and those of the bytes behind it
+-- after the first `place` of them stand the line and those of the bytes after it
 abbrev pub IsThere : PlacedLine → Type 0
 IsThere at = drop at.place (lines_of_bytes at)
     ≡ line_of_text at.line ∷ lines_from at.line.end (drop (at.line.end - at.start) at.bytes.now)

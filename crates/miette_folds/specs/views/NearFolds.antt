@@ -11,7 +11,7 @@ abbrev pub first_begun : List Fold → Option LineStart
 first_begun [] = None
 first_begun (fold ∷ folds) = Some (nearest (first_begun folds) fold.begun)
 
--- where those of the last so many labels do, one entry for each label
+-- where that of the last label does, that of the last two, and so on, one entry for each label
 pub record AreStops (folds : List Fold) (stops : List LineStart) : Type 0 where
   pub many : length stops ≡ length folds
   pub stop : (k : ℕ) (d : LineStart) → k < length folds → Some (slice_index_or stops k d)

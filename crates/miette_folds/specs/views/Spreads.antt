@@ -10,11 +10,11 @@ use Rattle.miette_snippet_rules.specs.rules.Folds.{Spread, place_among}
 abbrev pub spread_of : MadeSpread → Spread
 spread_of s = record { first = s.first; last = s.last; from = s.from; until = s.until; around = s.around }
 
--- which of the lines that a read lent a line with this number is; behind the last one, how many are terminated
+-- which of the lines of a read's contents a line with this number is; after the last one, how many are terminated
 abbrev pub place_in : Contents → ℕ → ℕ
 place_in lent line = min (line - lent.line) lent.line_count
 
--- the numbers of a label's lines are true among what a read lent
+-- the numbers of a label's lines are true among the lines of a read's contents
 pub record IsNumbered (lent : Contents) (label : MadeSpread) : Type 0 where
   pub first : place_among (lines_of_contents lent) label.first ≡ place_in lent label.first_line
   pub last : place_among (lines_of_contents lent) label.last ≡ place_in lent label.last_line

@@ -7,8 +7,8 @@ use Rattle.miette_folds.specs.declared.folds.Spread.{Spread as MadeSpread}
 use Rattle.miette_folds.specs.views.Spreads.{spread_of}
 use Rattle.miette_snippet_rules.specs.rules.Folds.{Spread, is_around}
 
--- How far the contexts of the first so many labels go at most, one entry for each label, and where those of the last so
--- many begin at least.
+-- How far the contexts of the labels up to each one go at most, and where those of the labels from each one on begin at
+-- least, the last label first.
 pub record AreBounds (labels : List MadeSpread) (ends begins : List ℕ) : Type 0 where
   pub untils : length ends ≡ length labels
   pub until : (j k : ℕ) (d : MadeSpread) → j ≤ k → k < length labels →
@@ -18,7 +18,7 @@ pub record AreBounds (labels : List MadeSpread) (ends begins : List ℕ) : Type 
       slice_index begins k ≤ (slice_index_or labels j d).from
 
 -- the contexts of the labels before one end before the bytes from one offset up to another, and those of the labels
--- from another one on begin behind them
+-- from another one on begin after them
 pub record IsWindow (start end : ℕ) (labels : List MadeSpread) (first behind : ℕ) : Type 0 where
   pub order : first ≤ behind
   pub within : behind ≤ length labels

@@ -21,7 +21,7 @@ stops ends.Arrow line label = starts_on line label || ends_on line label
 stops ends.Corner line label = ends_on line label
 stops ends.Open line label = ends_on line label
 
--- what it has from that label on, with so many columns left
+-- what it has from that label on, with `left` columns left
 abbrev pub gutter_end : GutterEnd → SnippetSettings → Line → ℕ → DrawnLabel → Row
 gutter_end ends.Arrow s line left label = arrow s label (if starts_on line label then s.theme.characters.ltop
     else ending_corner s.theme.characters label.parts) left ∷ blank s 1 ∷ []

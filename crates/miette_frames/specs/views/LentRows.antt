@@ -1,4 +1,4 @@
--- The rows of a snippet from what its read lent, where nothing is known of the source beyond.
+-- The rows of a snippet from its read's contents, where nothing is known of the source beyond.
 use Rattle.std.specs.Prelude.{ℕ, ◌+◌, ◌-◌, ◌≡◌, Bool, List, [], ◌∷◌, ◌++◌, map}
 use Rattle.std.specs.Prelude.{slice_range, Option, false}
 use Rattle.miette_source_lines.specs.rules.Lines.{Line}

@@ -8,7 +8,7 @@ use Rattle.miette_page.specs.rules.Rows.{Row}
 use Rattle.miette_snippet_rules.specs.rules.Marks.{Mark}
 use Rattle.miette_snippet_rules.specs.rules.Drawing.{text_row}
 use Rattle.miette_label_rules.specs.rules.Labels.{DrawnLabel}
-use Rattle.miette_snippet_rules.specs.views.SettingsView.{settings_of}
+use Rattle.miette_snippet_rules.specs.views.Settings.{settings_of}
 use Rattle.miette_label_rules.specs.views.GivenLabels.{drawn_of}
 use Rattle.miette_snippet_rules.specs.rules.Gutters.{other_gutter, part_run}
 use Rattle.miette_snippet_rules.specs.rules.Frames.{other_start}
@@ -36,7 +36,7 @@ abbrev pub text_line : LineContext → List Mark → Mark → List ℕ → List 
 text_line context earlier mark front part = before_marks context
     ++ text_row (settings context) earlier mark front part
 
--- a row of the text of a label that ends on the line, in a gutter of so many columns
+-- a row of the text of a label that ends on the line, in a gutter of `columns` columns
 abbrev pub part_line : LineContext → GutterEnd → ℕ → DrawnLabel → ℕ → List ℕ → Row
 part_line context end columns label bar part =
     other_start (settings context) context.frame.number_width

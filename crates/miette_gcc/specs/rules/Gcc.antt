@@ -23,7 +23,7 @@ pub record Point : Type 0 where
   pub before : Option ℕ
   pub column : ℕ
 
--- the bytes in front of a column; none where columns begin behind it
+-- the bytes in front of a column; none where columns begin after it
 abbrev pub before_column : ℕ → Option ℕ → Option ℕ
 before_column origin None = None
 before_column origin (Some column) = if nat_le origin column then Some (column - origin) else None
@@ -60,11 +60,11 @@ offset_by bytes further None before = None
 offset_by bytes further (Some line) None = None
 offset_by bytes further (Some line) (Some before) = offset_at bytes line (before + further)
 
--- the offset of what stands so many bytes behind a point, on its line
+-- the offset of what stands `further` bytes after a point, on its line
 abbrev pub offset_of : List ℕ → ℕ → Point → Option ℕ
 offset_of bytes further p = offset_by bytes further p.line p.before
 
--- ---- places: from one point up to what stands behind another one, of the same file
+-- ---- places: from one point up to what stands after another one, of the same file
 
 abbrev pub stretch_in : ℕ → Point → Point → Source → Option Stretch
 stretch_in further start end source =

@@ -12,10 +12,10 @@ first_text_end at (l ∷ ls) = l.text_end
 abbrev pub text_end_from : List ℕ → ℕ → ℕ
 text_end_from bytes at = first_text_end at (lines_from at (drop at bytes))
 
--- so many bytes behind the beginning of a line, but at most at the end of its text
+-- `before` bytes after the beginning of a line, but at most at the end of its text
 abbrev pub within_line : List ℕ → ℕ → ℕ → ℕ
 within_line bytes start before = min (start + before) (text_end_from bytes start)
 
--- the offset of what has so many bytes in front of it on a line, the first with 1
+-- the offset of what has `before` bytes in front of it on a line, the first with 1
 abbrev pub offset_at : List ℕ → ℕ → ℕ → Option ℕ
 offset_at bytes line before = option_map (λ start. within_line bytes start before) (start_of bytes line)

@@ -134,7 +134,7 @@ impl<H: Highlighter> GraphicalReportHandler<H> {
         // each text of a label on one line hangs from its own mark,
         ensures texts { OnOk result (EachPrinted TextsHang self.old (tree_of D.meaning S.source report.now)) }
         // where labels at the end of its source are drawn, its last line is shown with whatever lines of context, just
-        // these stand behind its text, and their marks in the column after what is shown of it; where there is none,
+        // these stand after its text, and their marks in the column after what is shown of it; where there is none,
         // nothing changes,
         ensures ends { OnOk result (EachPrinted EndsAreDrawn self.old (tree_of D.meaning S.source report.now)) }
         // and where labels are folded, no label begins or ends on a line that is left out, none is left out alone, the

@@ -14,7 +14,7 @@ listed_pieces [] = []
 listed_pieces (p ∷ []) = if is_unset p.1 then [] else p ∷ []
 listed_pieces (p ∷ q ∷ ps) = p ∷ q ∷ ps
 
--- A call on a highlighter: it is restarted with what a read lent, or it is asked for a line of this text, and these
+-- A call on a highlighter: it is restarted with a read's contents, or it is asked for a line of this text, and these
 -- are the pieces that count of its answer.
 pub data Call : Type 0 where
   restarted : Contents → Call

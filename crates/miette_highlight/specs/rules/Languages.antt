@@ -9,7 +9,7 @@ use Rattle.miette_style.specs.rules.Styles.{coloured_style, plain}
 
 -- a rule by its texts: words; a word that begins with a byte from the first up to the last; what lies between
 -- delimiters, with the byte that escapes one and whether it goes on over lines; a character between them, with that
--- byte; a word behind a byte; or a raw text behind a prefix
+-- byte; a word after a byte; or a raw text after a prefix
 pub data RuleText : Type 0 where
   of_words : List (List ℕ) → Style → RuleText
   beginning : ℕ → ℕ → Style → RuleText
@@ -71,7 +71,7 @@ rust_words =
     ∷ codes "struct" ∷ codes "super" ∷ codes "trait" ∷ codes "type" ∷ codes "unsafe" ∷ codes "use" ∷ codes "where"
     ∷ codes "while" ∷ codes "yield" ∷ []
 
--- texts that go on over lines, and in which nothing is escaped: they have as many hashes behind as in front
+-- texts that go on over lines, and in which nothing is escaped: they have as many hashes after as before
 abbrev pub raw_text : List ℕ → RuleText
 raw_text prefix = raw prefix (coloured_style Green)
 

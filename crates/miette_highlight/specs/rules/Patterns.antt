@@ -41,7 +41,7 @@ close_end delimiters escaped at (b ∷ bs) =
     then Some (at + length (string_bytes delimiters.closes))
     else close_end delimiters (not escaped && escapes_next delimiters.escape b) (at + 1) bs
 
--- What is found has a number of bytes; where it stays open, so many hashes close it behind its delimiter.
+-- How many bytes what is found has; where it stays open, how many hashes close it after its delimiter.
 abbrev pub Found : Type 0
 Found = ℕ × Option ℕ
 
@@ -66,22 +66,22 @@ is_hash b = b == 35
 abbrev pub hash_count : List ℕ → ℕ
 hash_count text = length (take_while is_hash text)
 
--- where the first quote with so many hashes behind it ends with these, the text beginning at a place
+-- where the first quote with `hashes` hashes after it ends with these, the text beginning at a place
 abbrev pub raw_end : ℕ → ℕ → List ℕ → Option ℕ
 raw_end hashes at [] = None
 raw_end hashes at (b ∷ bs) =
     if b == 34 && nat_le hashes (hash_count bs) then Some (at + 1 + hashes) else raw_end hashes (at + 1) bs
 
--- where a raw text ends behind its first quote, the text beginning at a place
+-- where a raw text ends after its first quote, the text beginning at a place
 abbrev pub raw_inside : ℕ → ℕ → List ℕ → Found
 raw_inside hashes at text = closed_at (raw_end hashes at text) (at + length text) (Some hashes)
 
--- where one of so many hashes ends whose first quote a text begins with, at a place
+-- where one of `hashes` hashes ends whose first quote a text begins with, at a place
 abbrev pub quoted : ℕ → ℕ → List ℕ → Option Found
 quoted hashes at [] = None
 quoted hashes at (b ∷ bs) = if b == 34 then Some (raw_inside hashes (at + 1) bs) else None
 
--- where one ends behind its prefix, which has so many bytes
+-- where one ends after its prefix, which has `before` bytes
 abbrev pub raw_text : ℕ → List ℕ → Option Found
 raw_text before text = quoted (hash_count text) (before + hash_count text) (drop (hash_count text) text)
 
@@ -102,7 +102,7 @@ held_end delimiters escaped at (b ∷ bs) =
     else if is_held escaped b then held_end delimiters escaped (at + 1) bs else None
 
 -- where the character ends that a text begins with, at a place, with the delimiter that closes it; or an escape, in
--- which any character stands behind the first byte
+-- which any character stands after the first byte
 abbrev pub character_end : Delimiters → ℕ → List ℕ → Option Found
 character_end delimiters at [] = None
 character_end delimiters at (b ∷ bs) =
@@ -110,7 +110,7 @@ character_end delimiters at (b ∷ bs) =
     else if escapes_next delimiters.escape b then held_end delimiters true (at + 2) (drop 1 bs)
     else held_end delimiters false (at + 1) bs
 
--- a byte and the word behind it, where a text begins with it and a word follows
+-- a byte and the word after it, where a text begins with it and a word follows
 abbrev pub prefixed_word : ℕ → List ℕ → Option Found
 prefixed_word byte [] = None
 prefixed_word byte (b ∷ bs) =

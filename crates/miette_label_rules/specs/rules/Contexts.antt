@@ -8,15 +8,15 @@ use Rattle.miette_protocol.specs.rules.Reading.{Span, Source, Contents, contents
 abbrev pub end_of_span : Span → ℕ
 end_of_span span = span.offset + span.len
 
--- what the read of a span with so many lines of context gives
+-- what the read of a span with `context` lines of context gives
 abbrev pub contents : ℕ → Source → Span → Contents
 contents context source span = contents_of source span context context
 
--- the lines of the data that a read lends, by their places in the source
+-- the lines of the data of a read's contents, by their places in the source
 abbrev pub lines_of_contents : Contents → List Line
 lines_of_contents read = lines_from read.span.offset read.bytes
 
--- the numbers of the lines that lie in the data that a read lends
+-- the numbers of the lines that lie in the data of a read's contents
 abbrev pub lines_in : List ℕ → Contents → List ℕ
 lines_in bytes read =
     filter (λ k. nat_le read.span.offset (line_start bytes k) && nat_le (line_end bytes k) (end_of_span read.span))

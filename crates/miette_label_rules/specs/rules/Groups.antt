@@ -69,7 +69,7 @@ groups_answered context source fails (span ∷ spans) = groups_from context sour
 
 -- ---- groups where some label has its own number of context lines
 
--- the place of the data that the read of a label lends
+-- the place of the data in the contents of a label's read
 abbrev pub stretch : ℕ → Source → List Label → Label → Span
 stretch context source labels label = (contents_around context source labels label).span
 
@@ -114,6 +114,6 @@ some_fails fails (span ∷ spans) = next_answer fails || some_fails (drop 1 fail
 abbrev pub groups_fail : ℕ → Source → List Bool → List Label → Bool
 groups_fail context source fails labels = has_own labels && some_fails fails (groups_of context source fails labels)
 
--- the lines that groups show which are read with so many lines of context
+-- the lines that groups show which are read with `context` lines of context
 abbrev pub lines_of_groups : ℕ → Source → List Span → List (List ℕ)
 lines_of_groups context source groups = map (λ group. lines_in source.bytes (contents context source group)) groups

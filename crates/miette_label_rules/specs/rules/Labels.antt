@@ -11,7 +11,7 @@ use Rattle.miette_label_rules.specs.rules.Around.{lines_around}
 use Rattle.miette_label_rules.specs.rules.Contexts.{end_of_span}
 
 -- A label as it is drawn, from an offset to its drawn end, with the parts of its text, none where it has no text; and
--- whether it stands behind the text of its line.
+-- whether it stands after the text of its line.
 pub record DrawnLabel : Type 0 where
   pub start : ℕ
   pub after : ℕ
@@ -34,11 +34,11 @@ abbrev pub style_at : List Style → ℕ → Style
 style_at [] i = plain
 style_at (style ∷ styles) i = slice_index_or (style ∷ styles) (i % length (style ∷ styles)) plain
 
--- whether a label begins where a source of so many bytes ends
+-- whether a label begins where a source of `n` bytes ends
 abbrev pub is_at_end : ℕ → Label → Bool
 is_at_end n label = label.span.offset == n
 
--- whether a label with so many lines around it shows the last line from there: there is such a line, and one around it
+-- whether a label with `lines` lines around it shows the last line from there: there is such a line, and one around it
 abbrev pub shows_end : ℕ → ℕ → Label → Bool
 shows_end n lines label = nat_lt 0 n && (is_at_end n label && nat_lt 0 lines)
 
@@ -47,7 +47,7 @@ abbrev pub some_shows_end : ℕ → ℕ → List Label → Bool
 some_shows_end context n labels = list_any (λ label. shows_end n (lines_around context labels label) label) labels
 
 -- The end of a drawn label is cut to the source's. Where the labels at the end are drawn, each is an empty one at the
--- last line's last byte, which stands behind that line's text.
+-- last line's last byte, which stands after that line's text.
 abbrev pub drawn_label : Bool → List Style → ℕ → ℕ → Label → DrawnLabel
 drawn_label ends styles n i label = record {
   start = if ends && is_at_end n label then n - 1 else label.span.offset;

@@ -10,11 +10,11 @@ use Rattle.miette_label_rules.specs.views.GivenLabels.{text_at}
 use Rattle.miette_protocol.specs.views.Meaning.{Label}
 use Rattle.std.specs.Option.{option_copied}
 
--- the smaller of a label's end and the end of what its read lent, and at least its start
+-- the smaller of a label's end and the end of its read's contents, and at least its start
 abbrev pub end_drawn : ReadLabel → ℕ
 end_drawn read = max read.span.offset (min (end_of_span read.span) (end_of_span read.contents.span))
 
--- whether a read lent bytes before its label and none from there on
+-- whether a read's contents have bytes before its label and none from there on
 abbrev pub lends_before : ReadLabel → Bool
 lends_before read = nat_lt read.contents.span.offset read.span.offset
     && end_of_span read.contents.span == read.span.offset
@@ -56,7 +56,7 @@ drawn_placed p = record {
   behind = p.behind;
 }
 
--- a label at the told end stands behind the text of the last line, at the byte before
+-- a label at the told end stands after the text of the last line, at the byte before
 abbrev pub placed_one : Option ℕ → List Style → ℕ → List Label → ReadLabel → Placed
 placed_one end styles i labels read = record {
   start = if is_told end read.span.offset then read.span.offset - 1 else read.span.offset;

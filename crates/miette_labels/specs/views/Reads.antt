@@ -37,7 +37,7 @@ AreRead context source labels order (reads.Refused index reason) =
     × (refusal source.bytes fails order ≡ Some (record { label = label_at labels index; name = name_of reason }))
     × (index < length labels)
 
--- a span was accepted and read with so many lines of context, and this is what the read lent
+-- a span was accepted and read with `context` lines of context, and these are the read's contents
 pub record IsLent (context : ℕ) (source : Source) (span : Span) (lent : Contents) : Type 0 where
   pub accepted : IsAccepted source.bytes span
   pub is : lent ≡ contents context source span

@@ -31,14 +31,14 @@ pub record AreSorted (labels : List PlacedLabel) : Type 0 where
   pub order : (j k : ℕ) → j ≤ k → k < length labels → start_at labels j ≤ start_at labels k
   pub drawn : (k : ℕ) → k < length labels → start_at labels k ≤ (slice_index_or labels k nothing).after
 
--- so many labels began before a place, no other did, and these of them go on past it
+-- the first `next` labels began before a place, no other did, and these of them go on past it
 pub record IsAt (labels : List PlacedLabel) (place next : ℕ) (running : List PlacedLabel) : Type 0 where
   pub count : next ≤ length labels
   pub before : (k : ℕ) → k < next → start_at labels k < place
   pub later : (k : ℕ) → next ≤ k → k < length labels → place ≤ start_at labels k
   pub carried : running ≡ filter (passes place) (take next labels)
 
--- so many labels begin before a line's end, no other does, and these of several lines lie on it
+-- the first `next` labels begin before a line's end, no other does, and these of several lines lie on it
 pub record IsOn (labels : List PlacedLabel) (line : Line) (next : ℕ) (running : List PlacedLabel) : Type 0 where
   pub count : next ≤ length labels
   pub before : (k : ℕ) → k < next → start_at labels k < line.end

@@ -47,7 +47,7 @@ own_actions width uri text region = flat_map (actions_at uri (placed text) regio
 abbrev pub joint_of : List ℕ → Placed → ℕ → Data
 joint_of uri source found = joint_value uri source (joint_proposal source.source found)
 
--- these, and behind them, if there are any, one for all findings
+-- these, and after them, if there are any, one for all findings
 abbrev pub with_joint : List ℕ → Placed → ℕ → List Data → List Data
 with_joint uri source found [] = []
 with_joint uri source found (d ∷ ds) = (d ∷ ds) ++ joint_of uri source found ∷ []

@@ -8,12 +8,12 @@ use Rattle.miette_positions.specs.declared.place.Region.{Region}
 use Rattle.miette_positions.specs.rules.Regions.{stop_at}
 use Rattle.miette_language_server.specs.rules.Members.{region_at, text_at}
 
--- The offset of a position. Behind a line's text it is that text's end, inside a character the character's start,
--- behind the last line the end of the source.
+-- The offset of a position. After a line's text it is that text's end, inside a character the character's start, after
+-- the last line the end of the source.
 abbrev pub offset : List ℕ → Position → ℕ
 offset source p = (stop_at Utf16 source p).offset
 
--- a text in place of the bytes from one offset to another, of none where that one isn't behind
+-- a text in place of the bytes from one offset to another, of none where the second isn't after the first
 abbrev pub spliced : List ℕ → ℕ → ℕ → List ℕ → List ℕ
 spliced source from to text = take from source ++ (text ++ drop (max from to) source)
 

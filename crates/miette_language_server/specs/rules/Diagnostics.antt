@@ -47,7 +47,7 @@ by_fixes (fix ∷ fixes) plain fixable = fixable
 abbrev pub diagnostic_value : List ℕ → Placed → Coded → Data
 diagnostic_value uri source c = by_fixes c.fixes (plain_value source c) (fixable_value uri source c)
 
--- all that is found in a text of lines that may have so many columns
+-- all that is found in a text of lines that may have `width` columns
 abbrev pub diagnostics : ℕ → List ℕ → List ℕ → List Data
 diagnostics width uri text = map (diagnostic_value uri (placed text)) (coded_findings text width)
 

@@ -28,7 +28,7 @@ is_digit b = nat_le 48 b && nat_le b 57
 abbrev pub with_digit : ℕ → ℕ → Option ℕ
 with_digit n b = if is_digit b && nat_lt (n * 10 + (b - 48)) (2 ^ 64) then Some (n * 10 + (b - 48)) else None
 
--- a number with these digits behind its own
+-- a number with these digits after its own
 abbrev pub number_from : ℕ → List ℕ → Option ℕ
 number_from n [] = Some n
 number_from n (b ∷ bs) = option_and_then (λ m. number_from m bs) (with_digit n b)
@@ -43,7 +43,7 @@ abbrev pub named_length : List ℕ → List ℕ → Option ℕ
 named_length name value =
     if bytes_eq (map to_ascii_lowercase (trimmed name)) (codes "content-length") then number (trimmed value) else None
 
--- the length that a row of the header states: its name up to a colon, its value behind that
+-- the length that a row of the header states: its name up to a colon, its value after that
 abbrev pub row_length : List ℕ → Option ℕ
 row_length row = option_and_then (λ at. named_length (take at row) (drop (at + 1) row)) (position (λ b. b == 58) row)
 
@@ -52,12 +52,12 @@ row_length row = option_and_then (λ at. named_length (take at row) (drop (at + 
 abbrev pub is_empty_row : List ℕ → Bool
 is_empty_row row = length (trimmed row) == 0
 
--- the length that is known, and the bytes behind the header
+-- the length that is known, and the bytes after the header
 abbrev pub known_length : Option ℕ → List ℕ → Option (ℕ × List ℕ)
 known_length known rest = option_map (λ n. (n, rest)) known
 
--- The length that the header states, and the bytes behind it. This length is known from the rows before, and these
--- bytes of a row are read. The last length that is stated counts.
+-- The length that the header states, and the bytes after it. This length is known from the rows before, and these bytes
+-- of a row are read. The last length that is stated counts.
 abbrev pub length_from : Option ℕ → List ℕ → List ℕ → Option (ℕ × List ℕ)
 length_from known row [] = None
 length_from known row (b ∷ bs) =
@@ -67,12 +67,12 @@ length_from known row (b ∷ bs) =
 
 -- ---- the frame
 
--- the body of a frame, and the bytes behind it
+-- the body of a frame, and the bytes after it
 pub record Frame : Type 0 where
   pub body : List ℕ
   pub rest : List ℕ
 
--- so many bytes, where they are there
+-- `n` bytes, where they are there
 abbrev pub cut : ℕ → List ℕ → Option Frame
 cut n bytes = if nat_le n (length bytes) then Some (record { body = take n bytes; rest = drop n bytes }) else None
 
@@ -80,7 +80,7 @@ cut n bytes = if nat_le n (length bytes) then Some (record { body = take n bytes
 abbrev pub first_frame : List ℕ → Option Frame
 first_frame bytes = option_and_then (λ it. cut it.0 it.1) (length_from None [] bytes)
 
--- what stands before a body of so many bytes
+-- what stands before a body of `n` bytes
 abbrev pub header_text : ℕ → List ℕ
 header_text n = codes "Content-Length: " ++ decimal n ++ codes "\r\n\r\n"
 

@@ -53,7 +53,7 @@ pub data Effect : Type 0 where
   written : Data → Effect
   ended : ℕ → Effect
 
--- the state behind a message, and what the server does
+-- the state after a message, and what the server does
 pub record Reaction : Type 0 where
   pub state : State
   pub outcome : Effect
@@ -118,7 +118,7 @@ noticed s d Closed = option_map_or (closed s) (uri_in d) (still s nothing)
 noticed s d Exit = still s (ended 1)
 noticed s d Ignored = still s nothing
 
--- behind `shutdown`, and before `initialize`, `exit` alone is heard
+-- after `shutdown`, and before `initialize`, `exit` alone is heard
 abbrev pub alone : ℕ → Notice → Effect
 alone status Opened = nothing
 alone status Changed = nothing

@@ -24,7 +24,7 @@ IsHeaderFrom known row (Some bytes) (Some rest) (Some n) = length_from known row
 abbrev pub IsHeader : Option (List ℕ) → Option (List ℕ) → Option ℕ → Type 0
 IsHeader old new size = IsHeaderFrom None [] old new size
 
--- so many bytes were read, or are not there
+-- `n` bytes were read, or are not there
 abbrev pub IsCut : Option (List ℕ) → Option (List ℕ) → ℕ → Option (Vec ℕ Global) → Type 0
 IsCut old new n (Some body) = Consumes old new body.items × (length body.items ≡ n)
 IsCut None new n None = Unit {0}

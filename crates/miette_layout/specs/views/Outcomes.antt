@@ -29,7 +29,7 @@ abbrev pub printing_of : {H : Type 0} → (H → Bool) → (H → List Call → 
 printing_of is_blank may_follow s old new =
     record { settings = s; blank = leaves_plain is_blank old; happen = AreCallsOn may_follow old new }
 
--- What is printed behind what was there with the lines of context of these settings, or that nothing is: the rows under
+-- What is printed after what was there with the lines of context of these settings, or that nothing is: the rows under
 -- some answers of the source and the highlighter. Of a source that always reads nothing fails, and where lines are left
 -- plain there are no pieces; so there is but one where both hold. The calls with which the highlighter gave the answers
 -- are such as happen.

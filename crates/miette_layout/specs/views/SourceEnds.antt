@@ -27,7 +27,7 @@ pub record AsksForEnd (source : Source) (labels : List Label) (asks : Bool) : Ty
   pub always : source.always_reads ≡ true → fails ≡ false
   pub is : asks ≡ (not fails && asks_for_end (length source.bytes) labels)
 
--- so many lines of context are shown around labels in a layout
+-- `lines` lines of context are shown around labels in a layout
 pub record AreEndLines (layout : LayoutOptions) (source : Source) (labels : List Label) (lines : ℕ) : Type 0 where
   pub fails : Bool
   pub always : source.always_reads ≡ true → fails ≡ false

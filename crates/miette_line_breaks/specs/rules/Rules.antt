@@ -90,7 +90,7 @@ joins l r =
     || joins_parenthesis l r
     || ((is_emoji_base l.class || l.is_future_emoji) && is_emoji_modifier r.class)
 
--- LB11, LB12, LB12a, LB19, then LB20, then LB21a, LB30a and the rules on two characters. Behind a space LB18 breaks.
+-- LB11, LB12, LB12a, LB19, then LB20, then LB21a, LB30a and the rules on two characters. After a space LB18 breaks.
 abbrev pub keeps_beside : List Character → Character → Bool
 keeps_beside [] r = false
 keeps_beside (l ∷ bs) r =
@@ -123,7 +123,7 @@ between bs joined x =
     else if joined || (is_mark x.class && nearest_is takes_marks bs) then None
     else if keeps bs (if is_mark x.class then lone_mark else x) then None else Some Allowed
 
--- what is before a character, behind these, nearest first; nothing before the first (LB2)
+-- what is before a character, after these, nearest first; nothing before the first (LB2)
 abbrev pub break_before : List ℕ → ℕ → Option BreakOpportunity
 break_before [] c = None
 break_before (b ∷ before) c = between (bases (b ∷ before)) (ends_joined (b ∷ before)) (character_of c)

@@ -1,4 +1,4 @@
--- The places behind printable characters of ASCII, by their rows in the table of these.
+-- The places after printable characters of ASCII, by their rows in the table of these.
 use Rattle.std.specs.Prelude.{ℕ, ◌-◌, false, nat_le, if◌then◌else◌, slice_index_or}
 use Rattle.ucd_breaks.specs.declared.LineBreak.TheVariants.{Ambiguous}
 use Rattle.miette_line_breaks.specs.declared.characters.Character.{Character}
@@ -9,7 +9,7 @@ use Rattle.miette_line_breaks.specs.declared.state.State.{State}
 abbrev pub kind_character : ℕ → Character
 kind_character k = record { class = slice_index_or KIND_CLASSES k Ambiguous; is_wide = false; is_future_emoji = false }
 
--- behind a character of such a class, and in the second half of the rows behind spaces that follow it
+-- after a character of such a class, and in the second half of the rows after spaces that follow it
 abbrev pub row_state : ℕ → State
 row_state n = record {
   base = kind_character (if nat_le 14 n then n - 14 else n);

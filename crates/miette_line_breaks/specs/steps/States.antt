@@ -37,7 +37,7 @@ state_over bs joined = record {
   has_half_flag = ends_in_half_flag bs;
 }
 
--- behind these characters, nearest first
+-- after these characters, nearest first
 abbrev pub state_of : List ℕ → State
 state_of before = state_over (bases before) (ends_joined before)
 
@@ -75,7 +75,7 @@ joined_behind s joined = record {
   has_half_flag = s.has_half_flag;
 }
 
--- behind one more character
+-- after one more character
 abbrev pub state_behind : State → Character → State
 state_behind s x =
     if is_mark x.class && attaches s then joined_behind s (is_joiner x.class)

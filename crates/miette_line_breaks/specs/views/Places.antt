@@ -5,7 +5,7 @@ use Rattle.miette_line_breaks.specs.declared.state.State.{State}
 use Rattle.miette_line_breaks.specs.rules.Characters.{character_of}
 use Rattle.miette_line_breaks.specs.steps.States as steps
 
--- behind these characters, nearest first
+-- after these characters, nearest first
 abbrev pub state_of : List ℕ → State
 state_of = steps.state_of
 
@@ -13,7 +13,7 @@ state_of = steps.state_of
 abbrev pub found_before : State → ℕ → Option BreakOpportunity
 found_before s c = steps.break_in s (character_of c)
 
--- behind this character
+-- after this character
 abbrev pub behind : State → ℕ → State
 behind s c = steps.state_behind s (character_of c)
 

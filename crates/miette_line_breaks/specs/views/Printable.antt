@@ -16,7 +16,7 @@ is_printable c = nat_le 32 c && nat_le c 126
 abbrev pub state_in : Printable → State
 state_in it = row_state it.row
 
--- A printable character, behind which nothing counts that stands before it, or a space at the start of a text.
+-- A printable character, after which nothing counts that stands before it, or a space at the start of a text.
 abbrev pub begins : State → ℕ → Bool
 begins s c = is_printable c && (if c == 32 then is_empty s else not (ends_hebrew s))
 

@@ -15,7 +15,7 @@ SameFrom at left cells = (text_end width offset : ℕ) → at ≤ offset →
     (first_column left text_end width offset ≡ first_column cells text_end width offset)
     × (last_column left text_end width offset ≡ last_column cells text_end width offset)
 
--- behind what is passed of some cells the columns of offsets are those in the cells that are left
+-- after what is passed of some cells the columns of offsets are those in the cells that are left
 pub record HasPassed (cells : List Cell) (passage : Passage) : Type 0 where
   pub same : SameFrom passage.reached passage.walk cells
   pub come : ComeFrom passage.reached passage.walk

@@ -65,7 +65,7 @@ proposal message offset len text = record {
   edits = record { span = record { offset = offset; len = len }; text = text } ∷ [];
 }
 
--- even blanks, in place of so many bytes; of a text of blanks alone there are none, since these are deleted
+-- even blanks in place of `blanks`; of a text of blanks alone there are none, since these are deleted
 abbrev pub blanks_fix : ℕ → List ℕ → List Proposal
 blanks_fix start blanks = if is_none (tab_after_space blanks) then []
     else proposal (codes "indent by spaces") start (length blanks) (spaces_from 0 blanks) ∷ []

@@ -5,7 +5,7 @@ use Rattle.miette_fixes.specs.declared.applicability.Applicability.TheVariants.{
 use Rattle.miette_fixes.specs.rules.Edits.{Proposal}
 use Rattle.miette_lint.specs.rules.Fixes.{proposals_of}
 
--- how many of so many findings are mended
+-- how many of the `found` findings are mended
 abbrev pub mended_text : ℕ → ℕ → List ℕ
 mended_text mended found = decimal mended ++ codes " of " ++ decimal found ++ codes " findings"
 

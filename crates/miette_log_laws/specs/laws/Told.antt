@@ -23,7 +23,7 @@ pub record Printed : Type 0 where
   pub source : Option Source
   pub report : Tree
 
--- a report and those that are related to it, depth first, under one that lends its source, or under none
+-- a report and those that are related to it, depth first, under one whose source they inherit, or under none
 abbrev mutual
   pub printed : Option Source → Tree → List Printed
   printed lent (tree m s c r) =

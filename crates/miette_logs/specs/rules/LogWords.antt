@@ -20,8 +20,8 @@ form_named word =
 abbrev pub of_tool : List ℕ → List ℕ → Option LogRequest
 of_tool word tool = option_map (λ form. record { form = form; tool = tool }) (form_named word)
 
--- The log that the words ask for, of the program that is called, or of the tool behind `--tool`, which stands before or
--- behind the log's word. Nothing where they are others.
+-- The log that the words ask for, of the program that is called, or of the tool after `--tool`, which stands before or
+-- after the log's word. Nothing where they are others.
 abbrev pub logging_of : List ℕ → List (List ℕ) → Option LogRequest
 logging_of program [] = None
 logging_of program (word ∷ []) = of_tool word program

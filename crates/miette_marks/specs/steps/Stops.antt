@@ -17,7 +17,7 @@ abbrev pub stops_at : Rounding → MadeCell → ℕ → Bool
 stops_at Down cell offset = nat_lt offset cell.after
 stops_at Up cell offset = nat_le offset cell.start
 
--- the column of an offset by a stop: among its cells of printable ASCII, or behind them
+-- the column of an offset by a stop: among its cells of printable ASCII, or after them
 abbrev pub column_from : Rounding → Stop → ℕ → ℕ → ℕ → ℕ
 column_from rounding stop text_end width offset =
     if nat_lt (offset - stop.plain.start) stop.plain.many then stop.plain.from + (offset - stop.plain.start)

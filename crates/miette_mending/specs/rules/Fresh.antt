@@ -9,7 +9,7 @@ use Rattle.miette_protocol.specs.rules.Reading.{Source}
 use Rattle.miette_readers.specs.rules.Members.{objects_at, text_at, whole_at}
 use Rattle.miette_readers.specs.rules.Rustc.{file_name}
 
--- what stands behind the last LF of bytes, all of them where there is none
+-- what stands after the last LF of bytes, all of them where there is none
 abbrev pub last_row : List ℕ → List ℕ
 last_row [] = []
 last_row (b ∷ bs) = if list_any (is_byte 10) (b ∷ bs) then last_row bs else b ∷ bs
@@ -18,14 +18,14 @@ last_row (b ∷ bs) = if list_any (is_byte 10) (b ∷ bs) then last_row bs else 
 abbrev pub row_start : List ℕ → ℕ → ℕ
 row_start bytes at = at - length (last_row (take at bytes))
 
--- what stands behind the end of a row, LF or CR LF; the last row needs none
+-- what stands after the end of a row, LF or CR LF; the last row needs none
 abbrev pub behind_end : List ℕ → Option (List ℕ)
 behind_end rest =
     if length rest == 0 then Some rest
     else if starts_with nat_eq rest (10 ∷ []) then Some (drop 1 rest)
     else if starts_with nat_eq rest (13 ∷ (10 ∷ [])) then Some (drop 2 rest) else None
 
--- what stands behind a row and its end, where bytes begin with them
+-- what stands after a row and its end, where bytes begin with them
 abbrev pub behind_row : List ℕ → List ℕ → Option (List ℕ)
 behind_row row bytes = if starts_with nat_eq bytes row then behind_end (drop (length row) bytes) else None
 
@@ -42,7 +42,7 @@ begin_with (d ∷ ds) bytes = unwrap_or (option_map (begin_with ds) (behind_row 
 abbrev pub is_first : ℕ → Bool
 is_first b = nat_lt b 128 || nat_le 192 b
 
--- the column, from 1, behind these bytes of a row
+-- the column, from 1, after these bytes of a row
 abbrev pub column_behind : List ℕ → ℕ
 column_behind bytes = count_by is_first bytes + 1
 

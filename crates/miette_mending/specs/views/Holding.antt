@@ -33,6 +33,6 @@ Puts old new name fixes =
 abbrev pub HoldsAll : Gathered → List FileFixes → Type 0
 HoldsAll it all = Holds (map string_bytes it.names.items) it.fixes all
 
--- these are put behind those that it holds
+-- these are put after those that it holds
 abbrev pub Adds : Gathered → Gathered → List FileFixes → Type 0
 Adds old new more = (all : List FileFixes) → HoldsAll old all → HoldsAll new (all ++ more)

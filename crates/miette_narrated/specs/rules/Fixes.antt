@@ -39,7 +39,7 @@ near_text from to =
 abbrev pub point_text : EditPlace → List ℕ
 point_text at = codes "line " ++ (decimal at.line ++ (codes ", column " ++ decimal (at.before + 1)))
 
--- `from line 2, column 5 to line 3, column 1`: the first column, and that behind the last character
+-- `from line 2, column 5 to line 3, column 1`: the first column, and that after the last character
 abbrev pub far_text : EditPlace → EditPlace → List ℕ
 far_text from to = codes "from " ++ (point_text from ++ (codes " to " ++ point_text to))
 

@@ -17,7 +17,7 @@ pub record LabelRange : Type 0 where
   pub after : ℕ
   pub text : Option (List ℕ)
 
--- a label over a source of so many bytes: its end is cut to the source's
+-- a label over a source of `n` bytes: its end is cut to the source's
 abbrev pub label_range : ℕ → Label → LabelRange
 label_range n label = record {
   start = label.span.offset;
@@ -34,8 +34,8 @@ pub record SnippetLine : Type 0 where
   pub data_end : ℕ
   pub characters : List Character
 
--- Where an offset is: on the line or behind it; and before the text's end or there. A label begins on the line or
--- behind it where its start reaches it.
+-- Where an offset is: on the line or after it; and before the text's end or there. A label begins on the line or after
+-- it where its start reaches it.
 abbrev pub reaches_line : SnippetLine → ℕ → Bool
 reaches_line it at = nat_le it.line.start at
 

@@ -15,7 +15,7 @@ decoded_text cs = encode_utf8_all (map (λ c. c.code) cs)
 abbrev pub line_row : SnippetLine → List ℕ
 line_row it = row (codes "snippet line " ++ (decimal it.number ++ (codes ": " ++ decoded_text it.characters)))
 
--- a line of what a snippet's read lent
+-- a line of the contents that a snippet's read gave
 abbrev pub snippet_line : Contents → ℕ → Bool → Line → SnippetLine
 snippet_line lent number is_last line = record {
   line = line;

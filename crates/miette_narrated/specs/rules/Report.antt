@@ -60,7 +60,7 @@ severity_row severity = row (codes "    Diagnostic severity: " ++ severity_text 
 abbrev pub head_rows : Diagnosis → List ℕ
 head_rows m = row m.message ++ severity_row m.severity
 
--- a related report's head: its message behind its title, its severity, and a blank row
+-- a related report's head: its message after its title, its severity, and a blank row
 abbrev pub titled_rows : Diagnosis → List ℕ
 titled_rows m = row (severity_title m.severity ++ m.message) ++ (severity_row m.severity ++ row [])
 
@@ -72,7 +72,7 @@ abbrev pub causes_if : Bool → List (List ℕ) → List ℕ
 causes_if true texts = cause_rows texts
 causes_if false texts = []
 
--- a row with a text behind these words, where there is a text
+-- a row with a text after these words, where there is a text
 abbrev pub row_if : List ℕ → Option (List ℕ) → List ℕ
 row_if words None = []
 row_if words (Some text) = row (words ++ text)

@@ -20,7 +20,7 @@ begin_rows lent =
     ++ (codes " starting at line " ++ (decimal (lent.line + 1) ++ (codes ", column " ++ decimal (lent.column + 1))))))
     ++ row []
 
--- a snippet, from what its read lent
+-- a snippet, from the contents that its read gave
 abbrev pub snippet : List LabelRange → Contents → List ℕ
 snippet labels lent = begin_rows lent ++ rows_of_lines labels lent (lent.line + 1) (lines_of_contents lent)
 

@@ -62,7 +62,7 @@ pub record AppendsReport (context : ℕ) (inherited : Option Source) (t : Tree) 
   pub possible : AreAnswers inherited answers t
   pub appended : new ≡ old ++ related_report context inherited answers t
 
--- new is old and then related reports behind a blank row, for some answers
+-- new is old and then related reports after a blank row, for some answers
 pub record AppendsRelated (context : ℕ) (inherited : Option Source) (ts : Trees) (old new : List ℕ) : Type 0 where
   pub answers : AnswerTrees ReadAnswers
   pub possible : AllAnswers inherited answers ts

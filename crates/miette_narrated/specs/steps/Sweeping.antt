@@ -9,7 +9,7 @@ use Rattle.miette_narrated.specs.rules.Labels.{SnippetLine}
 abbrev pub reaches : ℕ → PlacedLabel → Bool
 reaches place p = nat_le place p.after
 
--- so many labels have come, and these of them reach the place
+-- of the first `next` labels, which have come, just those in `running` reach the place
 abbrev pub IsAt : List PlacedLabel → ℕ → ℕ → List PlacedLabel → Type 0
 IsAt labels place next running = running ≡ filter (reaches place) (take next labels)
 
@@ -17,7 +17,7 @@ IsAt labels place next running = running ≡ filter (reaches place) (take next l
 abbrev pub IsUnderWay : LabelWalk → Type 0
 IsUnderWay walk = IsAt walk.order.placed.now walk.sweep.at walk.sweep.next walk.sweep.running.items
 
--- the first of some labels begins at a place or behind it
+-- the first of some labels begins at a place or after it
 abbrev pub BeginsFrom : ℕ → List PlacedLabel → Type 0
 BeginsFrom place [] = ⊤
 BeginsFrom place (p ∷ ps) = place ≤ p.start

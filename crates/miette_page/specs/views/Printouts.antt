@@ -11,14 +11,14 @@ pub record Printout : Type 0 where
   pub style : Style
   pub begun : Bool
 
--- what stands before and behind the characters of a run: nothing where its style is plain
+-- what stands before and after the characters of a run: nothing where its style is plain
 abbrev pub start_of : Style → List ℕ
 start_of style = elim (style_codes style) [ [] ↦ [] | code ∷ codes ↦ colour_start style ]
 
 abbrev pub stop_of : Style → List ℕ
 stop_of style = elim (style_codes style) [ [] ↦ [] | code ∷ codes ↦ colour_stop ]
 
--- characters behind which a plain run stands
+-- characters after which a plain run stands
 abbrev pub printout_of : List ℕ → Printout
 printout_of text = record { text = text; style = plain; begun = false }
 
@@ -37,7 +37,7 @@ put p (character code) = record { text = started_text p ++ code ∷ []; style = 
 put p row_end = printout_of (ended_text p ++ 10 ∷ [])
 
 infixr 5 ◌⊕◌
--- with so many tokens more
+-- and these tokens more
 abbrev pub ◌⊕◌ : Printout → List Token → Printout
 p ⊕ [] = p
 p ⊕ (token ∷ tokens) = put p token ⊕ tokens

@@ -5,7 +5,7 @@ use Rattle.miette_snippet_rules.specs.rules.Highlighting.{follows, leaves_plain}
 use Rattle.miette_tree.specs.views.Handler.{AppendsOne}
 pub use Rattle.miette_tree.specs.views.Owned.{source_shown}
 use Rattle.miette_picture_rules.specs.rules.Settings.{Settings}
-use Rattle.miette_picture_rules.specs.views.SettingsView.{handler_settings}
+use Rattle.miette_picture_rules.specs.views.Settings.{handler_settings}
 use Rattle.miette_painting.specs.declared.painter.Painter.{Painter}
 use Rattle.miette_painting.specs.declared.sources.Look.{Look}
 use Rattle.miette_style.specs.rules.Themes.{theme_of}

@@ -30,7 +30,7 @@ IsDrawn source m by text =
     × by.happen (own_calls by.settings.layout source m a)
     × (text ≡ drawn_text whole_drawing by.settings m source a)
 
--- fixes behind a text, over their source, of which the read for them fails or not
+-- fixes after a text, over their source, of which the read for them fails or not
 pub record AppendsFixes (s : Settings) (source : Option Source) (fixes : List Proposal) (old new : List ℕ) : Type 0
   where
     pub fails : Bool

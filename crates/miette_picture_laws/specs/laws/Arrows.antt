@@ -16,28 +16,28 @@ use Rattle.miette_printed_laws.specs.laws.Holding.{Arrow, StandsIn, cut_text}
 abbrev pub room_behind : Settings → List Fragment → ℕ
 room_behind s indent = s.width - 2 - columns_of (tokens (print indent))
 
--- these rows have room under an arrow, behind the bar that goes down from it
+-- these rows have room under an arrow, after the bar that goes down from it
 abbrev pub FitUnder : Settings → Option Severity → Bool → List (List ℕ) → Type 0
 FitUnder s outer is_last rows = AllByRecursion (FitsRow (room_behind s (stem_indent s outer is_last))) rows
 
--- rows behind that bar
+-- rows after that bar
 abbrev pub rows_under : Settings → Option Severity → Bool → List (List ℕ) → List ℕ
 rows_under s outer is_last rows = indented_rows (print (stem_indent s outer is_last)) rows
 
--- Rows of a text below its first one that have room stand under the arrow one after the other, behind the bar.
+-- Rows of a text below its first one that have room stand under the arrow one after the other, after the bar.
 abbrev pub RowsStand : Settings → Option Severity → Bool → List ℕ → Type 0
 RowsStand s outer is_last text = (front back : List ℕ) (rows : List (List ℕ)) →
     text ++ line_feed ≡ front ++ line_feed ++ fed_rows rows ++ back → FitUnder s outer is_last rows →
     StandsIn (rows_under s outer is_last rows) (under_arrow s outer is_last text)
 
--- The first row stands behind the arrow, where it has room there.
+-- The first row stands after the arrow, where it has room there.
 abbrev pub FirstStands : Settings → Option Severity → Bool → List ℕ → Type 0
 FirstStands s outer is_last text = (row back : List ℕ) → text ++ line_feed ≡ row ++ line_feed ++ back →
     FitsRow (room_behind s (arrow_indent s outer is_last)) row →
     (below : List ℕ) × (under_arrow s outer is_last text ≡ print (arrow_indent s outer is_last) ++ bare_row row
     ++ line_feed ++ below)
 
--- The same of the rows of an inner report, where there is something to be seen in front of them, and behind those of a
+-- The same of the rows of an inner report, where there is something to be seen in front of them, and after those of a
 -- related one.
 abbrev pub InnerRowsStand : Settings → Arrow → List ℕ → List ℕ → List (List ℕ) → Type 0
 InnerRowsStand s arrow front back rows =

@@ -29,7 +29,7 @@ abbrev pub settings_under : Settings → List Arrow → Settings
 settings_under s [] = s
 settings_under s (arrow ∷ arrows) = settings_under (settings_behind s arrow) arrows
 
--- the bar that goes down from an arrow, and those of all of some, one behind the other
+-- the bar that goes down from an arrow, and those of all of some, one after the other
 abbrev pub bar : Settings → Arrow → List ℕ
 bar s arrow = print (stem_indent s arrow.outer arrow.is_last)
 
@@ -37,16 +37,16 @@ abbrev pub bars : Settings → List Arrow → List ℕ
 bars s [] = []
 bars s (arrow ∷ arrows) = bar s arrow ++ bars (settings_behind s arrow) arrows
 
--- rows behind a bar, without their last spaces
+-- rows after a bar, without their last spaces
 abbrev pub barred : List ℕ → List (List ℕ) → List (List ℕ)
 barred indent rows = map (λ row. indent ++ bare_row row) rows
 
--- the same behind all these bars: those of the innermost arrow come first, the others are put in front level by level
+-- the same after all these bars: those of the innermost arrow come first, the others are put in front level by level
 abbrev pub barred_rows : Settings → List Arrow → List (List ℕ) → List (List ℕ)
 barred_rows s [] rows = rows
 barred_rows s (arrow ∷ arrows) rows = barred (bar s arrow) (barred_rows (settings_behind s arrow) arrows rows)
 
--- On each level the rows have room under the level's arrow, behind the bars of those further in.
+-- On each level the rows have room under the level's arrow, after the bars of those further in.
 abbrev pub FitLevels : Settings → List Arrow → List (List ℕ) → Type 0
 FitLevels s [] rows = Unit {0}
 FitLevels s (arrow ∷ arrows) rows =
@@ -74,7 +74,7 @@ pub record AreAmong (drawn : List ℕ) (arrows : List Arrow) (rows : List (List 
   pub seen_above : AreSeen above
   pub seen_below : ends_related arrows ≡ true → AreSeen below
 
--- Of what is drawn in rows, those that have room on each level stand in a text one after the other, behind all bars.
+-- Of what is drawn in rows, those that have room on each level stand in a text one after the other, after all bars.
 abbrev pub LevelRowsStand : Settings → List Arrow → (Settings → List ℕ) → List ℕ → Type 0
 LevelRowsStand s arrows drawn text = (rows : List (List ℕ)) → AreAmong (drawn (settings_under s arrows)) arrows rows
     → FitLevels s arrows rows → StandsIn (fed_rows (barred_rows s arrows rows)) text
@@ -95,7 +95,7 @@ HaveRoom s arrows rows = 2 ≤ (settings_under s arrows).width → AllByRecursio
 abbrev pub IsShownRow : List ℕ → Type 0
 IsShownRow row = IsTame row × (only_spaces (tokens row) ≡ false)
 
--- Such rows stand behind all bars at once, where there are some.
+-- Such rows stand after all bars at once, where there are some.
 abbrev pub StandBehindBars : Settings → List Arrow → List (List ℕ) → Type 0
 StandBehindBars s arrows rows = AllByRecursion IsShownRow rows →
     (arrow : Arrow) → fed_rows (barred_rows s (arrow ∷ arrows) rows) ≡ indented_rows (bars s (arrow ∷ arrows)) rows
@@ -103,7 +103,7 @@ StandBehindBars s arrows rows = AllByRecursion IsShownRow rows →
 -- ---- in the bytes of a report
 
 -- At each path rows of the snippets that are printed there, if they have room on each level, stand in these bytes on
--- lines of their own, one after the other, behind the bars of all arrows on the path.
+-- lines of their own, one after the other, after the bars of all arrows on the path.
 abbrev pub HoldsLevels : Drawing → Settings → Tree → Answers → List ℕ → Type 0
 HoldsLevels drawing s t a bytes = (path : List Step) (p : PrintedDiagnostic) → printed_at s t path ≡ Some p →
     (shown : List (List ℕ)) → AreAmong (fed_rows (map print (rows_at drawing p (answer_at a path)

@@ -19,7 +19,7 @@ use Rattle.miette_picture_rules.specs.rules.Snippets.{runs_of_row}
 abbrev pub printed_line : List Cell → List ℕ
 printed_line cells = map (λ g. g.code) (printed_cells cells)
 
--- a number, to the right in so many columns
+-- a number, to the right in `columns` columns
 abbrev pub padded : ℕ → ℕ → List ℕ
 padded columns number = spaces (columns - length (decimal number)) ++ decimal number
 

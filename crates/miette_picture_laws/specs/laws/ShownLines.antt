@@ -25,7 +25,7 @@ pub record StandAmong {A : Type 0} (rows all : List A) : Type 0 where
 
 -- ---- the rows of one line
 
--- A line in the ranges of shown lines: the ranges before its own, its number in that one, and the ranges behind it.
+-- A line in the ranges of shown lines: the ranges before its own, its number in that one, and the ranges after it.
 pub record PlaceIn (shown : List (List ℕ)) : Type 0 where
   pub before : List (List ℕ)
   pub front : List ℕ

@@ -15,7 +15,7 @@ use Rattle.miette_picture_rules.specs.rules.Answers.{Answer, Answers, RelatedAns
 use Rattle.miette_picture_rules.specs.rules.Answers.{pieces_listed, source_unlisted, sources_listed}
 use Rattle.miette_picture_rules.specs.rules.Answers.{unlisted, listed, no_more, and_more}
 
--- for the snippets of some labels, sorted by offset, over a source, with so many lines of context
+-- for the snippets of some labels, sorted by offset, over a source, with `context` lines of context
 abbrev pub labels_by : (List ℕ → List Piece) → ℕ → Source → List Label → SourceAnswer
 labels_by answer context source labels =
     pieces_listed (pieces_by answer (group_context context labels) source (groups_of context source [] labels))

@@ -1,6 +1,6 @@
 -- The calls on a highlighter for a report, in the order of drawing: for each diagnostic with labels over a source it is
 -- restarted and asked as its snippets want (`calls_of_labels`), in a layout. Fixes ask nothing. A
--- report's causes come before its own snippets, its related reports behind them.
+-- report's causes come before its own snippets, its related reports after them.
 use Rattle.std.specs.Prelude.{Bool, if◌then◌else◌, List, [], ◌∷◌, ◌++◌, drop, Option, Some, None}
 use Rattle.miette_tree.specs.rules.Diagnosis.{Diagnosis}
 use Rattle.miette_protocol.specs.rules.Reading.{Source}

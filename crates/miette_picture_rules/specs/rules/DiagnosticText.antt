@@ -28,7 +28,7 @@ abbrev pub linked_code : Style → Option (List ℕ) → List Fragment
 linked_code style None = []
 linked_code style (Some code) = Styled style (chars code ++ 32 ∷ []) ∷ []
 
--- the url behind the code
+-- the url after the code
 abbrev pub url_behind : Settings → Option (List ℕ) → List Fragment
 url_behind s None = []
 url_behind s (Some url) = bare_text (codes " (") ∷ Styled s.theme.styles.link (chars url) ∷ bare_text (codes ")") ∷ []
@@ -48,7 +48,7 @@ header_by Links s style None code = code_header style code []
 header_by Text s style url code = code_header style code (url_behind s url)
 header_by Hidden s style url code = code_header style code []
 
--- A link to the url with the code and the link's text; or the code alone, with the url behind it in text mode; or
+-- A link to the url with the code and the link's text; or the code alone, with the url after it in text mode; or
 -- nothing.
 abbrev pub header : Settings → Diagnosis → List Fragment
 header s m = header_by s.urls s (severity_style s m.severity) m.url m.code

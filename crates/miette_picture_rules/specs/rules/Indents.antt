@@ -16,7 +16,7 @@ bare_text text = Styled plain text
 abbrev pub spaces : ℕ → List ℕ
 spaces n = replicate n 32
 
--- a text wrapped behind what a first and a further indent print, at the set width less 2
+-- a text wrapped after what a first and a further indent print, at the set width less 2
 abbrev pub wrapped_behind : Settings → List ℕ → List ℕ → List ℕ → List ℕ
 wrapped_behind s first further text =
     wrapped_text (record {

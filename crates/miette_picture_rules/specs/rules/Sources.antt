@@ -50,7 +50,7 @@ abbrev pub turned : {A : Type 0} → ℕ → List A → List A
 turned n [] = []
 turned n (x ∷ xs) = drop (n % length (x ∷ xs)) (x ∷ xs) ++ take (n % length (x ∷ xs)) (x ∷ xs)
 
--- after so many labels, the next one has the highlight after theirs
+-- after `n` labels, the next one has the highlight after theirs
 abbrev pub styles_after : ℕ → Styles → Styles
 styles_after n styles = record styles { highlights = turned n styles.highlights }
 

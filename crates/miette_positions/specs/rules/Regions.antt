@@ -14,12 +14,12 @@ pub record Placed : Type 0 where
   pub source : List ℕ
   pub encoding : PositionEncoding
 
--- of a stop and those behind it, the last one before the first that fails a test
+-- of a stop and those after it, the last one before the first that fails a test
 abbrev pub last_stop : (Stop → Bool) → Stop → List Stop → Stop
 last_stop test s [] = s
 last_stop test s (t ∷ ts) = if test t then last_stop test t ts else s
 
--- of a stop and those behind it, the first one that passes a test, or the last of all
+-- of a stop and those after it, the first one that passes a test, or the last of all
 abbrev pub first_stop : (Stop → Bool) → Stop → List Stop → Stop
 first_stop test s [] = s
 first_stop test s (t ∷ ts) = if test s then s else first_stop test t ts
@@ -30,12 +30,12 @@ first_stop test s (t ∷ ts) = if test s then s else first_stop test t ts
 abbrev pub stop_before : PositionEncoding → List ℕ → ℕ → Stop
 stop_before e source at = last_stop (λ s. nat_le s.offset at) start (stops_from e source start)
 
--- the first stop at an offset or behind it; the source's end where there is none
+-- the first stop at an offset or after it; the source's end where there is none
 abbrev pub stop_after : PositionEncoding → List ℕ → ℕ → Stop
 stop_after e source at = first_stop (λ s. nat_le at s.offset) start (stops_from e source start)
 
--- The last stop whose position is this one or stands before it: behind a line's text that text's end, inside a
--- character its start, behind the last line the source's end.
+-- The last stop whose position is this one or stands before it: after a line's text that text's end, inside a character
+-- its start, after the last line the source's end.
 abbrev pub stop_at : PositionEncoding → List ℕ → Position → Stop
 stop_at e source p = last_stop (λ s. is_until s.position p) start (stops_from e source start)
 

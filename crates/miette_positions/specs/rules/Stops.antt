@@ -13,7 +13,7 @@ units Utf8 c = c.bytes
 units Utf16 c = if nat_lt c.code 0x10000 then 1 else 2
 units Utf32 c = 1
 
--- whether a character ends a line, by itself or behind a CR
+-- whether a character ends a line, by itself or after a CR
 abbrev pub is_newline : Character → Bool
 is_newline c = (c.code == LF) || (c.code == CR)
 
@@ -22,11 +22,11 @@ abbrev pub begins_with_lf : List Character → Bool
 begins_with_lf [] = false
 begins_with_lf (c ∷ cs) = c.code == LF
 
--- a CR with an LF behind it: both are one terminator
+-- a CR with an LF after it: both are one terminator
 abbrev pub is_pair : Character → List Character → Bool
 is_pair c cs = (c.code == CR) && begins_with_lf cs
 
--- the position behind a character: on the next line behind a terminator, else so many units on
+-- the position after a character: on the next line after a terminator, else the character's code units on
 abbrev pub position_behind : PositionEncoding → Position → Character → Position
 position_behind e p c =
     if is_newline c then record { line = p.line + 1; column = 0 }
@@ -35,18 +35,18 @@ position_behind e p c =
 abbrev pub stop_behind : PositionEncoding → Stop → Character → Stop
 stop_behind e s c = record { offset = s.offset + c.bytes; position = position_behind e s.position c }
 
--- with the same position, so many bytes on
+-- with the same position, `n` bytes on
 abbrev pub moved_by : ℕ → Stop → Stop
 moved_by n s = record { offset = s.offset + n; position = s.position }
 
--- the stops behind one: behind each character, but none between CR and LF
+-- the stops after one: after each character, but none between CR and LF
 abbrev pub stops_behind : PositionEncoding → Stop → List Character → List Stop
 stops_behind e s [] = []
 stops_behind e s (c ∷ cs) =
     if is_pair c cs then stops_behind e (moved_by c.bytes s) cs
     else stop_behind e s c ∷ stops_behind e (stop_behind e s c) cs
 
--- those of a source behind one of its stops
+-- those of a source after one of its stops
 abbrev pub stops_from : PositionEncoding → List ℕ → Stop → List Stop
 stops_from e source s = stops_behind e s (characters (drop s.offset source))
 

@@ -7,7 +7,7 @@ use Rattle.miette_positions.specs.declared.marked.Target.TheVariants.{ToOffset, 
 use Rattle.miette_positions.specs.rules.Regions.{first_stop, last_stop}
 use Rattle.miette_positions.specs.rules.Stops.{start, stops_from, is_until}
 
--- a stop isn't behind what is looked for
+-- a stop isn't after what is looked for
 abbrev pub is_reached : Target → Stop → Bool
 is_reached (ToOffset at) s = nat_le s.offset at
 is_reached (ToPosition p) s = is_until s.position p

@@ -122,7 +122,7 @@ MarksAreApart s p = IfSome p.source (λ source. (k : ℕ) →
 
 -- ---- folded labels
 
--- whether line k is kept where labels are folded to so many lines
+-- whether line k is kept where labels are folded to `limit` lines
 abbrev pub is_kept_at : ℕ → Settings → Source → List Label → ℕ → Bool
 is_kept_at limit s source labels k = is_kept (Some limit) (context_of s source labels) source.bytes labels k
 
@@ -270,7 +270,7 @@ TextsHang s p =
 
 -- ---- labels at the end of the source
 
--- Just these labels stand behind the text of the last line, and in the row of each line, in whatever pieces, the marks
+-- Just these labels stand after the text of the last line, and in the row of each line, in whatever pieces, the marks
 -- of such labels begin in the column after what is shown of its text, or where the mark before them ends.
 pub record EndsBehind (s : Settings) (source : Source) (labels : List Label) : Type 0 where
   pub lines : EndsStandBehind (group_settings s source labels) source.bytes (in_order labels)
@@ -283,7 +283,7 @@ abbrev pub without_ends : Settings → Settings
 without_ends s = record s { layout = (with_ends false (snippet_settings s)).layout }
 
 -- Where labels at the end are drawn, and a source that always reads and accepts its labels has one there, its last line
--- is shown, with whatever lines of context, and they are drawn behind that.
+-- is shown, with whatever lines of context, and they are drawn after that.
 abbrev pub EndIsShown : Settings → Source → List Label → Type 0
 EndIsShown s source labels =
     source.always_reads ≡ true → AreAccepted source.bytes labels →

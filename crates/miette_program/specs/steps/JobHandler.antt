@@ -32,7 +32,7 @@ highlighter_of (chosen.Built (handler.Graphical it)) = it.highlighter
 highlighter_of (chosen.Built (handler.Narrated it)) = None
 highlighter_of (chosen.Built (handler.Brief it)) = None
 
--- calls on a highlighter, behind some earlier ones, bring it to some state
+-- calls on a highlighter, after some earlier ones, bring it to some state
 abbrev pub HappenLater : {H : Type 0} → (H → List Call → Type 0) → Option H → List Call → Type 0
 HappenLater {H} may_follow highlighter calls =
     (earlier : List Call) × (after : Option H) × AreCallsOn may_follow highlighter after (earlier ++ calls)

@@ -26,7 +26,7 @@ named_source inner name given = record inner {
   language = if is_some given then given else inner.language;
 }
 
--- what a read lends and says
+-- the contents that a read gives
 pub record Contents : Type 0 where
   pub bytes : List ℕ
   pub span : Span

@@ -24,7 +24,7 @@ message_alone m = record { message = m; code = None; severity = None; help = Non
 abbrev pub appended_labels : Option (List Label) → List Label → Option (List Label)
 appended_labels labels more = Some (unwrap_or labels [] ++ more)
 
--- with a label on a span behind those that are there
+-- with a label on a span after those that are there
 abbrev pub with_label_at : Meaning → Span → List ℕ → Bool → Meaning
 with_label_at m span text primary =
     let label : Label = record { text = Some text; span = span; primary = primary; context = None } in

@@ -19,7 +19,7 @@ IsOnOneLine bytes l = on_one_line bytes (stretch_of l) ≡ true
 abbrev pub IsApart : List ℕ → Label → Label → Type 0
 IsApart bytes a b = IsOnOneLine bytes a → IsOnOneLine bytes b → (k : ℕ) → Covers a k → Covers b k → ⊥
 
--- each label, from each one behind it
+-- each label, from each one after it
 abbrev pub AreApart : List ℕ → List Label → Type 0
 AreApart bytes [] = ⊤
 AreApart bytes (l ∷ ls) = AllByRecursion (IsApart bytes l) ls × AreApart bytes ls

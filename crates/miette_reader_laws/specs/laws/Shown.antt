@@ -14,7 +14,7 @@ use Rattle.miette_tree.specs.rules.Tree.{Tree}
 abbrev pub EndsRow : List ℕ → Type 0
 EndsRow front = (front ≡ []) ⊎ ((text : List ℕ) × (front ≡ text ++ 10 ∷ []))
 
--- what may stand behind it: nothing, or what begins with a line feed
+-- what may stand after it: nothing, or what begins with a line feed
 abbrev pub BeginsRow : List ℕ → Type 0
 BeginsRow rest = (rest ≡ []) ⊎ ((text : List ℕ) × (rest ≡ 10 ∷ text))
 

@@ -55,7 +55,7 @@ is_same s t = (s.start == t.start) && (s.end == t.end)
 abbrev pub holds : Stretch → Stretch → Bool
 holds s t = nat_le s.start t.start && nat_le t.end s.end
 
--- a place is in its file where it ends behind its beginning, and not behind the file's end
+-- a place is in its file where it ends after its beginning, and not past the file's end
 abbrev pub is_within : List ℕ → Stretch → Bool
 is_within bytes s = nat_le s.start s.end && nat_le s.end (length bytes)
 
@@ -69,7 +69,7 @@ abbrev pub joined : List (List ℕ) → Option (List ℕ)
 joined [] = None
 joined (row ∷ rows) = Some (fold row_behind row rows)
 
--- what stands behind a place's name, line and column
+-- what stands after a place's name, line and column
 abbrev pub text_behind : Option (List ℕ) → List ℕ
 text_behind None = []
 text_behind (Some text) = codes ": " ++ text

@@ -69,7 +69,7 @@ abbrev pub is_open : List Mark → List ℕ → List ℕ → Stretch → Bool �
 is_open marks name bytes s own n =
     list_any (meets name bytes s own n) marks && not (list_any (clashes_in bytes s n) marks)
 
--- the first list that is open, of as many as are left from a number on; else the number behind them
+-- the first list that is open, of as many as are left from a number on; else the number after them
 abbrev pub first_open : (ℕ → Bool) → ℕ → ℕ → ℕ
 first_open opens n zero = n
 first_open opens n (suc left) = if opens n then n else first_open opens (n + 1) left

@@ -1,4 +1,4 @@
--- Edits behind references.
+-- The edits that references refer to.
 use Rattle.std.specs.Prelude.{List, map}
 use Rattle.miette_readers.specs.rules.Proposing.{FileEdit}
 use denote.Ref.{Bor}

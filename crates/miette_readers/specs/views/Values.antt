@@ -1,4 +1,4 @@
--- JSON values, those behind references, and texts.
+-- JSON values, those that references refer to, and texts.
 use Rattle.std.specs.Prelude.{ℕ, List, map}
 use Rattle.serde_json.specs.Data.{Data}
 use Rattle.serde_json.specs.View.{view}

@@ -38,7 +38,7 @@ asked_fixes false fixes = filter (λ fix. is_sure fix.applicability) fixes
 abbrev pub asked_edits : Bool → Tree → List (List Replacement)
 asked_edits all t = map (λ fix. fix.edits) (asked_fixes all (fixes_over t))
 
--- what a source lends with as many lines as can be asked for
+-- what a read of a source gives with as many lines as can be asked for
 abbrev pub whole_text : Source → List ℕ
 whole_text source = (contents_of source (record { offset = 0; len = 0 }) 0 18446744073709551615).bytes
 

@@ -24,7 +24,7 @@ letters = codes "abcdefghijklmnopqrstuvwxyz\n"
 abbrev pub letters_line : Line
 letters_line = record { start = 0; text_end = 26; end = 27 }
 
--- the letters behind a first line of one character
+-- the letters after a first line of one character
 abbrev pub lower_letters : List ℕ
 lower_letters = codes "a\nabcdefghijklmnopqrstuvwxyz\n"
 
@@ -40,7 +40,7 @@ abbrev pub letters_shown : SnippetSettings → List DrawnLabel → List ℕ
 letters_shown s labels =
     map (λ g. g.code) (glyphs_of (text_of_line s labels letters_line (cells_of s letters letters_line) []))
 
--- and of those behind a first line
+-- and of those after a first line
 abbrev pub lower_shown : SnippetSettings → List DrawnLabel → List ℕ
 lower_shown s labels =
     map (λ g. g.code) (glyphs_of (text_of_line s labels lower_line (cells_of s lower_letters lower_line) []))

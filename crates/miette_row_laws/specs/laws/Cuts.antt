@@ -27,7 +27,7 @@ abbrev pub by_stretch : List Stretch → List (Cell × Bool)
 by_stretch [] = []
 by_stretch (s ∷ later) = map (λ cell. (cell, s.shown)) s.cells ++ by_stretch later
 
--- the cells of stretches, each with whether its stretch is shown or has no more than so many columns
+-- the cells of stretches, each with whether its stretch is shown or has no more than `many` columns
 abbrev pub by_kept : ℕ → List Stretch → List (Cell × Bool)
 by_kept many [] = []
 by_kept many (s ∷ later) = map (λ cell. (cell, is_kept many s)) s.cells ++ by_kept many later
@@ -38,7 +38,7 @@ AreStretches [] = Unit {0}
 AreStretches (s ∷ []) = s.cells ≢ []
 AreStretches (s ∷ next ∷ later) = (s.cells ≢ []) × (s.shown ≢ next.shown) × AreStretches (next ∷ later)
 
--- Cells are cut by which of them are near, where so many dots stand for what is left out: they make up parts that are
+-- Cells are cut by which of them are near, where `many` dots stand for what is left out: they make up parts that are
 -- near, as their cells are, and others between those; and in the stretches of the cut each cell stands once and in
 -- order, shown where its part is near, or no wider than the dots. Of two stretches side by side one is shown.
 pub record IsCutBy (near : Cell → Bool) (many : ℕ) (cells : List Cell) (cut : List Stretch) : Type 0 where
@@ -48,7 +48,7 @@ pub record IsCutBy (near : Cell → Bool) (many : ℕ) (cells : List Cell) (cut 
   pub shown : by_stretch cut ≡ by_kept many parts
   pub joined : AreStretches cut
 
--- some column of a cell is at most so many columns away from this one
+-- some column of a cell is at most `reach` columns away from this one
 pub record IsWithin (reach : ℕ) (cell : Cell) (column : ℕ) : Type 0 where
   pub own : ℕ
   pub first : cell.from ≤ own
@@ -56,14 +56,14 @@ pub record IsWithin (reach : ℕ) (cell : Cell) (column : ℕ) : Type 0 where
   pub before : own ≤ column + reach
   pub behind : column ≤ own + reach
 
--- Whether a cell of a line is near, by so many columns around its ends; or where it has no ends, whether the cell has
+-- Whether a cell of a line is near, by `reach` columns around its ends; or where it has no ends, whether the cell has
 -- room within the limit.
 abbrev pub is_near_by : ℕ → ℕ → ℕ → List ℕ → Cell → Bool
 is_near_by limit many reach [] cell = has_room limit many cell
 is_near_by limit many reach (end ∷ ends) cell = is_near reach (end ∷ ends) cell
 
--- So many columns are the reach of a line with these ends: no more than the limit; by them, if they are any, the row's
--- text has no more columns than the limit, and by each larger number up to the limit it has more.
+-- `reach` is the reach of a line with these ends, in columns: no more than the limit; by them, if they are any, the
+-- row's text has no more columns than the limit, and by each larger number up to the limit it has more.
 pub record IsReach (limit many : ℕ) (ends : List ℕ) (cells : List Cell) (reach : ℕ) : Type 0 where
   pub bounded : reach ≤ limit
   pub fits : 0 < reach → text_columns many (cut_at many reach ends cells) ≤ limit
@@ -83,8 +83,8 @@ abbrev pub pieces_shown : Run → List Stretch → List Glyph
 pieces_shown run [] = []
 pieces_shown run (s ∷ later) = (if s.shown then printed_cells s.cells else run.glyphs) ++ pieces_shown run later
 
--- What stands at a column: the character that has it, and how many of its own columns are before that one; behind the
--- last character none, and how far behind.
+-- What stands at a column: the character that has it, and how many of its own columns are before that one; after the
+-- last character none, and how far after it.
 abbrev pub standing_at : List Glyph → ℕ → Option Glyph × ℕ
 standing_at [] column = (None, column)
 standing_at (g ∷ glyphs) column =
@@ -115,13 +115,13 @@ AreMoved run cells cut (mark ∷ marks) (moved ∷ more) =
 
 -- ---- how wide a row is
 
--- each of some cells has at most so many columns
+-- each of some cells has at most `widest` columns
 abbrev pub AreAsWide : ℕ → List Cell → Type 0
 AreAsWide widest [] = Unit {0}
 AreAsWide widest (cell ∷ cells) = (cell.until - cell.from ≤ widest) × AreAsWide widest cells
 
--- The most columns that so many ends of a line need in its row, by its widest cell: that of each end and dots before
--- it, and dots behind the last.
+-- The most columns that `ends` ends of a line need in its row, by its widest cell: that of each end and dots before it,
+-- and dots after the last.
 abbrev pub most_columns : ℕ → ℕ → ℕ → ℕ
 most_columns many widest ends = ends * (widest + many) + many
 

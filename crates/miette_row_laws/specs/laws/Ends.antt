@@ -17,12 +17,12 @@ last_line [] = record { start = 0; text_end = 0; end = 0 }
 last_line (line ∷ []) = line
 last_line (line ∷ next ∷ lines) = last_line (next ∷ lines)
 
--- whether a label stands behind a line's text, as an empty one that lies on this line alone
+-- whether a label stands after a line's text, as an empty one that lies on this line alone
 abbrev pub stands_behind : Line → DrawnLabel → Bool
 stands_behind line label = label.behind && (is_empty label && is_one_line line label)
 
--- whether the labels at the end of a source of so many bytes are drawn: where the settings say so, and one of them has
--- a line of context
+-- whether the labels at the end of a source of `n` bytes are drawn: where the settings say so, and one of them has a
+-- line of context
 abbrev pub draws_ends : SnippetSettings → ℕ → List Label → Bool
 draws_ends s n labels = s.layout.end_labels && some_shows_end s.layout.context_lines n labels
 
@@ -30,24 +30,24 @@ draws_ends s n labels = s.layout.end_labels && some_shows_end s.layout.context_l
 abbrev pub asks_ends : SnippetSettings → ℕ → List Label → Bool
 asks_ends s n labels = s.layout.end_labels && some_shows_end 1 n labels
 
--- just the labels that begin at the source's end stand behind the text of its last line
+-- just the labels that begin at the source's end stand after the text of its last line
 abbrev pub EndsStandBehind : SnippetSettings → List ℕ → List Label → Type 0
 EndsStandBehind s bytes labels =
     map (stands_behind (last_line (lines_of bytes))) (drawn_labels s (length bytes) labels)
     ≡ map (is_at_end (length bytes)) labels
 
--- Of these marks, before which others end at a column, each of a label that stands behind a text of so many columns
+-- Of these marks, before which others end at a column, each of a label that stands after a text of `columns` columns
 -- begins in the column after the text, or where the mark before it ends, whichever is later.
 abbrev pub BeginBehind : ℕ → ℕ → List Mark → Type 0
 BeginBehind columns reached [] = Unit {0}
 BeginBehind columns reached (mark ∷ marks) =
     (mark.label.behind ≡ true → mark.from ≡ max columns reached) × BeginBehind columns mark.until marks
 
--- behind the columns of a line's text
+-- after the columns of a line's text
 abbrev pub AreBehindText : Text → List DrawnLabel → Type 0
 AreBehindText text labels = BeginBehind text.width 0 (marks text labels)
 
--- in a line's row behind what is shown of the text, also where the line is cut
+-- in a line's row after what is shown of the text, also where the line is cut
 abbrev pub AreBehindShown : SnippetSettings → List DrawnLabel → Line → List Cell → List Highlight → Type 0
 AreBehindShown s labels line cells pieces =
     BeginBehind (columns_of (glyphs_of (text_of_line s labels line cells pieces))) 0

@@ -12,8 +12,8 @@ abbrev pub HasByte : Cell → ℕ → Type 0
 HasByte cell offset = (cell.start ≤ offset) × (offset < cell.after)
 
 -- Where the mark before it ends at a column, a mark begins at the first column of the cell that has its label's first
--- byte, or at that one, if it is later. It ends behind the last column of the cell that has the label's last byte, or
--- has one column, if that is more; an empty label's mark has one.
+-- byte, or at that one, if it is later. It ends with the last column of the cell that has the label's last byte, or has
+-- one column, if that is more; an empty label's mark has one.
 pub record StandsUnder (cells : List Cell) (reached : ℕ) (mark : Mark) : Type 0 where
   pub first : (cell : Cell) → Contains cells cell → HasByte cell mark.label.start → mark.label.behind ≡ false →
       mark.from ≡ max cell.from reached
@@ -21,22 +21,22 @@ pub record StandsUnder (cells : List Cell) (reached : ℕ) (mark : Mark) : Type 
       HasByte cell (mark.label.after - 1) → mark.until ≡ max cell.until (mark.from + 1)
   pub empty : is_empty mark.label ≡ true → mark.until ≡ mark.from + 1
 
--- each mark, behind one that ends at a column
+-- each mark, after one that ends at a column
 abbrev pub StandUnder : List Cell → ℕ → List Mark → Type 0
 StandUnder cells reached [] = Unit {0}
 StandUnder cells reached (mark ∷ marks) = StandsUnder cells reached mark × StandUnder cells mark.until marks
 
--- Of a text that ends at an offset and has so many columns: where the mark before it ends at a column, a mark whose
--- label begins where the text ends begins in the column after the text, one whose label begins behind that offset one
--- column further on, or each where that other mark ends, if that is later. A mark whose label ends behind the text ends
--- behind the column after it, or has one column, if that is more.
+-- Of a text that ends at an offset and has `width` columns: where the mark before it ends at a column, a mark whose
+-- label begins where the text ends begins in the column after the text, one whose label begins after that offset one
+-- column further on, or each where that other mark ends, if that is later. A mark whose label ends after the text ends
+-- with the column after the text, or has one column, if that is more.
 pub record StandsPast (text_end width reached : ℕ) (mark : Mark) : Type 0 where
   pub at_end : mark.label.start ≡ text_end → mark.label.behind ≡ false → mark.from ≡ max width reached
   pub behind_end : text_end < mark.label.start → mark.label.behind ≡ false → mark.from ≡ max (width + 1) reached
   pub last : mark.label.start < mark.label.after → text_end < mark.label.after →
       mark.until ≡ max (width + 1) (mark.from + 1)
 
--- each mark, behind one that ends at a column
+-- each mark, after one that ends at a column
 abbrev pub StandPast : ℕ → ℕ → ℕ → List Mark → Type 0
 StandPast text_end width reached [] = Unit {0}
 StandPast text_end width reached (mark ∷ marks) =

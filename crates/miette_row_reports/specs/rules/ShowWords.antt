@@ -41,7 +41,7 @@ asked_from root from fix (word ∷ (value ∷ words)) =
 abbrev pub asked_in_front : List (List ℕ) → Option ShowRequest
 asked_in_front words = asked_from None Auto false words
 
--- what is fixed isn't drawn: no word of `job` stands behind
+-- what is fixed isn't drawn: no word of `job` stands after `--fix`
 abbrev pub is_alone : ShowRequest → Bool
 is_alone asked = not asked.fix || (length asked.options == 0)
 

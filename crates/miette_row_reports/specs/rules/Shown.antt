@@ -1,6 +1,6 @@
 -- What is shown of rows.
 use Rattle.std.specs.Prelude.{◌≡◌, ℕ, ◌+◌, List, [], ◌∷◌, ◌++◌, Option, Some, None, Bool, true, false, IsUtf8}
-use Rattle.std.specs.Prelude.{option_and_then, option_map, is_some, if◌then◌else◌, map}
+use Rattle.std.specs.Prelude.{◌||◌, option_and_then, option_map, is_some, if◌then◌else◌, map}
 use Rattle.std.specs.List.{All, flat_map, list_any}
 use Rattle.serde_json.specs.Data.{Data}
 use Rattle.serde_json.specs.Find.{as_array}
@@ -84,7 +84,7 @@ is_grave (Some Error) = true
 abbrev pub tree_grave : Tree → Bool
 tree_grave t = is_grave (head t).severity
 
--- the texts of reports, in their order, with an empty row behind each
+-- the texts of reports, in their order, with an empty row after each
 abbrev pub AreDrawn : (Tree → List ℕ → Type 0) → List Tree → List ℕ → Type 0
 AreDrawn gives [] text = text ≡ []
 AreDrawn gives (t ∷ ts) text = (drawn : List ℕ) × (rest : List ℕ) × gives t drawn × AreDrawn gives ts rest
@@ -122,7 +122,7 @@ is_unread s = kind_unread s.kind
 abbrev pub is_error : Shown → Bool
 is_error s = kind_grave s.kind
 
--- A row that isn't shown is passed on beside what is: as it is, behind a note where it can't be read.
+-- A row that isn't shown is passed on beside what is: as it is, after a note where it can't be read.
 abbrev pub passed_on : ℕ → RowKind → List ℕ → List ℕ
 passed_on n Passed row = row
 passed_on n Unread row = note_row n ++ row

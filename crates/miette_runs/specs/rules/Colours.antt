@@ -4,7 +4,7 @@ use Rattle.miette_basics.specs.rules.Lists.{is_nil}
 use Rattle.miette_runs.specs.rules.Sequences.{is_bell, is_line_feed, is_parameter}
 use Rattle.miette_style.specs.rules.Escapes.{is_escape}
 
--- `m`, behind digits and `;`
+-- `m`, after digits and `;`
 abbrev pub is_colour_end : List ℕ → Bool
 is_colour_end [] = false
 is_colour_end (c ∷ cs) = if c == 109 then is_nil cs else is_parameter c && is_colour_end cs
@@ -22,7 +22,7 @@ abbrev pub is_backslash : List ℕ → Bool
 is_backslash [] = false
 is_backslash (c ∷ cs) = c == 92 && is_nil cs
 
--- BEL or `ESC \`, behind codes that are no escape, BEL or line feed
+-- BEL or `ESC \`, after codes that are no escape, BEL or line feed
 abbrev pub is_link_end : List ℕ → Bool
 is_link_end [] = false
 is_link_end (c ∷ cs) =

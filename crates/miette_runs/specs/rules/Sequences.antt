@@ -42,18 +42,18 @@ abbrev pub one_more : ℕ → ℕ
 one_more zero = zero
 one_more (suc n) = suc (suc n)
 
--- Behind `ESC [`: up to a code 0x40 to 0x7E, on this line.
+-- After `ESC [`: up to a code 0x40 to 0x7E, on this line.
 abbrev pub control_len : List ℕ → ℕ
 control_len [] = 0
 control_len (c ∷ cs) = if is_line_feed c then 0 else if is_final c then 1 else one_more (control_len cs)
 
--- Behind `ESC ]`: up to BEL or `ESC \`, on this line.
+-- After `ESC ]`: up to BEL or `ESC \`, on this line.
 abbrev pub command_len : List ℕ → ℕ
 command_len [] = 0
 command_len (c ∷ cs) = if is_line_feed c then 0 else if is_bell c then 1 else if begins_terminator (c ∷ cs) then 2
     else one_more (command_len cs)
 
--- Behind `ESC [`: digits and `;`, up to an `m`.
+-- After `ESC [`: digits and `;`, up to an `m`.
 abbrev pub colour_end_len : List ℕ → ℕ
 colour_end_len [] = 0
 colour_end_len (c ∷ cs) = if c == 109 then 1 else if is_parameter c then one_more (colour_end_len cs) else 0
@@ -89,7 +89,7 @@ pub data Token : Type 0 where
   -- a whole sequence
   Sequence : List ℕ → Token
 
--- the tokens behind the next codes, which are in a sequence already
+-- the tokens after the next codes, which are in a sequence already
 
 abbrev pub tokens_behind : ℕ → List ℕ → List Token
 tokens_behind skipped [] = []

@@ -22,7 +22,7 @@ kept_len at [] tags = 0
 kept_len at (c ∷ cs) tags = if is_line_feed c && only_feeds (interleaving (suc at) cs (beyond at tags)) then 0
     else suc (kept_len (suc at) cs (beyond at tags))
 
--- a tag where so many characters less are before it, and one where no more than that are
+-- a tag with `n` fewer characters before it, and one with at most `n`
 abbrev pub lowered_tag : ℕ → Tag → Tag
 lowered_tag n m = record { at = m.at - n; sign = m.sign }
 

@@ -21,7 +21,7 @@ tag_text m = sign_text m.sign.value
 abbrev pub tag_token : Tag → Token
 tag_token m = Sequence (tag_text m)
 
--- of tags in order, those that stand before the character at a place, and those behind it
+-- of tags in order, those that stand before the character at a place, and those after it
 abbrev pub upto : ℕ → List Tag → List Tag
 upto at [] = []
 upto at (m ∷ ms) = if nat_le m.at at then m ∷ upto at ms else []
@@ -35,7 +35,7 @@ abbrev pub interleaving : ℕ → List ℕ → List Tag → List Token
 interleaving at [] tags = map tag_token tags
 interleaving at (c ∷ cs) tags = map tag_token (upto at tags) ++ Character c ∷ interleaving (suc at) cs (beyond at tags)
 
--- no tag stands behind that many characters
+-- no tag stands after that many characters
 abbrev pub AreWithin : ℕ → List Tag → Type 0
 AreWithin n tags = All (λ (m : Tag). m.at ≤ n) tags
 
@@ -47,7 +47,7 @@ cells_at at [] tags = []
 cells_at at (c ∷ cs) tags = record { tags = map tag_text (upto at tags); code = c }
     ∷ cells_at (suc at) cs (beyond at tags)
 
--- the tags that are left behind them
+-- the tags that are left after them
 abbrev pub left_at : ℕ → List ℕ → List Tag → List Tag
 left_at at [] tags = tags
 left_at at (c ∷ cs) tags = left_at (suc at) cs (beyond at tags)

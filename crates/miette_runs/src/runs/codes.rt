@@ -21,12 +21,12 @@ pub trait Codes: Copy {
         requires { i < length (codes self) }
         ensures { result ≡ slice_index (codes self) i };
 
-    /// The first ones, so many.
+    /// The first `n` codes.
     fn front(self, n: usize) -> Self
         requires { n ≤ length (codes self) }
         ensures { codes result ≡ take n (codes self) };
 
-    /// Those behind so many.
+    /// The codes after the first `n`.
     fn from(self, n: usize) -> Self
         requires { n ≤ length (codes self) }
         ensures { codes result ≡ drop n (codes self) };

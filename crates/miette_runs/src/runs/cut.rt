@@ -43,7 +43,7 @@ fn kept_len(codes: &[char], tags: &[Tag]) -> usize
     if are_colours(left) { kept } else { codes.len() }
 }
 
-// So many characters less are before each tag.
+// Each tag has `by` fewer characters before it.
 fn lower(tags: &mut [Tag], by: usize)
     ensures { tags.new ≡ map (lowered_tag by) tags.old }
 {
@@ -53,7 +53,7 @@ fn lower(tags: &mut [Tag], by: usize)
     }
 }
 
-// No more than so many characters are before each tag.
+// Each tag has at most `at` characters before it.
 fn cap(tags: &mut [Tag], at: usize)
     ensures { tags.new ≡ map (capped_tag at) tags.old }
 {
@@ -75,7 +75,7 @@ impl Runs {
         }
     }
 
-    /// Cuts the line feeds at the end; colours behind and between them stay.
+    /// Cuts the line feeds at the end; colours after and between them stay.
     pub(crate) fn cut_end(&mut self)
         ensures { self.new ≡ cut_end self.old }
     {

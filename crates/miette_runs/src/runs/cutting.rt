@@ -22,7 +22,7 @@ fn settle(alloc: Global, runs: Runs) -> Result<Runs, AllocError>
 /// Without the line feeds at the beginning; colours before and between them stay.
 ///
 /// # Errors
-/// `AllocError` where memory is refused. The runs are then let go.
+/// `AllocError` where memory is refused. The runs are then dropped.
 pub fn without_leading(alloc: Global, runs: Runs) -> Result<Runs, AllocError>
     ensures { IfOk result (λ r. spell r ≡ without_leading (spell runs)) }
 {
@@ -31,10 +31,10 @@ pub fn without_leading(alloc: Global, runs: Runs) -> Result<Runs, AllocError>
     Ok(found)
 }
 
-/// Without the line feeds at the end; colours behind and between them stay.
+/// Without the line feeds at the end; colours after and between them stay.
 ///
 /// # Errors
-/// `AllocError` where memory is refused. The runs are then let go.
+/// `AllocError` where memory is refused. The runs are then dropped.
 pub fn without_trailing(alloc: Global, runs: Runs) -> Result<Runs, AllocError>
     ensures { IfOk result (λ r. spell r ≡ without_trailing (spell runs)) }
 {

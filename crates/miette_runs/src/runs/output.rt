@@ -50,8 +50,7 @@ fn print_link(out: &mut String, url: &str) -> Result<(), AllocError>
 {
     out.push_str("\u{1B}]8;;")?;
     out.push_str(url)?;
-    out.push_str("\u{1B}\\")?;
-    Ok(())
+    out.push_str("\u{1B}\\")
 }
 
 impl Output {
@@ -87,7 +86,7 @@ impl Output {
         Ok(())
     }
 
-    /// Takes room for so many copies of a character at once. What was appended stays.
+    /// Takes room for `many` copies of a character at once. What was appended stays.
     ///
     /// # Errors
     /// `AllocError` where memory is refused, or the copies have more bytes than a `usize` counts.

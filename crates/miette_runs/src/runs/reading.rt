@@ -70,7 +70,7 @@ fn cut(alloc: Global, codes: &[char]) -> Result<Runs, AllocError>
 /// The runs that characters spell: each whole sequence in them is a sign.
 ///
 /// # Errors
-/// `AllocError` where memory is refused. The characters are then let go.
+/// `AllocError` where memory is refused. The characters are then dropped.
 pub fn read(alloc: Global, codes: Vec<char>) -> Result<Runs, AllocError>
     ensures tokens { IfOk result (λ r. r ≡ tokens codes.items) }
     ensures text { IfOk result (λ r. spell r ≡ codes.items) }

@@ -10,7 +10,7 @@ const BELL: char = '\u{7}';
 
 const ESCAPE: char = '\u{1B}';
 
-// Behind `ESC [`: how many codes there are up to the last one of the sequence, 0 where it isn't finished.
+// After `ESC [`: how many codes there are up to the last one of the sequence, 0 where it isn't finished.
 fn control_len(codes: &[char]) -> usize
     ensures value { result ≡ control_len codes.now }
     ensures within { result ≤ length codes.now }
@@ -33,7 +33,7 @@ fn begins_terminator(codes: &[char]) -> bool
     1 < codes.len() && codes[0] == ESCAPE && codes[1] == '\\'
 }
 
-// Behind `ESC ]`: how many codes there are up to BEL or `ESC \`, 0 where it isn't finished.
+// After `ESC ]`: how many codes there are up to BEL or `ESC \`, 0 where it isn't finished.
 fn command_len(codes: &[char]) -> usize
     ensures value { result ≡ command_len codes.now }
     ensures within { result ≤ length codes.now }
@@ -98,7 +98,7 @@ fn begins_command(codes: &[char]) -> bool
     }
 }
 
-/// Whether it is known behind a character that a command is not finished on this line.
+/// Whether it is known after a character that a command is not finished on this line.
 #[inline]
 pub(crate) fn stays_open(codes: &[char], i: usize, unfinished: bool) -> bool
     requires inside { i < length codes.now }

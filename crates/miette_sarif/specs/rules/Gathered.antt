@@ -42,7 +42,7 @@ level (Some Error) = codes "error"
 level (Some Warning) = codes "warning"
 level (Some Advice) = codes "note"
 
--- of a report over a source, before whose further sources so many were read
+-- of a report over a source, before whose further sources `n` sources were read
 abbrev pub finding : Option SeenSource → SourceFaults → ℕ → Diagnosis → Cause → Finding
 finding over faults n m c =
     let groups = groups_of over (seen_further faults.report.further n m.snippets) m in
@@ -60,8 +60,8 @@ finding over faults n m c =
       unapplied = refused over m.fixes ++ cause_refused over faults.causes later c;
     }
 
--- Of a report that inherits a source, or none, and of those that are related to it, depth first; so many sources were
--- read before.
+-- Of a report that inherits a source, or none, and of those that are related to it, depth first; `n` sources were read
+-- before.
 abbrev mutual
   pub findings : ℕ → Option SeenSource → SourceAnswers → Tree → List Finding
   findings n inherited a (tree m s c r) =

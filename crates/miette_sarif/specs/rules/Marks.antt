@@ -60,7 +60,7 @@ pub record Group : Type 0 where
 abbrev pub group_over : Option SeenSource → List Label → Group
 group_over over labels = record { over = over; labels = in_order labels }
 
--- sources before the first of which so many were read
+-- sources before the first of which `n` were read
 abbrev pub seen_further : List Bool → ℕ → List Section → List SeenSource
 seen_further faults n [] = []
 seen_further faults n (s ∷ ss) = seen (first_fault faults) n s.source ∷ seen_further (later_faults faults) (n + 1) ss
@@ -110,7 +110,7 @@ pick_over test (Some it) labels =
 abbrev pub pick_in : (Label → Bool) → Group → Option (Mark × Group)
 pick_in test g = pick_over test g.over g.labels
 
--- in front of others, or else these behind a group
+-- in front of others, or else these after a group
 abbrev pub picked_or : Option (Mark × Group) → Group → List Group → Option Picked → Option Picked
 picked_or None g gs later = option_map (λ it. record { mark = it.mark; others = g ∷ it.others }) later
 picked_or (Some found) g gs later = Some (record { mark = found.0; others = found.1 ∷ gs })

@@ -5,7 +5,7 @@ use Rattle.miette_tree.specs.rules.Diagnosis.{Section}
 use Rattle.miette_tree.specs.rules.Tree.{Tree, tree, Cause, diagnostic, texts, Trees, no_trees, more_trees}
 use Rattle.miette_sarif.specs.rules.Findings.{SeenSource}
 
--- a source before which so many were read; without name and text where its read met a fault
+-- a source before which `n` were read; without name and text where its read met a fault
 abbrev pub seen : Bool → ℕ → Source → SeenSource
 seen fault n s =
     if fault then record { source = record { name = []; number = n }; text = None }

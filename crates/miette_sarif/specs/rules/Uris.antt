@@ -12,12 +12,12 @@ use Rattle.miette_sarif.specs.declared.uri.TheConstants.{SEGMENT, PATH, ADDRESS}
 abbrev pub is_scheme_byte : ℕ → Bool
 is_scheme_byte x = is_ascii_alphanumeric x || ((x == 43) || ((x == 45) || (x == 46)))
 
--- The bytes behind the `:` of a scheme, whose first byte was a letter; none where another byte comes before a `:`.
+-- The bytes after the `:` of a scheme, whose first byte was a letter; none where another byte comes before a `:`.
 abbrev pub behind_scheme : List ℕ → Option (List ℕ)
 behind_scheme [] = None
 behind_scheme (x ∷ xs) = if x == 58 then Some xs else if is_scheme_byte x then behind_scheme xs else None
 
--- the bytes behind the `:` of a scheme; none where a text begins with no scheme
+-- the bytes after the `:` of a scheme; none where a text begins with no scheme
 abbrev pub after_scheme : List ℕ → Option (List ℕ)
 after_scheme [] = None
 after_scheme (x ∷ xs) = if is_ascii_alphabetic x then behind_scheme xs else None
@@ -47,7 +47,7 @@ address_uri [] = []
 address_uri (x ∷ xs) =
     (if (x == 37) && begins_with_hex xs then x ∷ [] else percent_encode ADDRESS (x ∷ [])) ++ address_uri xs
 
--- A path: `:` stands for itself behind a first `/`, where it begins no scheme.
+-- A path: `:` stands for itself after a first `/`, where it begins no scheme.
 abbrev pub path_at : List ℕ → Option ℕ → List ℕ
 path_at path None = percent_encode SEGMENT path
 path_at path (Some at) = percent_encode SEGMENT (take at path) ++ percent_encode PATH (drop at path)

@@ -49,7 +49,7 @@ with_fixes over [] kept = kept
 with_fixes over (fix ∷ fixes) kept =
     with_fixes over fixes (with_fix (proposal_over over fix) fix.message kept)
 
--- the marks of a report over a source: its primary one, and all others behind those that were there
+-- the marks of a report over a source: its primary one, and all others after those that were there
 pub record AddsMarks (over : Option SeenSource) (n : ℕ) (m : Diagnosis) (primary : Option Mark) (old new : List Mark)
     : Type 0 where
   pub faults : List Bool

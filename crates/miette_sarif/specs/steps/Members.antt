@@ -3,7 +3,7 @@ use Rattle.std.specs.Prelude.{Bool, true, false, ℕ, List, [], ◌∷◌, ◌++
 use Rattle.miette_json.specs.rules.Json.{json_text, quoted_text}
 use Rattle.miette_sarif.specs.rules.Objects.{Pairs}
 
--- further members of an object, each behind a comma
+-- further members of an object, each after a comma
 abbrev pub further : Pairs → List ℕ
 further [] = []
 further (m ∷ ms) = 44 ∷ (quoted_text m.0 ++ (58 ∷ 32 ∷ (json_text m.1 ++ further ms)))

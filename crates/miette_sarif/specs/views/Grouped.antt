@@ -6,7 +6,7 @@ use Rattle.miette_sarif.specs.rules.Marks.{Group}
 use Rattle.miette_sarif.specs.views.Sources.{over_of}
 use denote.Ref.{Bor}
 
--- the labels behind references
+-- the labels that references refer to
 abbrev pub labels_in : List (Bor Label) → List Label
 labels_in labels = map (λ l. l.now) labels
 

@@ -9,6 +9,6 @@ use denote.Ref.{Bor}
 abbrev pub seen_of : Seen → SeenSource
 seen_of it = record { source = name_of it.source; text = it.text }
 
--- a source that is lent, or none
+-- a source that is borrowed, or none
 abbrev pub over_of : Option (Bor Seen) → Option SeenSource
 over_of over = option_map (λ it. seen_of it.now) over

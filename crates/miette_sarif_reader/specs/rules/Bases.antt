@@ -32,7 +32,7 @@ bases_of run = object_at (codes "originalUriBaseIds") run
 abbrev pub base_of : Option Data → Data → Option Data
 base_of bases l = option_and_then (λ id. option_and_then (object_at id) bases) (text_at (codes "uriBaseId") l)
 
--- What stands in a base begins so, with so many further bases in front at most. One that isn't told is the root.
+-- What stands in a base begins so; at most n bases count, this one and those in front. One that isn't told is the root.
 unfoldable pub base_uri : ℕ → Option Data → Option Data → List ℕ
 base_uri zero bases base = []
 base_uri (suc n) bases None = []

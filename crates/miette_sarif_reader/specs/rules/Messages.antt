@@ -7,8 +7,8 @@ use Rattle.std.specs.Str.Parse.{digits_value}
 use Rattle.serde_json.specs.Data.{Data}
 use Rattle.serde_json.specs.Find.{as_str}
 
--- A piece of a text: what is shown for it, how many of its bytes stand behind its first one, and whether a link's text
--- goes on behind it.
+-- A piece of a text: what is shown for it, how many of its bytes stand after its first one, and whether a link's text
+-- goes on after it.
 pub record Piece : Type 0 where
   pub shown : List ℕ
   pub further : ℕ
@@ -45,7 +45,7 @@ digit_count text = position_or_len is_no_digit text
 abbrev pub argument : List Data → ℕ → Option (List ℕ)
 argument arguments n = option_and_then as_str (slice_get arguments n)
 
--- the argument whose number begins a text, with `}` behind it
+-- the argument whose number begins a text, with `}` after it
 abbrev pub argument_at : List Data → List ℕ → Option (List ℕ)
 argument_at arguments text =
     if nat_lt 0 (digit_count text) && (slice_index text (digit_count text) == 125)
@@ -74,7 +74,7 @@ bracket_at escaped (b ∷ bs) =
 abbrev pub ends_destination : ℕ → Bool
 ends_destination b = not (nat_lt 32 b && nat_lt b 127) || ((b == 41) || is_bracket b)
 
--- how many bytes the destination has that stands behind the first byte of a text
+-- how many bytes the destination has that stands after the first byte of a text
 abbrev pub destination_count : List ℕ → ℕ
 destination_count text = position_or_len ends_destination (drop 1 text)
 
@@ -84,7 +84,7 @@ has_destination text =
     (slice_index text 0 == 40)
     && (nat_lt 0 (destination_count text) && (slice_index text (destination_count text + 1) == 41))
 
--- a link goes on behind its `[`: its text, which has no bracket that isn't escaped, `]`, and its destination
+-- a link goes on after its `[`: its text, which has no bracket that isn't escaped, `]`, and its destination
 abbrev pub is_link : List ℕ → Bool
 is_link text =
     (slice_index text (bracket_at false text) == 93) && has_destination (drop (bracket_at false text + 1) text)
@@ -118,7 +118,7 @@ piece_of arguments in_link b text =
     else if b == 91 then opening_piece in_link text
     else if b == 93 then closing_piece in_link text else plain in_link b
 
--- what is shown of a text, but for so many bytes at its beginning
+-- what is shown of a text, but for the `n` bytes at its beginning
 abbrev pub shown_behind : List Data → Bool → ℕ → List ℕ → List ℕ
 shown_behind arguments in_link n [] = []
 shown_behind arguments in_link zero (b ∷ bs) =

@@ -52,7 +52,7 @@ abbrev pub line_size : List (List ℕ) → List ℕ → Option ℕ
 line_size newlines bytes =
     ended_by (text_size newlines bytes) (end_size newlines (drop (text_size newlines bytes) bytes))
 
--- where the line begins that stands so many lines behind the one that begins here
+-- where the line begins that stands n lines after the one that begins here
 abbrev pub line_behind : List (List ℕ) → List ℕ → ℕ → ℕ → Option ℕ
 line_behind newlines bytes at zero = Some at
 line_behind newlines bytes at (suc k) =

@@ -17,7 +17,7 @@ abbrev pub encoding_of : Data → PositionEncoding
 encoding_of run =
     if bytes_eq (unwrap_or (text_at (codes "columnKind") run) []) (codes "utf16CodeUnits") then Utf16 else Utf32
 
--- So many code units behind an offset, over the characters there: inside a character its start, behind the last one
+-- `count` code units after an offset, over the characters there: inside a character its start, after the last one
 -- nowhere.
 abbrev pub units_on : PositionEncoding → ℕ → ℕ → List Character → Option ℕ
 units_on e at count [] = if count == 0 then Some at else None
@@ -27,16 +27,16 @@ units_on e at count (c ∷ cs) =
 abbrev pub units_behind : PositionEncoding → List ℕ → ℕ → ℕ → Option ℕ
 units_behind e bytes at count = units_on e at count (characters (drop at bytes))
 
--- so many code units behind the beginning of a line's text, which stops there
+-- `columns` code units after the beginning of a line's text, which stops there
 abbrev pub column_before : PositionEncoding → List ℕ → ℕ → ℕ → ℕ → ℕ
 column_before e bytes start stop columns = unwrap_or (units_behind e (take stop bytes) start columns) stop
 
--- So many columns behind the beginning of a line: behind the line's text its end, inside a character its start.
+-- `columns` columns after the beginning of a line: after the line's text its end, inside a character its start.
 abbrev pub column_at : PositionEncoding → List (List ℕ) → List ℕ → ℕ → ℕ → ℕ
 column_at e newlines bytes start columns =
     column_before e bytes start (start + text_size newlines (drop start bytes)) columns
 
--- the offset of so many columns on a line, the first with 1
+-- the offset `columns` columns after the beginning of a line; lines count from 1
 abbrev pub offset_at : PositionEncoding → List (List ℕ) → List ℕ → ℕ → ℕ → Option ℕ
 offset_at e newlines bytes zero columns = None
 offset_at e newlines bytes (suc k) columns =
@@ -70,7 +70,7 @@ abbrev pub stretch_behind : PositionEncoding → List ℕ → ℕ → Option ℕ
 stretch_behind e bytes count None = None
 stretch_behind e bytes count (Some start) = stretch_from (Some start) (units_behind e bytes start count)
 
--- so many characters from an offset in characters on
+-- `count` characters from an offset in characters on
 abbrev pub char_stretch : PositionEncoding → List ℕ → ℕ → ℕ → Option Stretch
 char_stretch e bytes from count = stretch_behind e bytes count (units_behind e bytes 0 from)
 

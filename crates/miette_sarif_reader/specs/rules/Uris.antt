@@ -4,7 +4,7 @@ use Rattle.std.specs.List.{starts_with}
 use Rattle.std.specs.Str.Lossy.{utf8_lossy}
 use Rattle.percent_encoding.specs.Percent.{percent_decode}
 
--- what stands behind a front of a text
+-- what stands after a front of a text
 unfoldable pub behind : List ℕ → List ℕ → Option (List ℕ)
 behind front text = if starts_with nat_eq text front then Some (drop (length front) text) else None
 

@@ -1,4 +1,4 @@
--- The piece that begins a text, as a program tells it: with the text behind it.
+-- The piece that begins a text, as a program tells it: with the text after it.
 use Rattle.std.specs.Prelude.{ℕ, List, Bool, drop}
 use Rattle.miette_sarif_reader.specs.rules.Messages.{Piece}
 
@@ -7,6 +7,6 @@ pub record Cut : Type 0 where
   pub rest : List ℕ
   pub in_link : Bool
 
--- a piece, of which this text stands behind the first byte
+-- a piece, of which this text stands after the first byte
 abbrev pub cut : Piece → List ℕ → Cut
 cut piece behind = record { shown = piece.shown; rest = drop piece.further behind; in_link = piece.in_link }

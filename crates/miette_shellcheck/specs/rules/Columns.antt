@@ -4,7 +4,7 @@ use Rattle.miette_positions.specs.declared.place.PositionEncoding.TheVariants.{U
 use Rattle.miette_positions.specs.rules.Regions.{stop_at}
 use Rattle.miette_readers.specs.rules.LineStarts.{start_of}
 
--- so many characters behind the beginning of a line: behind the line's text its end
+-- `count` characters after the beginning of a line: after the line's text its end
 abbrev pub characters_behind : List ℕ → ℕ → ℕ → ℕ
 characters_behind bytes start count =
     min (start + (stop_at Utf32 (drop start bytes) (record { line = 0; column = count })).offset) (length bytes)

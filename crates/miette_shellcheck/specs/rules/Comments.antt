@@ -112,7 +112,7 @@ message_of c = unwrap_or (text_at (codes "message") c) []
 abbrev pub severity_by : List ℕ → Severity
 severity_by level = if bytes_eq level (codes "error") then Error else Warning
 
--- a text with the number of a comment's code behind it
+-- a text with the number of a comment's code after it
 abbrev pub coded : List ℕ → Data → Option (List ℕ)
 coded text c = option_map (λ number. text ++ decimal number) (whole_at (codes "code") c)
 

@@ -10,7 +10,7 @@ use Rattle.miette_tool_rows.specs.declared.verdict.RowKind.TheVariants.{Passed, 
 abbrev pub AreTexts : (Tree → List ℕ → Type 0) → List Tree → Bool → List ℕ → Type 0
 AreTexts gives ts grave text = (grave ≡ list_any tree_grave ts) × AreDrawn gives ts text
 
--- A report's text is put behind one, with an empty row; and whether it is an error.
+-- A report's text is put after one, with an empty row; and whether it is an error.
 abbrev pub IsPushed : (Tree → List ℕ → Type 0) → Tree → Bool → List ℕ → List ℕ → Type 0
 IsPushed gives t error old new = (error ≡ tree_grave t)
     × ((drawn : List ℕ) × gives t drawn × (new ≡ old ++ (drawn ++ 10 ∷ [])))

@@ -59,7 +59,7 @@ abbrev pub columns_in : List Cell → ℕ
 columns_in [] = 0
 columns_in (cell ∷ cells) = (cell.until - cell.from) + columns_in cells
 
--- whether a stretch is shown: it is near, or so many dots would be no shorter
+-- whether a stretch is shown: it is near, or `many` dots would be no shorter
 abbrev pub is_kept : ℕ → Stretch → Bool
 is_kept many s = s.shown || nat_le (columns_in s.cells) many
 
@@ -80,7 +80,7 @@ text_columns many (s ∷ later) = row_columns many s + text_columns many later
 
 -- ---- which cells are near
 
--- whether some column of a cell is at most so many columns away from this one
+-- whether some column of a cell is at most `reach` columns away from this one
 abbrev pub is_within : ℕ → Cell → ℕ → Bool
 is_within reach cell column = nat_le cell.from (column + reach) && nat_lt column (cell.until + reach)
 
@@ -88,7 +88,7 @@ is_within reach cell column = nat_le cell.from (column + reach) && nat_lt column
 abbrev pub is_near : ℕ → List ℕ → Cell → Bool
 is_near reach ends cell = list_any (is_within reach cell) ends
 
--- what is shown of a line by so many columns around its ends
+-- what is shown of a line by `reach` columns around its ends
 abbrev pub cut_at : ℕ → ℕ → List ℕ → List Cell → List Stretch
 cut_at many reach ends cells = with_short many (stretches (is_near reach ends) false cells)
 
@@ -103,7 +103,7 @@ abbrev pub reach_of : ℕ → ℕ → List ℕ → List Cell → ℕ
 reach_of limit many ends cells =
     largest (λ reach. nat_le (text_columns many (cut_at many reach ends cells)) limit) limit
 
--- whether a cell stands, with the dots behind it, within the limit
+-- whether a cell stands, with the dots after it, within the limit
 abbrev pub has_room : ℕ → ℕ → Cell → Bool
 has_room limit many cell = nat_le (cell.until + many) limit
 
@@ -119,7 +119,7 @@ abbrev pub reach_at : ℕ → ℕ → List ℕ → List Cell → ℕ
 reach_at limit many [] cells = limit
 reach_at limit many (end ∷ ends) cells = reach_of limit many (end ∷ ends) cells
 
--- what is shown of a line by so many columns around its ends; its first cells, where it has none
+-- what is shown of a line by `reach` columns around its ends; its first cells, where it has none
 abbrev pub cut_by : ℕ → ℕ → ℕ → List ℕ → List Cell → List Stretch
 cut_by limit many reach [] cells = cut_to limit many [] cells
 cut_by limit many reach (end ∷ ends) cells = cut_at many reach (end ∷ ends) cells
@@ -135,7 +135,7 @@ cut_line many None ends cells = None
 cut_line many (Some limit) ends cells =
     if nat_lt (limit_of limit) (cells_width 0 cells) then Some (cut_to (limit_of limit) many ends cells) else None
 
--- the same, by so many columns around its ends, where there is a limit
+-- the same, by `reach` columns around its ends, where there is a limit
 abbrev pub cut_line_by : ℕ → ℕ → ℕ → List ℕ → List Cell → Option (List Stretch)
 cut_line_by many limit reach ends cells =
     if nat_lt (limit_of limit) (cells_width 0 cells) then Some (cut_by (limit_of limit) many reach ends cells) else None
@@ -147,14 +147,14 @@ abbrev pub bytes_in : List Cell → ℕ
 bytes_in [] = 0
 bytes_in (cell ∷ cells) = text_bytes cell.code + bytes_in cells
 
--- what a highlighter's pieces say of so many bytes that stand behind the first so many
+-- what a highlighter's pieces say of the `bytes` bytes after the first `before`
 abbrev pub pieces_within : ℕ → ℕ → List Highlight → List Highlight
 pieces_within before bytes [] = []
 pieces_within before bytes (h ∷ hs) =
     record { bytes = min (h.bytes - before) bytes; style = h.style }
     ∷ pieces_within (before - h.bytes) (bytes - (h.bytes - before)) hs
 
--- The stretches that stand behind so many bytes of the line: each as it would be shown alone, or this run of dots. So a
+-- The stretches that stand after `before` bytes of the line: each as it would be shown alone, or this run of dots. So a
 -- piece of which nothing is left out is one run.
 abbrev pub cut_runs : Run → List Highlight → ℕ → List Stretch → List Run
 cut_runs run pieces before [] = []
@@ -168,14 +168,14 @@ shown_runs run (Some cut) pieces cells = cut_runs run pieces 0 cut
 
 -- ---- where the marks are
 
--- whether the character at a column of stretches is shown; behind the last one none is left out
+-- whether the character at a column of stretches is shown; after the last one none is left out
 abbrev pub is_shown_at : List Stretch → ℕ → Bool
 is_shown_at [] column = true
 is_shown_at (s ∷ later) column =
     if nat_lt column (columns_in s.cells) then s.shown else is_shown_at later (column - columns_in s.cells)
 
--- Where a column of these stretches stands in the row, both counted from where they begin: columns behind the text
--- stay behind it, those that are left out stand at the first dot.
+-- Where a column of these stretches stands in the row, both counted from where they begin: columns after the text stay
+-- after it, those that are left out stand at the first dot.
 abbrev pub row_column : ℕ → List Stretch → ℕ → ℕ
 row_column many [] column = column
 row_column many (s ∷ later) column =

@@ -48,7 +48,7 @@ mark_run s mark = record {
       (range_with_len mark.from (mark.until - mark.from));
 }
 
--- the marks, each behind the spaces before it
+-- the marks, each after the spaces before it
 abbrev pub mark_runs : SnippetSettings → ℕ → List Mark → Row
 mark_runs s reached [] = []
 mark_runs s reached (mark ∷ marks) = blank s (mark.from - reached) ∷ mark_run s mark

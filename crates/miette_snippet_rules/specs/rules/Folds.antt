@@ -14,7 +14,7 @@ use Rattle.miette_label_rules.specs.rules.Groups.{stretch}
 abbrev pub last_byte : List ℕ → Span → ℕ
 last_byte bytes span = max span.offset (min (end_of_span span) (length bytes) - 1)
 
--- Whether a label that is folded to so many lines hides a line: it goes on over at least so many lines behind its first
+-- Whether a label that is folded to `limit` lines hides a line: it goes on over at least `limit` lines after its first
 -- one, and the line lies more lines below its first one, and more above its last one, than are shown around it.
 abbrev pub hides : ℕ → ℕ → ℕ → ℕ → ℕ → Bool
 hides limit first last around line =
@@ -51,23 +51,23 @@ place_among lines offset = count_by (λ line. is_terminated line && nat_le line.
 abbrev pub is_around : Line → Spread → Bool
 is_around line label = nat_lt line.start label.until && nat_lt label.from line.end
 
--- whether the i-th of some lines lies in the context of a label that is folded to so many lines
+-- whether the i-th of some lines lies in the context of a label that is folded to `limit` lines
 abbrev pub is_near : ℕ → List Line → ℕ → Line → Spread → Bool
 is_near limit lines i line label = is_around line label
     && not (hides limit (place_among lines label.first) (place_among lines label.last) label.around i)
 
--- line k of some lines; an empty one where there are not so many
+-- line k of some lines; an empty one where there is none
 abbrev pub line_at : List Line → ℕ → Line
 line_at [] k = record { start = 0; text_end = 0; end = 0 }
 line_at (l ∷ ls) zero = l
 line_at (l ∷ ls) (suc k) = line_at ls k
 
--- whether the i-th line lies in the contexts of labels, but not as they are folded to so many lines
+-- whether the i-th line lies in the contexts of labels, but not as they are folded to `limit` lines
 abbrev pub is_hidden : ℕ → List Line → List Spread → ℕ → Line → Bool
 is_hidden limit lines labels i line =
     list_any (is_around line) labels && not (list_any (is_near limit lines i line) labels)
 
--- whether the line before the i-th one is hidden so, or the one behind it (the first one never is)
+-- whether the line before the i-th one is hidden so, or the one after it (the first one never is)
 abbrev pub is_beside_hidden : ℕ → List Line → List Spread → ℕ → Bool
 is_beside_hidden limit lines labels i =
     is_hidden limit lines labels (i - 1) (line_at lines (i - 1))

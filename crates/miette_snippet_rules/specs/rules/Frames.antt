@@ -75,7 +75,7 @@ abbrev pub location_of : SnippetSettings → Option (List ℕ) → Bool → Opti
 location_of s name several None = []
 location_of s name several (Some place) = location s name several place
 
--- the row over a snippet's lines, with line numbers of so many digits, and whether it has several lines
+-- the row over a snippet's lines, with line numbers of `w` digits, and whether it has several lines
 abbrev pub top_row_of : SnippetSettings → ℕ → Option (List ℕ) → Bool → Option Place → Row
 top_row_of s w name several place = blank s (w + 2)
     ∷ plain_run s.width (s.theme.characters.ltop ∷ s.theme.characters.hbar ∷ []) ∷ location_of s name several place

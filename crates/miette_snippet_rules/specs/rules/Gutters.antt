@@ -24,7 +24,7 @@ abbrev pub arrow : SnippetSettings → DrawnLabel → ℕ → ℕ → Run
 arrow s label corner left = styled_run s.width label.style
     (corner ∷ replicate (left - 3) s.theme.characters.hbar ++ s.theme.characters.rarrow ∷ [])
 
--- The gutter of a number row, with so many columns left: a label that starts or ends here has an arrow, one that runs
+-- The gutter of a number row, with `left` columns left: a label that starts or ends here has an arrow, one that runs
 -- through a bar.
 abbrev pub number_gutter : SnippetSettings → Line → ℕ → List DrawnLabel → Row
 number_gutter s line left [] = blank s left ∷ []
@@ -36,7 +36,7 @@ number_gutter s line left (label ∷ labels) =
 abbrev pub bar : SnippetSettings → DrawnLabel → Run
 bar s label = styled_run s.width label.style (s.theme.characters.vbar ∷ [])
 
--- the gutter of a break's row, behind its space: a bar for each label that runs through; none where none does
+-- the gutter of a break's row, after its space: a bar for each label that runs through; none where none does
 abbrev pub break_gutter : SnippetSettings → List DrawnLabel → Row
 break_gutter s [] = []
 break_gutter s (label ∷ labels) = blank s 1 ∷ map (bar s) (label ∷ labels)
@@ -60,7 +60,7 @@ open_gutter s line left (label ∷ labels) =
 abbrev pub part_run : SnippetSettings → DrawnLabel → ℕ → List ℕ → Run
 part_run s label bar part = styled_run s.width label.style (bar ∷ 32 ∷ part)
 
--- The rows of one label's text, in a gutter of so many columns, over the labels of the line. Of several parts the
+-- The rows of one label's text, in a gutter of `columns` columns, over the labels of the line. Of several parts the
 -- gutter is one column shorter.
 abbrev pub closing_parts : SnippetSettings → Line → ℕ → List DrawnLabel → DrawnLabel → List (List ℕ) →
     List Row

@@ -46,7 +46,7 @@ EachHasPieces blank (text ∷ texts) pieces = ArePieces blank text (first_of pie
 abbrev pub texts_of : List ℕ → List Line → List (List ℕ)
 texts_of source lines = map (λ line. decoded_text (slice_range source line.start line.text_end)) lines
 
--- for each line of each snippet, with so many lines of context
+-- for each line of each snippet, with `context` lines of context
 abbrev pub SnippetsHavePieces : ℕ → Bool → Source → List Span → List (List (List Highlight)) → Type 0
 SnippetsHavePieces context blank source [] pieces = Unit {0}
 SnippetsHavePieces context blank source (group ∷ groups) pieces =
@@ -69,7 +69,7 @@ abbrev pub line_calls : List (List ℕ) → List (List Highlight) → List Call
 line_calls [] pieces = []
 line_calls (text ∷ texts) pieces = asked text (map piece_of (first_of pieces)) ∷ line_calls texts (drop 1 pieces)
 
--- for each snippet, with so many lines of context, it is restarted once with the snippet's read, and is then asked
+-- for each snippet, with `context` lines of context, it is restarted once with the snippet's read, and is then asked
 -- for the snippet's lines
 abbrev pub group_calls : ℕ → Source → List Span → List (List (List Highlight)) → List Call
 group_calls context source [] pieces = []
@@ -78,7 +78,7 @@ group_calls context source (group ∷ groups) pieces =
     ∷ line_calls (texts_of source.bytes (lines_of_contents (contents context source group))) (first_of pieces)
     ++ group_calls context source groups (drop 1 pieces)
 
--- the calls for the snippets of some labels with so many lines of context; none where a label is refused
+-- the calls for the snippets of some labels with `context` lines of context; none where a label is refused
 abbrev pub snippet_calls : ℕ → Source → List Label → Answers → List Call
 snippet_calls context source labels answers =
     if is_some (refusal source.bytes answers.label_fails (in_order labels)) then []

@@ -18,7 +18,7 @@ pub record Mark : Type 0 where
   pub anchor : ℕ
   pub label : DrawnLabel
 
--- the column of a label's first byte; where it stands behind the text, the one after the text's columns
+-- the column of a label's first byte; where it stands after the text, the one after the text's columns
 abbrev pub label_from : Text → DrawnLabel → ℕ
 label_from text label = if label.behind then text.width
     else first_column text.cells text.text_end text.width label.start

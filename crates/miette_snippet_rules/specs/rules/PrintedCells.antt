@@ -36,7 +36,7 @@ cells_width column (cell ∷ cells) = cells_width cell.until cells
 abbrev pub text_bytes : ℕ → ℕ
 text_bytes code = if nat_lt code 0x80 then 1 else if nat_lt code 0x800 then 2 else if nat_lt code 0x10000 then 3 else 4
 
--- the cells whose characters fill so many bytes, and those after them
+-- the cells whose characters fill `bytes` bytes, and those after them
 abbrev pub cells_within : ℕ → List Cell → List Cell
 cells_within bytes [] = []
 cells_within bytes (cell ∷ cells) = if bytes == 0 then [] else cell ∷ cells_within (bytes - text_bytes cell.code) cells

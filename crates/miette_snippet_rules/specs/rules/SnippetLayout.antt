@@ -134,7 +134,7 @@ rows_of_lines out gap c number pieces (line ∷ lines) =
     line_or_break gap (out number line) c line number (first_of pieces)
     ++ rows_of_lines out (out number line) c (number + 1) (drop 1 pieces) lines
 
--- whether a line of a snippet with this number is left out, where so many lines stand before the snippet's
+-- whether a line of a snippet with this number is left out, where `before` lines stand before the snippet's
 abbrev pub left_out : SnippetSettings → ℕ → List Line → List Spread → ℕ → Line → Bool
 left_out s before lines spreads number line = leaves_out s.layout.label_lines lines spreads (number - (before + 1)) line
 
@@ -174,8 +174,8 @@ abbrev pub place_of : Source → Span → List Label → Option Place
 place_of source group labels = option_map (begins_at source)
     (primary_of (filter (is_within (has_own labels) group) labels))
 
--- The labels of a source of so many bytes, by offset, as they are drawn. Those at the end are drawn behind the text of
--- the last line where the settings say so and one of them shows that line.
+-- The labels of a source of `n` bytes, by offset, as they are drawn. Those at the end are drawn after the text of the
+-- last line where the settings say so and one of them shows that line.
 abbrev pub drawn_labels : SnippetSettings → ℕ → List Label → List DrawnLabel
 drawn_labels s n labels = drawn_from (s.layout.end_labels && some_shows_end s.layout.context_lines n labels)
     s.theme.styles.highlights n 0 labels
@@ -223,8 +223,8 @@ snippet_rows s source labels answers =
 
 -- ---- labels at the end of a source
 
--- Whether of these labels one at the end of a source of so many bytes shows its last line with a line of context, and
--- none begins behind the end, where it is refused.
+-- Whether of these labels one at the end of a source of `n` bytes shows its last line with a line of context, and none
+-- begins after the end, where it is refused.
 abbrev pub asks_for_end : ℕ → List Label → Bool
 asks_for_end n labels =
     some_shows_end 1 n labels && not (list_any (λ label. nat_lt n label.span.offset) labels)

@@ -18,12 +18,12 @@ abbrev pub is_shown : ℕ → List ℕ → List Label → ℕ → Bool
 is_shown context bytes labels k = list_any (λ label.
     is_in_context (lines_around context labels label) bytes k label.span) labels
 
--- whether line k is in the context of a label that is folded to so many lines
+-- whether line k is in the context of a label that is folded to `limit` lines
 abbrev pub is_in_folded_context : ℕ → ℕ → List ℕ → ℕ → Span → Bool
 is_in_folded_context limit context bytes k span = is_in_context context bytes k span
     && not (hides limit (line_of bytes span.offset) (line_of bytes (last_byte bytes span)) context k)
 
--- whether line k is in the context of some label as it is folded to so many lines
+-- whether line k is in the context of some label as it is folded to `limit` lines
 abbrev pub is_in_some_fold : ℕ → ℕ → List ℕ → List Label → ℕ → Bool
 is_in_some_fold limit context bytes labels k = list_any (λ label.
     is_in_folded_context limit (lines_around context labels label) bytes k label.span) labels

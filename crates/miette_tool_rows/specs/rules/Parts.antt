@@ -5,7 +5,7 @@ use Rattle.std.specs.List.{count_by, fold, list_any, starts_with}
 use Rattle.miette_tool_rows.specs.rules.Rows.{is_closing, is_mark, is_opening, is_space, last_row, rows_of}
 use Rattle.miette_tool_rows.specs.declared.parts.Open.{Open}
 
--- ---- what is open behind bytes of JSON
+-- ---- what is open after bytes of JSON
 
 abbrev pub closed : Open
 closed = record { depth = 0; quoted = false; escaped = false }
@@ -35,7 +35,7 @@ is_open o = nat_lt 0 o.depth && not o.quoted
 
 -- ---- parts
 
--- a value begins with `{` or `[`, behind which a quote, a bracket, white space or the row's end stands
+-- a value begins with `{` or `[`, after which a quote, a bracket, white space or the row's end stands
 abbrev pub begins_value : List ℕ → Bool
 begins_value [] = false
 begins_value (a ∷ []) = false
@@ -52,11 +52,11 @@ abbrev pub is_inner : List ℕ → Bool
 is_inner [] = false
 is_inner (b ∷ bs) = is_space b || is_closing b
 
--- a value that is open goes on with such a row; behind a bracket alone with any
+-- a value that is open goes on with such a row; after a bracket alone with any
 abbrev pub goes_on : List ℕ → List ℕ → Bool
 goes_on part row = (begins_value part && is_open (behind closed part)) && (begins_alone part || is_inner row)
 
--- the parts of rows, behind what a part begins with
+-- the parts of rows, after what a part begins with
 abbrev pub parts_from : List ℕ → List (List ℕ) → List (List ℕ)
 parts_from held [] = last_row held
 parts_from held (r ∷ rs) = if goes_on held r then parts_from (held ++ r) rs else last_row held ++ parts_from r rs

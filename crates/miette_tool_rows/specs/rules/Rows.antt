@@ -7,7 +7,7 @@ abbrev pub last_row : List ℕ → List (List ℕ)
 last_row [] = []
 last_row (b ∷ bs) = (b ∷ bs) ∷ []
 
--- the rows of bytes, behind what a row begins with
+-- the rows of bytes, after what a row begins with
 abbrev pub rows_from : List ℕ → List ℕ → List (List ℕ)
 rows_from begun [] = last_row begun
 rows_from begun (b ∷ bs) = if b == 10 then (begun ++ b ∷ []) ∷ rows_from [] bs else rows_from (begun ++ b ∷ []) bs
@@ -34,12 +34,12 @@ is_opening b = b == 123 || b == 91
 abbrev pub is_mark : ℕ → Bool
 is_mark b = b == 34 || (is_opening b || is_closing b)
 
--- white space alone, or a quote or a bracket behind it
+-- white space alone, or a quote or a bracket after it
 abbrev pub leads_in : List ℕ → Bool
 leads_in [] = true
 leads_in (b ∷ bs) = if is_space b then leads_in bs else is_mark b
 
--- this bracket, and behind it, beside white space, a quote, a bracket or nothing
+-- this bracket, and after it, beside white space, a quote, a bracket or nothing
 abbrev pub begins_with : ℕ → List ℕ → Bool
 begins_with bracket [] = false
 begins_with bracket (b ∷ bs) = b == bracket && leads_in bs

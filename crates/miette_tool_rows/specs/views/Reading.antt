@@ -22,13 +22,13 @@ IsTaken pending left old new true = (text : List ℕ) × (has_end text ≡ false
     × (new ≡ old ++ (text ++ 10 ∷ []))
 IsTaken pending left old new false = (has_end pending ≡ false) × (left ≡ []) × (new ≡ old ++ pending)
 
--- so many bytes are a row with its end; where there is none, no row ends
+-- the first `size` bytes are a row with its end; without a size, no row ends
 abbrev pub IsRowEnd : List ℕ → Option ℕ → Type 0
 IsRowEnd pending None = has_end pending ≡ false
 IsRowEnd pending (Some size) =
     (text : List ℕ) × (has_end text ≡ false) × (take size pending ≡ text ++ 10 ∷ [])
 
--- The next part with the rows in it, behind which those of what is left stand; there is none only at the end.
+-- The next part with the rows in it, after which those of what is left stand; there is none only at the end.
 abbrev pub IsNextPart : Option (List ℕ) → Option (List ℕ) → List ℕ → Type 0
 IsNextPart None new part = ⊤
 IsNextPart (Some xs) None part = ⊥

@@ -1,7 +1,7 @@
 -- What a store of files tells of what was written.
 use Rattle.std.specs.Prelude.{◌≡◌, ℕ, List, [], ◌∷◌, ◌++◌, Option, Some, None, Bool, true, false, ⊤}
 
--- these texts were written under these names, behind the others, where it tells
+-- these texts were written under these names, after the others, where it tells
 abbrev pub Writes : Option (List (List ℕ × List ℕ)) → Option (List (List ℕ × List ℕ)) → List (List ℕ × List ℕ) → Type 0
 Writes None new more = ⊤
 Writes (Some old) None more = ⊥

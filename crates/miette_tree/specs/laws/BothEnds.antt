@@ -20,7 +20,7 @@ module _ {A B : Type 0} (view : A → B) where
   front_of (in_front x ∷ more) = view x ∷ front_of more
   front_of (behind x ∷ more) = front_of more
 
-  -- what was given behind, the last call's first
+  -- what was given at the back, the last call's first
   abbrev pub back_of : List (EndItem A) → List B
   back_of [] = []
   back_of (in_front x ∷ more) = back_of more

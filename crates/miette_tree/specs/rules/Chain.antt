@@ -1,4 +1,4 @@
--- The first part of a chain: the messages of a report and of the reports that are its causes. Behind it stand the texts
+-- The first part of a chain: the messages of a report and of the reports that are its causes. After it stand the texts
 -- of the last of them.
 use Rattle.std.specs.Prelude.{ℕ, List, [], ◌∷◌, Option, Some, None}
 use Rattle.miette_tree.specs.rules.Tree.{Tree, tree, Cause, diagnostic, texts}

@@ -26,7 +26,7 @@ module _ {D S : Type 0} (means : D → Meaning) (is : S → Source) where
       (plain_diagnosis (message_alone (render_text unwritten.Refused))))
       × (kind_of r ≡ message)
 
-  -- a text in front of a report, or with no report behind it
+  -- a text in front of a report, or with no report after it
   abbrev pub IsFronted : List ℕ → Option (Report D S) → Report D S → Type 0
   IsFronted text None r = (tree_of means is r ≡ alone (plain_diagnosis (message_alone text))) × (kind_of r ≡ message)
   IsFronted text (Some below) r = (tree_of means is r ≡ wrapped_tree text (tree_of means is below))

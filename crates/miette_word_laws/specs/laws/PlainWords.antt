@@ -15,7 +15,7 @@ is_plain c = is_space c || is_alphanumeric c || list_any (λ s. s == c) signs
 abbrev pub is_point : ℕ → Bool
 is_point c = (c == 46) || (c == 44) || (c == 58) || (c == 59)
 
--- plain characters, and points that don't stand behind a space
+-- plain characters, and points that don't stand after a space
 abbrev pub plain_behind : ℕ → List ℕ → Bool
 plain_behind before [] = true
 plain_behind before (c ∷ cs) = (is_plain c || (is_point c && not (is_space before))) && plain_behind c cs

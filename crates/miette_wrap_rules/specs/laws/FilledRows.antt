@@ -7,12 +7,12 @@ abbrev pub all_words : List (List Word) → List Word
 all_words [] = []
 all_words (r ∷ rs) = r ++ all_words rs
 
--- behind so many columns each word fits
+-- after `used` columns each word fits
 abbrev pub Fits : ℕ → ℕ → List Word → Type 0
 Fits room used [] = Unit {0}
 Fits room used (w ∷ ws) = (used + columns w.letters ≤ room) × Fits room (used + columns (word_cells w)) ws
 
--- each word but the first fits behind those before it
+-- each word but the first fits after those before it
 abbrev pub IsRow : ℕ → List Word → Type 0
 IsRow room [] = Unit {0}
 IsRow room (w ∷ ws) = Fits room (columns (word_cells w)) ws
@@ -21,7 +21,7 @@ abbrev pub used_behind : ℕ → List Word → ℕ
 used_behind used [] = used
 used_behind used (w ∷ ws) = used_behind (used + columns (word_cells w)) ws
 
--- the first word of the row below doesn't fit behind so many columns
+-- the first word of the row below doesn't fit after `used` columns
 abbrev pub Overflows : ℕ → ℕ → List Word → Type 0
 Overflows room used [] = ⊥
 Overflows room used (w ∷ ws) = room < used + columns w.letters
@@ -30,7 +30,7 @@ abbrev pub row_used : List Word → ℕ
 row_used [] = 0
 row_used (w ∷ ws) = used_behind (columns (word_cells w)) ws
 
--- rows below one of so many columns: the first word of each didn't fit above
+-- rows below one of `used` columns: the first word of each didn't fit above
 abbrev pub Below : ℕ → ℕ → ℕ → List (List Word) → Type 0
 Below room further used [] = Unit {0}
 Below room further used (q ∷ qs) = Overflows room used q × IsRow further q × Below further further (row_used q) qs
@@ -58,7 +58,7 @@ abbrev pub ends_with_letter : List Token → Bool
 ends_with_letter [] = true
 ends_with_letter (t ∷ ts) = elim ts [ [] ↦ is_letter t | u ∷ us ↦ ends_with_letter ts ]
 
--- The row up to its last letter, and the sequences behind it: nothing but spaces is missing.
+-- The row up to its last letter, and the sequences after it: nothing but spaces is missing.
 pub record IsTrimmed (row found : List Token) : Type 0 where
   pub kept : List Token
   pub dropped : List Token

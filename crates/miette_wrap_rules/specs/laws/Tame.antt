@@ -5,9 +5,9 @@ use Rattle.miette_runs.specs.rules.Colours.{is_colour, is_link}
 use Rattle.miette_runs.specs.rules.Sequences.{Token, Character, Sequence, tokens, is_bell, is_line_feed}
 use Rattle.miette_wrap_rules.specs.rules.Wrapping.{Plan, is_space}
 
--- Where a text stands. Free: anywhere. Escaped: behind an escape that is a character. Opened: behind an `ESC ]`
--- that is finished by no BEL or `ESC \` on this line. Waiting: on a later line than such an escape, and what is to
--- be seen is still to come. Broken: at what such a text never holds.
+-- Where a text stands. Free: anywhere. Escaped: after an escape that is a character. Opened: after an `ESC ]` that
+-- is finished by no BEL or `ESC \` on this line. Waiting: on a later line than such an escape, and what is to be
+-- seen is still to come. Broken: at what such a text never holds.
 pub data State : Type 0 where
   Free : State
   Escaped : State
@@ -33,7 +33,7 @@ state_behind s [] = s
 state_behind s (t ∷ ts) = state_behind (step s t) ts
 
 -- Every escape of the text begins a colour or a link's sequence, or is that of `ESC ] .. LF`, `ESC \` or `ESC LF`;
--- behind those with a line feed there is something to see.
+-- after those with a line feed there is something to see.
 abbrev pub AreTame : List Token → Type 0
 AreTame ts = state_behind Free ts ≡ Free
 

@@ -1,4 +1,4 @@
--- Which texts stand in one row behind an indent, both as they are.
+-- Which texts stand in one row after an indent, both as they are.
 use Rattle.std.specs.Prelude.{ℕ, ◌+◌, Bool, true, false, not, ◌&&◌, ◌||◌, nat_le, if◌then◌else◌, List, [], ◌∷◌, sum_by}
 use Rattle.std.specs.Char.{is_whitespace}
 use Rattle.miette_style.specs.rules.Escapes.{is_escape}

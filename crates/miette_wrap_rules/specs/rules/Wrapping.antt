@@ -12,7 +12,7 @@ use Rattle.miette_wrap_rules.specs.declared.options.WordSeparator.TheVariants.{A
 
 -- ---- characters with their sequences, and lines
 
--- What stands between two line feeds: its characters, and the sequences behind the last of them.
+-- What stands between two line feeds: its characters, and the sequences after the last of them.
 pub record TextLine : Type 0 where
   pub cells : List Cell
   pub rest : List (List ℕ)
@@ -53,7 +53,7 @@ columns = sum_by (λ c. width c.code)
 abbrev pub is_space : ℕ → Bool
 is_space c = c == 32
 
--- A word, with the spaces behind it.
+-- A word, with the spaces after it.
 pub record Word : Type 0 where
   pub letters : List Cell
   pub spaces : List Cell
@@ -62,8 +62,8 @@ pub record Word : Type 0 where
 abbrev pub is_hyphen : ℕ → Bool
 is_hyphen c = (c == 45) || (c == 173)
 
--- Whether a word begins with a code that stands behind these, nearest first. By spaces: where a space is before it, and
--- it is none. By Unicode: where a line may or must be broken, but not behind a hyphen.
+-- Whether a word begins with a code that stands after these, nearest first. By spaces: where a space is before it, and
+-- it is none. By Unicode: where a line may or must be broken, but not after a hyphen.
 abbrev pub starts_word : WordSeparator → List ℕ → ℕ → Bool
 starts_word separator [] c = false
 starts_word AsciiSpace (b ∷ bs) c = is_space b && not (is_space c)
@@ -73,7 +73,7 @@ abbrev pub ends_word : WordSeparator → List ℕ → List Cell → Bool
 ends_word separator before [] = false
 ends_word separator before (c ∷ cs) = starts_word separator before c.code
 
--- What stands behind these codes is cut before each character that begins a word.
+-- What stands after these codes is cut before each character that begins a word.
 abbrev pub pieces : WordSeparator → List ℕ → List Cell → List (List Cell)
 pieces separator before [] = []
 pieces separator before (c ∷ cs) =
@@ -86,7 +86,7 @@ in_front c w =
     if is_space c.code && is_nil w.letters then record { letters = []; spaces = c ∷ w.spaces }
     else record { letters = c ∷ w.letters; spaces = w.spaces }
 
--- The last spaces stand behind the word.
+-- The last spaces stand after the word.
 abbrev pub word_of : List Cell → Word
 word_of [] = record { letters = []; spaces = [] }
 word_of (c ∷ cs) = in_front c (word_of cs)
@@ -102,15 +102,15 @@ abbrev pub begins_alphanumeric : List Cell → Bool
 begins_alphanumeric [] = false
 begins_alphanumeric (c ∷ cs) = is_alphanumeric c.code
 
--- A word is also cut behind each `-` between two letters or digits. `before` is the code before.
+-- A word is also cut after each `-` between two letters or digits. `before` is the code before.
 abbrev pub hyphen_parts : ℕ → List Cell → List (List Cell)
 hyphen_parts before [] = [] ∷ []
 hyphen_parts before (c ∷ cs) =
     if (c.code == 45) && is_alphanumeric before && begins_alphanumeric cs then (c ∷ []) ∷ hyphen_parts c.code cs
     else onto c (hyphen_parts c.code cs)
 
--- Cut before each character that makes the part since the last cut, which has so many columns, too wide,
--- unless that part has none.
+-- Cut before each character that makes the part since the last cut, which has `used` columns, too wide, unless
+-- that part has none.
 abbrev pub broken_parts : ℕ → ℕ → List Cell → List (List Cell)
 broken_parts room used [] = [] ∷ []
 broken_parts room used (c ∷ cs) =
@@ -125,7 +125,7 @@ with_spaces spaces (p ∷ ps) = elim ps [
   | q ∷ qs ↦ record { letters = p; spaces = [] } ∷ with_spaces spaces ps
 ]
 
--- How words are told apart, and how they are cut: behind hyphens, and where they are wider than so many columns.
+-- How words are told apart, and how they are cut: after hyphens, and where they are wider than `narrow` columns.
 pub record Cuts : Type 0 where
   pub separator : WordSeparator
   pub hyphens : Bool
@@ -150,7 +150,7 @@ abbrev pub word_cells : Word → List Cell
 word_cells w = w.letters ++ w.spaces
 
 -- A word begins a row exactly where the row so far, with its spaces, and the word are wider than the row.
--- The first of the rows is the rest of the row that has so many columns in use.
+-- The first of the rows is the rest of the row that has `used` columns in use.
 abbrev pub rows_behind : ℕ → ℕ → ℕ → List Word → List (List Word)
 rows_behind used room further [] = [] ∷ []
 rows_behind used room further (w ∷ ws) =
@@ -216,7 +216,7 @@ text_line_tokens p = flat_map cell_tokens p.cells ++ map Sequence p.rest
 abbrev pub indented_row : List Token → TextLine → List Token
 indented_row indent p = (if all_white p.cells then trimmed_row indent else indent) ++ text_line_tokens p
 
--- Behind the last line feed there is no line where there is no character; its sequences stay.
+-- After the last line feed there is no line where there is no character; its sequences stay.
 abbrev pub last_indented : List Token → TextLine → List Token
 last_indented indent p = elim p.cells [ [] ↦ map Sequence p.rest | cell ∷ cells ↦ indented_row indent p ]
 

@@ -25,8 +25,8 @@ abbrev pub begins_word : List ℕ → Bool
 begins_word [] = false
 begins_word (c ∷ cs) = is_alphanumeric c
 
--- The first part of what is left of a word, behind a code and with so many columns in use: it ends before a code that
--- ends each word, before what makes it too wide, and behind a hyphen.
+-- The first part of what is left of a word, after a code and with `used` columns in use: it ends before a code that
+-- ends each word, before what makes it too wide, and after a hyphen.
 abbrev pub part_len : (ℕ → Bool) → Cuts → ℕ → ℕ → List ℕ → ℕ
 part_len stop cuts before used [] = 0
 part_len stop cuts before used (c ∷ cs) =
@@ -35,7 +35,7 @@ part_len stop cuts before used (c ∷ cs) =
     else if cuts.hyphens && ((c == 45) && is_alphanumeric before && begins_word cs) then 1
     else suc (part_len stop cuts c (used + width c) cs)
 
--- from `.` to `~`: it has a column, and no word ends at it or is cut behind it
+-- from `.` to `~`: it has a column, and no word ends at it or is cut after it
 abbrev pub is_solid : ℕ → Bool
 is_solid c = nat_le 46 c && nat_le c 126
 
@@ -53,7 +53,7 @@ abbrev pub letters_len : List ℕ → ℕ
 letters_len [] = 0
 letters_len (c ∷ cs) = if is_ascii_alphabetic c then suc (letters_len cs) else 0
 
--- the last of so many codes, where there is one
+-- the last of the first n codes, where there is one
 abbrev pub code_behind : ℕ → ℕ → List ℕ → ℕ
 code_behind before zero cs = before
 code_behind before (suc n) [] = before
@@ -76,13 +76,13 @@ with_space c (w ∷ ws) = elim w.letters [
   | letter ∷ letters ↦ record { letters = []; spaces = c ∷ [] } ∷ w ∷ ws
 ]
 
--- The line is cut behind each run of spaces.
+-- The line is cut after each run of spaces.
 abbrev pub spaced_words : List Cell → List Word
 spaced_words [] = []
 spaced_words (c ∷ cs) =
     if is_space c.code then with_space c (spaced_words cs) else with_letter c (spaced_words cs)
 
--- the parts of such words of what stands behind a code
+-- the parts of such words of what stands after a code
 abbrev pub words_behind : Cuts → ℕ → List Cell → List Word
 words_behind cuts before cells = elim (spaced_words cells) [
   | [] ↦ []
@@ -92,7 +92,7 @@ words_behind cuts before cells = elim (spaced_words cells) [
 
 -- ---- parts and rows, by what is left of a line: its parts, where it has such cells
 
--- So many codes and so many spaces behind them are the first part.
+-- `n` codes and `m` spaces after them are the first part.
 abbrev pub IsPart : (List Cell → List Word) → (List Cell → List Word) → List ℕ → ℕ → ℕ → Type 0
 IsPart left behind codes n m =
     (cells : List Cell) → codes_of cells ≡ codes →
@@ -106,7 +106,7 @@ abbrev pub rows_left : (List Cell → List Word) → ℕ → List Cell → List 
 rows_left left room [] = []
 rows_left left room (c ∷ cs) = map row_cells (rows room room (left (c ∷ cs)))
 
--- So many codes are in the first row.
+-- `n` codes are in the first row.
 abbrev pub IsFirstRow : (List Cell → List Word) → (List Cell → List Word) → ℕ → List ℕ → ℕ → Type 0
 IsFirstRow left behind room codes n =
     (cells : List Cell) (further : ℕ) → codes_of cells ≡ codes →

@@ -3,7 +3,7 @@ use Rattle.std.specs.Prelude.{ℕ, Bool, true, ◌&&◌, ◌||◌, nat_le, nat_l
 use Rattle.miette_wrap_rules.specs.rules.Fitting.{ends_bare, has_ink, is_line}
 use Rattle.miette_runs.specs.steps.Cells.{code_columns}
 
--- A line that fits so many columns, and ends with no space.
+-- A line that has room in `room` columns, and ends with no space.
 abbrev pub fits_row : ℕ → List ℕ → Bool
 fits_row room cs = is_line cs && (ends_bare true cs && nat_le (code_columns cs) room)
 

@@ -18,7 +18,7 @@ use Rattle.miette_wrap_rules.specs.rules.Wrapping.{trimmed_row}
 abbrev pub is_in_row : ℕ → Bool
 is_in_row c = not (is_line_feed c)
 
--- what stands before the first line feed, and behind it
+-- what stands before the first line feed, and after it
 abbrev pub IsFirstLine : List ℕ → List ℕ → List ℕ → Type 0
 IsFirstLine text line rest = (is_row line ≡ true) × (text ≡ line ++ 10 ∷ rest)
 
@@ -30,7 +30,7 @@ are_passed blanks [] = true
 are_passed blanks (Character c ∷ ts) = (blanks && is_whitespace c) && are_passed blanks ts
 are_passed blanks (Sequence s ∷ ts) = are_passed blanks ts
 
--- the same behind so many codes, which end a sequence; it isn't whole where these are none
+-- the same after n codes, which end a sequence; it isn't whole where n is 0
 abbrev pub passed_behind : Bool → ℕ → List ℕ → Bool
 passed_behind blanks zero cs = false
 passed_behind blanks (suc k) cs = are_passed blanks (tokens_behind (suc k) cs)
@@ -81,6 +81,6 @@ line_indent indent line = indent_before (are_passed true (tokens line)) indent
 abbrev pub line_under : List Token → List ℕ → List ℕ
 line_under indent line = spell (line_indent indent line) ++ line
 
--- what stands behind the last line feed: sequences alone have no indent
+-- what stands after the last line feed: sequences alone have no indent
 abbrev pub last_under : List Token → List ℕ → List ℕ
 last_under indent line = if are_passed false (tokens line) then line else line_under indent line

@@ -1,4 +1,4 @@
--- Words between the places at which a line may be broken: what is left of a line behind a part.
+-- Words between the places at which a line may be broken: what is left of a line after a part.
 use Rattle.std.specs.Prelude.{◌≡◌, ℕ, zero, suc, ◌+◌, ◌≤◌, Bool, true, false, not, ◌&&◌, ◌||◌, ◌==◌, nat_le}
 use Rattle.std.specs.Prelude.{if◌then◌else◌, List, [], ◌∷◌, ◌++◌, map, flat_map, take, drop, length}
 use Rattle.std.specs.Option.{is_some}
@@ -15,7 +15,7 @@ use Rattle.miette_wrapping.specs.steps.Ends.{hyphenated_behind, letters_len}
 abbrev pub never : ℕ → Bool
 never c = false
 
--- printable ASCII but `-`: it has a column, and no word is cut behind it
+-- printable ASCII but `-`: it has a column, and no word is cut after it
 abbrev pub is_printed : ℕ → Bool
 is_printed c = nat_le 32 c && nat_le c 126 && not (c == 45)
 
@@ -23,7 +23,7 @@ abbrev pub all_printed : List ℕ → Bool
 all_printed [] = true
 all_printed (c ∷ cs) = is_printed c && all_printed cs
 
--- behind so many codes
+-- after n codes
 abbrev pub state_at : State → ℕ → List ℕ → State
 state_at s zero cs = s
 state_at s (suc n) [] = s
@@ -35,7 +35,7 @@ piece_len s joined [] = 0
 piece_len s joined (c ∷ cs) =
     if not joined && is_some (found_before s c) then 0 else suc (piece_len (behind s c) (is_hyphen c) cs)
 
--- how many codes are passed at once: letters behind a letter, with no hyphen before them
+-- how many codes are passed at once: letters after a letter, with no hyphen before them
 abbrev pub passed_len : State → Bool → List ℕ → ℕ
 passed_len s joined cs = if joined || not (is_in_word s) then 0 else letters_len cs
 
@@ -52,7 +52,7 @@ pieces_in s (c ∷ cs) =
 abbrev pub words_in : State → List Cell → List Word
 words_in s cells = map word_of (pieces_in s cells)
 
--- the parts of words of which the first one stands behind a code
+-- the parts of words of which the first one stands after a code
 abbrev pub parts_behind : Cuts → ℕ → Word → List Word → List Word
 parts_behind cuts before w ws =
     with_spaces w.spaces (flat_map (narrow_parts cuts) (hyphenated_behind cuts before w.letters))
@@ -61,7 +61,7 @@ parts_behind cuts before w ws =
 abbrev pub is_done : Broken → Bool
 is_done it = (it.letters == 0) && (it.spaces == 0)
 
--- the rest of a word, and the words behind it
+-- the rest of a word, and the words after it
 abbrev pub rest_in : Broken → Cuts → List Cell → List Word
 rest_in it cuts cells =
     if is_done it then flat_map (parts cuts) (words_in it.state cells)

@@ -20,7 +20,7 @@ use miette_line_breaks::printable::{Printable, Step};
 use miette_runs::runs::codes::Codes;
 use std::alloc::AllocError;
 
-/// The rest of a word: its letters, the code before them, and the spaces behind them; and what stands before the next.
+/// The rest of a word: its letters, the code before them, and the spaces after them; and what stands before the next.
 #[derive(Clone, Copy)]
 pub(crate) struct Broken {
     pub(crate) before: char,
@@ -35,7 +35,7 @@ fn is_hyphen(code: char) -> bool
     code == '-' || code == '\u{AD}'
 }
 
-// How many codes are passed at once: letters of ASCII behind a letter, with no hyphen before them. The state stays.
+// How many codes are passed at once: letters of ASCII after a letter, with no hyphen before them. The state stays.
 #[inline(always)]
 fn passed_len<C: Codes>(state: State, is_joined: bool, codes: C) -> usize
     ensures value { result ≡ passed_len state is_joined (C.codes codes) }

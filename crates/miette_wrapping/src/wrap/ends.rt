@@ -21,7 +21,7 @@ use miette_runs::runs::codes::Codes;
 use miette_runs::runs::columns::char_columns;
 use std::alloc::AllocError;
 
-/// How words are cut: behind hyphens, and where they are wider than the narrower of the rows.
+/// How words are cut: after hyphens, and where they are wider than the narrower of the rows.
 #[derive(Clone, Copy)]
 pub(crate) struct Cuts {
     pub(crate) hyphens: bool,
@@ -36,7 +36,7 @@ pub(crate) struct Letters {
     pub(crate) columns: usize,
 }
 
-/// A part of a word: its letters, and how many spaces stand behind them.
+/// A part of a word: its letters, and how many spaces stand after them.
 #[derive(Clone, Copy)]
 pub(crate) struct Part {
     pub(crate) letters: Letters,
@@ -71,7 +71,7 @@ pub(crate) trait Words: Copy {
             left result cuts cells ≡ cut_words cuts cells }
         ensures fits { (codes : List ℕ) → fits result codes };
 
-    /// The part at the front, and the words behind it.
+    /// The part at the front, and the words after it.
     fn part<C: Codes>(self, cuts: Cuts, codes: C) -> Result<(Part, Self), AllocError>
         requires fits { fits self (C.codes codes) }
         requires some { 0 < length (C.codes codes) }
@@ -106,7 +106,7 @@ fn begins_word<C: Codes>(codes: C) -> bool
     is_alphanumeric(codes.at(0))
 }
 
-// Whether a word is cut behind a code, with another code before it and others behind it.
+// Whether a word is cut after a code, with another code before it and others after it.
 fn is_cut<C: Codes>(hyphens: bool, before: char, code: char, behind: C) -> bool
     ensures { result ≡ (hyphens && ((code == 45) && is_alphanumeric before && begins_word (C.codes behind))) }
 {
@@ -208,7 +208,7 @@ pub(crate) fn letters_len<C: Codes>(codes: C) -> usize
     class_len::<AsciiLetters, C>(codes)
 }
 
-// How many codes from `.` to `~` there are at the front: each has a column, and no word ends at it or is cut behind it.
+// How many codes from `.` to `~` there are at the front: each has a column, and no word ends at it or is cut after it.
 #[inline(always)]
 fn solid_len<C: Codes>(codes: C) -> usize
     ensures value { result ≡ solid_len (C.codes codes) }
@@ -217,7 +217,7 @@ fn solid_len<C: Codes>(codes: C) -> usize
     class_len::<SolidCodes, C>(codes)
 }
 
-/// The letters of the part at the front, behind a code. Solid ones that have room are passed at once.
+/// The letters of the part at the front, after a code. Solid ones that have room are passed at once.
 pub(crate) fn first_part<T: Stop, C: Codes>(
     cuts: Cuts,
     first: char,
@@ -242,14 +242,14 @@ pub(crate) fn first_part<T: Stop, C: Codes>(
     })
 }
 
-// Whether a word is cut before what takes it from so many columns to so many.
+// Whether a word is cut before what takes it from `used` columns to `both`.
 fn is_wide(cuts: Cuts, used: usize, both: usize) -> bool
     ensures { result ≡ (cuts.breaks && (nat_lt 0 used && nat_lt cuts.narrow both)) }
 {
     cuts.breaks && 0 < used && cuts.narrow < both
 }
 
-// The same of what is left of it, behind a code and with so many columns in use.
+// The same of what is left of it, after a code and with `columns` columns in use.
 #[inline(always)]
 fn part_behind<T: Stop, C: Codes>(
     cuts: Cuts,
@@ -359,7 +359,7 @@ impl Words for Spaced {
     }
 }
 
-/// How many codes the first row has, of those that are left of a line, and what is left behind it.
+/// How many codes the first row has, of those that are left of a line, and what is left after it.
 pub(crate) fn row_len<W: Words, C: Codes>(
     cuts: Cuts,
     room: usize,

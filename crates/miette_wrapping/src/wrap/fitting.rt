@@ -87,7 +87,7 @@ fn is_shown(text: &str) -> bool
     is_line(text.as_bytes()) && has_ink(text)
 }
 
-// Whether a text stands in one row behind an indent, and both as they are.
+// Whether a text stands in one row after an indent, and both as they are.
 fn fits(wraps: bool, width: usize, first: &Runs, text: &str) -> Result<bool, AllocError>
     ensures when { IfOk result (λ found. found ≡ fits wraps width first.now (chars text.now)) }
     ensures same { IfOk result (λ found. found ≡ true → (p : Plan (List ℕ)) →
@@ -108,9 +108,9 @@ fn fits(wraps: bool, width: usize, first: &Runs, text: &str) -> Result<bool, All
     Ok(fits_row(room, text))
 }
 
-/// Appends a text behind an indent where both stand in one row as they are, and says whether; where they don't,
-/// nothing is appended. What is appended is what `wrap` appends under any plan of this width and first indent: neither
-/// the other indent nor cuts have a say then. No memory is taken but for what is appended.
+/// Appends a text after an indent where both stand in one row as they are, and says whether; where they don't, nothing
+/// is appended. What is appended is what `wrap` appends under any plan of this width and first indent: neither the
+/// other indent nor cuts have a say then. No memory is taken but for what is appended.
 ///
 /// They do where the text holds no escape and no line feed, the indent's signs are whole and no other character of it
 /// is an escape, and

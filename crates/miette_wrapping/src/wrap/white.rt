@@ -18,7 +18,7 @@ fn is_parameter(byte: u8) -> bool
     (b'0' <= byte && byte <= b'9') || byte == b';'
 }
 
-// Behind `ESC [`: how many bytes there are up to the `m` of a colour, 0 where it isn't one.
+// After `ESC [`: how many bytes there are up to the `m` of a colour, 0 where it isn't one.
 fn colour_end_len(bytes: &[u8]) -> usize
     ensures value { result ≡ colour_end_len bytes.now }
     ensures within { result ≤ length bytes.now }
@@ -57,7 +57,7 @@ fn front_len(bytes: &[u8], blanks: bool) -> usize
     colour_len(bytes)
 }
 
-// A text behind the colours that it begins with, and behind the spaces where white characters may stand there.
+// A text after the colours that it begins with, and after the spaces where white characters may stand there.
 fn behind_front(text: &str, blanks: bool) -> &str
     ensures { are_passed blanks (tokens (chars result.now)) ≡ are_passed blanks (tokens (chars text.now)) }
 {
@@ -131,7 +131,7 @@ fn is_low(byte: u8) -> bool
 }
 
 // Whether the last characters of a line show that something is seen: before the code that ends a style, one from `!` to
-// `~` behind one that would end a sequence, or at the very end one that ends none.
+// `~` after one that would end a sequence, or at the very end one that ends none.
 fn ends_seen(line: &str) -> bool
     ensures { result ≡ true → (blanks : Bool) → are_passed blanks (tokens (chars line.now)) ≡ false }
 {
@@ -148,21 +148,21 @@ fn ends_seen(line: &str) -> bool
 
 // ---- all that is passed, character by character
 
-// Where a walk over a line stands: between sequences, or behind what begins one.
+// Where a walk over a line stands: between sequences, or after what begins one.
 #[derive(Clone, Copy)]
 enum Place {
     Outside,
-    // behind ESC
+    // after ESC
     Escape,
-    // behind `ESC [`
+    // after `ESC [`
     Control,
-    // behind `ESC ]`
+    // after `ESC ]`
     Command,
-    // behind an ESC that stands there
+    // after an ESC that stands there
     CommandEscape,
 }
 
-// Behind one more character that is in no sequence.
+// After one more character that is in no sequence.
 fn behind_character(c: char, blanks: bool) -> Option<Place>
     ensures { (cs : List ℕ) → passed_from Outside blanks (c ∷ cs) ≡ passed_through result blanks cs }
 {
@@ -179,7 +179,7 @@ fn behind_character(c: char, blanks: bool) -> Option<Place>
     }
 }
 
-// Behind the character after ESC.
+// After the character after ESC.
 fn behind_escape(c: char) -> Option<Place>
     ensures { (blanks : Bool) (cs : List ℕ) → passed_from Escape blanks (c ∷ cs) ≡ passed_through result blanks cs }
 {
@@ -190,7 +190,7 @@ fn behind_escape(c: char) -> Option<Place>
     }
 }
 
-// Behind one more character of `ESC [`.
+// After one more character of `ESC [`.
 fn behind_control(c: char) -> Option<Place>
     ensures { (blanks : Bool) (cs : List ℕ) → passed_from Control blanks (c ∷ cs) ≡ passed_through result blanks cs }
 {
@@ -203,7 +203,7 @@ fn behind_control(c: char) -> Option<Place>
     Some(Place::Control)
 }
 
-// Behind one more character of `ESC ]`.
+// After one more character of `ESC ]`.
 fn behind_command(c: char) -> Option<Place>
     ensures { (blanks : Bool) (cs : List ℕ) → passed_from Command blanks (c ∷ cs) ≡ passed_through result blanks cs }
 {
@@ -215,7 +215,7 @@ fn behind_command(c: char) -> Option<Place>
     }
 }
 
-// Behind one more character; nowhere where a sequence isn't whole, or where one is in none and isn't passed.
+// After one more character; nowhere where a sequence isn't whole, or where one is in none and isn't passed.
 fn next_place(place: Place, c: char, blanks: bool) -> Option<Place>
     ensures { (cs : List ℕ) → passed_from place blanks (c ∷ cs) ≡ passed_through result blanks cs }
 {

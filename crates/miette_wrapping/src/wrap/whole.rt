@@ -82,7 +82,7 @@ fn push_indent<S: Sink>(
 
 // ---- lines
 
-// A text, cut behind its first line feed, which stands behind so many bytes.
+// A text, cut after its first line feed, which stands after `len` bytes.
 fn cut_line(text: &str, len: usize) -> (&str, &str)
     requires len { len ≡ prefix_len is_in_row text.now }
     requires more { len < length text.now }
@@ -93,7 +93,7 @@ fn cut_line(text: &str, len: usize) -> (&str, &str)
     (&text[..len + 1], &text[len + 1..])
 }
 
-// What stands behind the last line feed, without an indent where it has no character.
+// What stands after the last line feed, without an indent where it has no character.
 fn push_last<S: Sink>(
     out: &mut S,
     indent: RunsSlice<'_>,
@@ -138,7 +138,7 @@ fn push_further<S: Sink>(
     }
 }
 
-// From so many bytes on an indent is printed once for all their lines.
+// Of a text of `LONG` bytes or more the indent is printed once for all its lines.
 const LONG: usize = 256;
 
 // The same. Where the text is long the indent is printed once for all its lines.
@@ -165,7 +165,7 @@ fn push_printed<S: Sink>(
 }
 
 /// The lines of a text, each whole under its indent. A white line has the indent without its last spaces, and nothing
-/// is before what stands behind the last line feed where that has no character.
+/// is before what stands after the last line feed where that has no character.
 pub(crate) fn push_whole<S: Sink>(
     alloc: Global,
     out: &mut S,

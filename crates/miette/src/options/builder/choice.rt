@@ -1,7 +1,7 @@
 //! From options and a terminal to a handler.
 
 ghost use Rattle.std.specs.Prelude.{◌≡◌, IfOk, None};
-ghost use Rattle.miette_picture_rules.specs.views.SettingsView.{handler_settings};
+ghost use Rattle.miette_picture_rules.specs.views.Settings.{handler_settings};
 ghost use Rattle.miette_style.specs.rules.Themes.{characters_of, styles_of, theme_of};
 ghost use Rattle.miette.specs.rules.Choice.{IsChosen, IsDrawing, brief_settings, chosen_highlighter, chosen_theme};
 ghost use Rattle.miette.specs.rules.Choice.{chosen_line_columns, chosen_urls, chosen_width};

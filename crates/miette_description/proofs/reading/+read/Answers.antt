@@ -16,7 +16,7 @@ use Rattle.miette_description.proofs.reading.+read.Goals as goal
 begun : (r s : List Token) (t k : read.Token) → r ≡ token_of t ∷ s → t ≡ k → r ≡ token_of k ∷ s
 begun r s t k first is = first ∙ ap (λ x. token_of x ∷ s) is
 
--- what is read behind a bracket
+-- what is read after a bracket
 opened : (d : ℕ) (r s : List Token) (t k : read.Token) (b : Token) (made : Option (Json × List Token))
     → r ≡ token_of t ∷ s → t ≡ k → token_of k ≡ b → value d (b ∷ s) ≡ made → value d r ≡ made
 opened d r s t k b made first is bracket inside =

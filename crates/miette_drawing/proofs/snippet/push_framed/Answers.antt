@@ -4,7 +4,7 @@ use Rattle.miette_folds.specs.views.Spreads.{spread_of}
 use Rattle.miette_frames.specs.views.Places.{place_at}
 use Rattle.miette_folds.specs.views.Folding.{fold_in}
 use Rattle.miette_labels.specs.views.Sweeping.{IsAt}
-use Rattle.miette_snippet_rules.specs.views.SettingsView.{settings_of}
+use Rattle.miette_snippet_rules.specs.views.Settings.{settings_of}
 use Rattle.miette_snippet_rules.specs.rules.Highlighting.{leaves_plain, follows}
 use Rattle.miette_highlight.specs.rules.HighlighterCalls.{Call, Leads}
 use Rattle.miette_source_lines.specs.rules.Lines.{lines_from}

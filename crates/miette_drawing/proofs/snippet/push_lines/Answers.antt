@@ -1,7 +1,7 @@
 use Rattle.std.proofs.Common.{ℕ, ◌≡◌, ◌+◌, ◌-◌, ◌≤◌, ◌<◌, false, arith, length, map, refl, sym, ap, subst, ◌∙◌, Bool}
 use Rattle.std.proofs.Common.{List, drop}
 use Rattle.miette_label_rules.specs.declared.placed.PlacedLabel.{PlacedLabel}
-use Rattle.miette_snippet_rules.specs.views.SettingsView.{settings_of}
+use Rattle.miette_snippet_rules.specs.views.Settings.{settings_of}
 use Rattle.miette_label_rules.specs.views.GivenLabels.{drawn_of}
 use Rattle.miette_snippet_rules.specs.rules.Folds.{leaves_out, line_at}
 use Rattle.miette_snippet_rules.specs.rules.Highlighting.{leaves_plain, decoded_text, ArePieces, follows, highlight_of}

@@ -4,7 +4,7 @@ use Rattle.std.proofs.lemmas.Result.{IfOk-weaker}
 use Rattle.miette_snippet_rules.specs.views.Cuts.{measure}
 use Rattle.miette_snippet_rules.specs.rules.CutLines.{cut_line_by, dots_in, limit_of}
 use Rattle.miette_snippet_rules.specs.rules.PrintedCells.{cells_width}
-use Rattle.miette_snippet_rules.specs.views.SettingsView.{settings_of}
+use Rattle.miette_snippet_rules.specs.views.Settings.{settings_of}
 use Rattle.miette_fix_rows.specs.rules.DiffRows.{cut_beside, pair_reach}
 use Rattle.miette_fix_rows.specs.rules.DiffTexts.{line_cells, line_ends}
 use Rattle.miette_fix_drawing.specs.views.ChangedLines.{changed_line_of}

@@ -3,7 +3,7 @@ use Rattle.std.proofs.lemmas.Result.{on_ok_weaker}
 use Rattle.miette_cells.specs.rules.Widths.{width_of}
 use Rattle.miette_page.specs.views.Printouts.{◌⊕◌}
 use Rattle.miette_page.specs.views.Tokens.{rows_tokens}
-use Rattle.miette_snippet_rules.specs.views.SettingsView.{settings_of}
+use Rattle.miette_snippet_rules.specs.views.Settings.{settings_of}
 use Rattle.miette_line_columns.proofs.PassedCells.{cells_come_from}
 use Rattle.miette_fix_rows.specs.rules.DiffTexts.{text_of_line}
 use Rattle.miette_fix_drawing.proofs.ChangedRows.{near_put, near_readable, near_within}

@@ -5,7 +5,7 @@ use Rattle.miette_page.specs.views.Tokens.{rows_tokens}
 use Rattle.miette_snippet_rules.specs.rules.CutLines.{shown_marks}
 use Rattle.miette_snippet_rules.specs.rules.Frames.{other_start}
 use Rattle.miette_snippet_rules.specs.views.MadeMarks.{mark_of}
-use Rattle.miette_snippet_rules.specs.views.SettingsView.{settings_of}
+use Rattle.miette_snippet_rules.specs.views.Settings.{settings_of}
 use Rattle.miette_fix_rows.specs.rules.DiffRows.{before_some, changed_cut, row_if_some}
 use Rattle.miette_fix_rows.specs.rules.DiffTexts.{edit_marks, sign_runs}
 use Rattle.miette_fix_drawing.specs.views.ChangedLines.{changed_line_of}

@@ -1,6 +1,6 @@
 use Rattle.std.proofs.Common.{◌∙◌, ap, option_map}
 use Rattle.std.proofs.lemmas.Result.{on_ok_weaker}
-use Rattle.miette_snippet_rules.specs.views.SettingsView.{settings_of}
+use Rattle.miette_snippet_rules.specs.views.Settings.{settings_of}
 use Rattle.miette_fix_rows.specs.rules.DiffTexts.{look_alike}
 use Rattle.miette_fix_drawing.specs.views.ChangedLines.{changed_line_of}
 use Rattle.miette_fix_drawing.proofs.ChangedRows.{alike_put, unlike_put}

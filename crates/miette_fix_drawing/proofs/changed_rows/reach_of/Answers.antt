@@ -1,7 +1,7 @@
 use Rattle.std.proofs.Common.{◌∙◌, ap}
 use Rattle.std.proofs.lemmas.Result.{IfOk-weaker}
 use Rattle.miette_snippet_rules.specs.rules.CutLines.{limit_of, reach_at}
-use Rattle.miette_snippet_rules.specs.views.SettingsView.{settings_of}
+use Rattle.miette_snippet_rules.specs.views.Settings.{settings_of}
 use Rattle.miette_fix_rows.specs.rules.DiffTexts.{line_cells, line_ends}
 use Rattle.miette_fix_drawing.specs.views.ChangedLines.{changed_line_of}
 use Rattle.miette_fix_drawing.proofs.changed_rows.reach_of.Goals as goal

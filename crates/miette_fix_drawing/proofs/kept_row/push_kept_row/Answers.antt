@@ -2,7 +2,7 @@ use Rattle.std.proofs.Common.{ap, false, option_map}
 use Rattle.std.proofs.lemmas.Result.{on_ok_weaker}
 use Rattle.miette_cells.specs.rules.Cells.{cells_from, characters}
 use Rattle.miette_cells.specs.rules.Widths.{width_of}
-use Rattle.miette_snippet_rules.specs.views.SettingsView.{settings_of}
+use Rattle.miette_snippet_rules.specs.views.Settings.{settings_of}
 use Rattle.miette_fix_drawing.specs.views.Standings.{standing_of}
 use Rattle.miette_fix_drawing.proofs.KeptRows.{kept_put}
 use Rattle.miette_fix_drawing.proofs.kept_row.push_kept_row.Goals as goal

@@ -5,7 +5,7 @@ use Rattle.miette_cells.specs.rules.Cells.{cells_from, characters}
 use Rattle.miette_cells.specs.rules.Widths.{width_of}
 use Rattle.miette_snippet_rules.specs.rules.Marks.{Text}
 use Rattle.miette_snippet_rules.specs.rules.SnippetLayout.{text_of_cells}
-use Rattle.miette_snippet_rules.specs.views.SettingsView.{settings_of}
+use Rattle.miette_snippet_rules.specs.views.Settings.{settings_of}
 use Rattle.miette_fix_rows.specs.rules.DiffTexts.{is_on}
 use Rattle.miette_fix_drawing.specs.steps.Ends.{all_ends}
 use Rattle.miette_fix_drawing.proofs.LineEnds.{all_alike}

@@ -1,7 +1,7 @@
 use Rattle.std.proofs.Common.{◌∙◌, arith, eqb-true, sym}
 use Rattle.std.proofs.lemmas.Bool.Decides.{nat_tests}
 use Rattle.std.proofs.lemmas.Result.{on_ok_weaker}
-use Rattle.miette_snippet_rules.specs.views.SettingsView.{settings_of}
+use Rattle.miette_snippet_rules.specs.views.Settings.{settings_of}
 use Rattle.miette_fix_drawing.proofs.MarkRows.{marks_put, no_marks_put}
 use Rattle.miette_fix_drawing.proofs.marks_row.push_marks_row.Goals as goal
 

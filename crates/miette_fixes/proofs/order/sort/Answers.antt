@@ -1,5 +1,7 @@
 use Rattle.std.proofs.Common.{◌≡◌, ◌∙◌, ap, rules, sym, true}
 use Rattle.std.proofs.lemmas.List.Sorted.{answers_always}
+use Rattle.std.proofs.lemmas.Result.{on_ok_weaker}
+use Rattle.miette_protocol.specs.rules.Reading.{Span}
 use Rattle.miette_fixes.specs.steps.Sweeping.{ascends}
 use Rattle.miette_fixes.specs.views.Ordered.{edits_of}
 use Rattle.miette_fixes.proofs.Sorting.{in_order_stays, sort_by_offset}
@@ -15,8 +17,8 @@ returns-then-ascend c =
 
 pub returns : goal.returns
 returns c =
-    sort_by_offset c.args.edits.now.items c.sort_by_key.new.self.items
-    (c.in_ok-sort_by_key.ensures.sorted (λ (edit : Bor Replacement). edit.now.span)
-    (answers_always _ _ _ (λ f a r f' k. search rules)))
-    (c.in_ok-sort_by_key.ensures.stable (λ (edit : Bor Replacement). edit.now.span)
-    (answers_always _ _ _ (λ f a r f' k. search rules)))
+    let key : Bor Replacement → Span = λ edit. edit.now.span in
+    on_ok_weaker c.sort_by_key.result (λ h. sort_by_offset c.args.edits.now.items c.sort_by_key.new.self.items
+    (h key (answers_always _ _ _ (λ f a r f' k. search rules)))
+    (c.sort_by_key.ensures.stable key (answers_always _ _ _ (λ f a r f' k. search rules))))
+    c.sort_by_key.ensures.sorted

@@ -1,6 +1,6 @@
 use Rattle.std.proofs.lemmas.Result.{on_ok_weaker}
 use Rattle.miette_frames.specs.steps.FrameParts.{corner_row}
-use Rattle.miette_snippet_rules.specs.views.SettingsView.{settings_of}
+use Rattle.miette_snippet_rules.specs.views.Settings.{settings_of}
 use Rattle.miette_frames.proofs.TextRows.{row_done}
 use Rattle.miette_frames.proofs.frame.push_bottom_row.Goals as goal
 

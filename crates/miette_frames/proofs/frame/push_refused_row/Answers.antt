@@ -5,7 +5,7 @@ use Rattle.std.proofs.lemmas.Result.{on_ok_weaker}
 use Rattle.miette_page.specs.rules.Rows.{Row, styled_run}
 use Rattle.miette_style.specs.rules.Styles.{plain}
 use Rattle.miette_snippet_rules.specs.rules.Frames.{refused_front}
-use Rattle.miette_snippet_rules.specs.views.SettingsView.{settings_of}
+use Rattle.miette_snippet_rules.specs.views.Settings.{settings_of}
 use Rattle.miette_cells.specs.rules.Widths.{width_of}
 use Rattle.miette_page.specs.views.Tokens.{styled_tokens}
 use Rattle.miette_frames.proofs.TextRows.{row_done, parts_then}

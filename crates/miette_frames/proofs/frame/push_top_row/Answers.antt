@@ -4,7 +4,7 @@ use Rattle.std.proofs.lemmas.Result.{on_ok_weaker}
 use Rattle.miette_snippet_rules.specs.rules.Frames.{location_of}
 use Rattle.miette_frames.specs.steps.FrameParts.{corner_row}
 use Rattle.miette_frames.specs.views.Places.{place_at}
-use Rattle.miette_snippet_rules.specs.views.SettingsView.{settings_of}
+use Rattle.miette_snippet_rules.specs.views.Settings.{settings_of}
 use Rattle.miette_frames.proofs.TextRows.{parts_then, row_done}
 use Rattle.miette_frames.proofs.frame.push_top_row.Goals as goal
 

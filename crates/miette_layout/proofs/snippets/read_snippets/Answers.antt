@@ -10,7 +10,7 @@ use Rattle.miette_folds.specs.views.Spreads.{spread_of}
 use Rattle.miette_folds.specs.views.ReadSpreads.{HasLines}
 use Rattle.miette_folds.proofs.ReadSpreads.{spreads_are}
 use Rattle.miette_snippet_rules.specs.rules.SnippetLayout.{settings_around}
-use Rattle.miette_snippet_rules.specs.views.SettingsView.{settings_of}
+use Rattle.miette_snippet_rules.specs.views.Settings.{settings_of}
 use Rattle.miette_label_rules.specs.views.GivenLabels.{drawn_of}
 use Rattle.miette_snippet_rules.specs.rules.Highlighting.{leaves_plain, follows}
 use Rattle.miette_frames.specs.views.LentRows.{PutsRows, lent_snippet}

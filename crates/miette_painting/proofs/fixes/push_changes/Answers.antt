@@ -2,7 +2,7 @@ use Rattle.std.proofs.Common.{ap, sym, subst}
 use Rattle.std.proofs.lemmas.Result.{on_ok_weaker}
 use Rattle.miette_page.specs.views.Printouts.{◌⊕◌}
 use Rattle.miette_page.specs.views.Tokens.{rows_tokens}
-use Rattle.miette_snippet_rules.specs.views.SettingsView.{settings_of}
+use Rattle.miette_snippet_rules.specs.views.Settings.{settings_of}
 use Rattle.miette_painting.specs.steps.FixSources.{AsksItself, IsGivenOver, fix_rows_over}
 use Rattle.miette_painting.proofs.ShownFixes.{rows_printed_over}
 use Rattle.miette_painting.proofs.fixes.push_changes.Goals as goal

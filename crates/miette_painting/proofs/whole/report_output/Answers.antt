@@ -4,7 +4,7 @@ use Rattle.miette_tree.specs.views.Handler.{AppendsOne}
 use Rattle.miette_tree.specs.views.Report.{tree_of}
 use Rattle.miette_painting.specs.views.PartTexts.{IsOutermost}
 use Rattle.miette_painting.specs.views.Painting.{printing}
-use Rattle.miette_picture_rules.specs.views.SettingsView.{handler_settings}
+use Rattle.miette_picture_rules.specs.views.Settings.{handler_settings}
 use Rattle.miette_painting.proofs.whole.report_output.Goals as goal
 
 pub returns-clause-ok : goal.returns-clause-ok

@@ -59,11 +59,11 @@ if_is : {A : Type 0} (P : A → Type 0) (o : Option A) → ((x : A) → o ≡ So
 if_is P None f = tt
 if_is P (Some x) f = f x refl
 
--- the settings with labels folded to so many lines, or not
+-- the settings with labels folded to the lines that `limit` says, or not
 abbrev folded_at : Option ℕ → SnippetSettings → SnippetSettings
 folded_at limit l = record l { layout = record l.layout { label_lines = limit } }
 
--- the rows with labels folded to so many lines, in which nothing is left out
+-- the rows with labels folded to `limit` lines, in which nothing is left out
 short_rows : (limit : ℕ) (s : Settings) (source : Source) (labels : List Label) (answers : Answers)
     → s.layout.label_lines
     ≡ Some limit →

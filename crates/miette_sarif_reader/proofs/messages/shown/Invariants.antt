@@ -8,7 +8,7 @@ use Rattle.miette_sarif_reader.proofs.messages.shown.Given as goal
 abbrev pub decreases-loop-at : goal.decreases-loop-at
 decreases-loop-at l = length l.rest
 
--- what was written, and what is shown of the rest behind it
+-- what was written, and what is shown of the rest after it
 abbrev pub invariant-loop-at : goal.invariant-loop-at
 invariant-loop-at l =
     (string_bytes l.out ++ shown_behind (viewed l.arguments) l.in_link 0 l.rest ≡ shown (viewed l.arguments) l.text)

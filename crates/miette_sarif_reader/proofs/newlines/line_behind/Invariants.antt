@@ -6,7 +6,7 @@ use Rattle.miette_sarif_reader.proofs.newlines.line_behind.Given as goal
 abbrev pub decreases-loop-left : goal.decreases-loop-left
 decreases-loop-left l = l.left
 
--- where the line begins that stands so many behind this one, the one begins that is asked for
+-- where the line begins that stands `left` lines after this one, the one begins that is asked for
 abbrev pub invariant-loop-left : goal.invariant-loop-left
 invariant-loop-left l = record {
   within : l.at ≤ length l.bytes;

@@ -3,7 +3,7 @@ use Rattle.miette_tree.specs.rules.Chain.{spine}
 use Rattle.miette_tree.specs.views.Report.{tree_of}
 use Rattle.miette_tree.proofs.chain.last_within.Given as goal
 
--- what lies behind the reports that were passed
+-- what lies after the reports that were passed
 abbrev pub invariant-loop-before : goal.invariant-loop-before
 invariant-loop-before g l =
     let value = tree_of g.D.Diagnostic.meaning g.S.SourceCode.source in

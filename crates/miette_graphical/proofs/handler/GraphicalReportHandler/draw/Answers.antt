@@ -3,7 +3,7 @@ use Rattle.miette_snippet_rules.specs.rules.Highlighting.{follows, leaves_plain}
 use Rattle.miette_tree.specs.views.Report.{tree_of}
 use Rattle.miette_painting.specs.views.PartTexts.{IsOutermost}
 use Rattle.miette_painting.specs.views.Painting.{printing}
-use Rattle.miette_picture_rules.specs.views.SettingsView.{handler_settings}
+use Rattle.miette_picture_rules.specs.views.Settings.{handler_settings}
 use Rattle.miette_graphical.proofs.handler.GraphicalReportHandler.draw.Goals as goal
 
 pub returns-clause-calls : goal.returns-clause-calls

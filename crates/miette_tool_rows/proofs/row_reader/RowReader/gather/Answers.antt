@@ -43,7 +43,7 @@ returns-then-not-begins_value-clause-part g c =
     (row_more _ _ _ held row part one some c.loop.invariant.held c.in_ok-next.ensures.row) (Consumes-nil _)
     (closed_ends _ part (never_on part begins))
 
--- a row more, behind rows that begin a value
+-- a row more, after rows that begin a value
 grown : (held row part a b d : List ℕ) (old state : Open) (begun : Bool) → part ≡ held ++ a → a ≡ row → b ≡ part
     → begun ≡ begins_value b → begun ≡ true → old ≡ behind closed held → state ≡ behind old d → d ≡ row
     → (part ≡ held ++ row) × (begins_value part ≡ true) × (state ≡ behind closed part)

@@ -12,7 +12,7 @@ use Rattle.miette_wrapping.specs.views.Cutting.{word_cuts}
 use Rattle.miette_wrapping.proofs.Counts.{counted-below, counted-within, starts-within}
 use Rattle.miette_wrapping.proofs.wrap.lines.push_filled.Goals as goal
 
--- what stands behind a line's rows, and which tags are left, where the line's codes are those up to its end
+-- what stands after a line's rows, and which tags are left, where the line's codes are those up to its end
 rows-here : (cuts : Cuts) (indent : List Token) (room room' s n : ℕ) (cs front : List ℕ) (ms : List Tag) (o o1 : List ℕ)
     → o1 ≡ o ++ line_rows cuts indent room room' s (drop s front) ms → front ≡ take (s + n) cs
     → o1 ≡ o ++ line_rows cuts indent room room' s (codes_of_row s n cs) ms

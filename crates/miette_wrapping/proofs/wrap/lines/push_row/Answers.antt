@@ -8,7 +8,7 @@ use Rattle.miette_wrapping.proofs.BareRows.{bare-left, bare-row, spaced-left, sp
 use Rattle.miette_wrapping.specs.steps.Ends.{bare_len}
 use Rattle.miette_wrapping.proofs.wrap.lines.push_row.Goals as goal
 
--- so many codes of a list from a place on stand between that place and its end
+-- `n` codes of a list from `s` on stand between that place and its end
 behind-within : (s n : ℕ) (cs codes : List ℕ) → codes ≡ drop s cs → n ≤ length codes → n ≤ length cs - s
 behind-within s n cs codes is within = omega (arith, within, ap length is, length-drop s cs)
 

@@ -23,7 +23,7 @@ returns-in-Ok-clause-asks g c =
     (tree_of g.D.Diagnostic.meaning g.S.SourceCode.source c.args.report.now)))
     (g.W.Write.contents old.outputs.writer) (g.W.Write.contents new.outputs.writer)) c.in-Ok.ensures.asks
 
--- ---- the writing of the next report, with its count before it and what is remembered behind it
+-- ---- the writing of the next report, with its count before it and what is remembered after it
 
 module _ {T W F : Type 0} (next before : Run T W F) (counts : Counts) (severity given : Option Severity)
     (one : counts ≡ with_one before.counts severity) (is : severity ≡ given)
