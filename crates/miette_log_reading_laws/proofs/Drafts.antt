@@ -1,31 +1,28 @@
 -- What a result proposes.
-use Rattle.std.proofs.Common.{◌≡◌, ℕ, List, [], ◌∷◌, ◌++◌, Bool, true, false, Option, Some, None, IfSome, map, refl, ap}
-use Rattle.std.proofs.Common.{◌∙◌, sym, subst, append-nil, codes, filter, option_and_then, unwrap_or}
+use Rattle.std.proofs.Common.{◌≡◌, ℕ, List, [], ◌∷◌, ◌++◌, Bool, true, false, Option, None, IfSome, map, refl, ap}
+use Rattle.std.proofs.Common.{◌∙◌, sym, subst, append-nil, codes, option_and_then, unwrap_or}
 use Rattle.std.specs.Prelude.{if◌then◌else◌}
 use Rattle.std.specs.List.{AllByRecursion, flat_map, list_any}
 use Rattle.std.specs.Str.{bytes_eq}
-use Rattle.std.proofs.lemmas.List.{map-append}
 use Rattle.indexmap.specs.IndexSet.{insert_key}
 use Rattle.serde_json.specs.Data.{Data}
-use Rattle.serde_json.specs.Find.{as_array, as_str, get}
+use Rattle.serde_json.specs.Find.{as_str}
 use Rattle.miette_json.specs.rules.Json.{Json, json_text}
 use Rattle.miette_protocol.specs.rules.Reading.{Source}
-use Rattle.miette_readers.specs.rules.Members.{items_in, object_at, objects_alone, objects_at, said, text_at, is_object}
+use Rattle.miette_readers.specs.rules.Members.{object_at, objects_alone, said, text_at}
 use Rattle.miette_readers.specs.rules.Places.{Place}
-use Rattle.miette_sarif.specs.rules.Artifacts.{Artifacts, located}
+use Rattle.miette_sarif.specs.rules.Artifacts.{Artifacts}
 use Rattle.miette_sarif.specs.rules.Codes.{Rules}
 use Rattle.miette_sarif.specs.rules.Findings.{Proposed, Replaced}
-use Rattle.miette_sarif.specs.rules.Objects.{array_of, message_of, object_of}
+use Rattle.miette_sarif.specs.rules.Objects.{object_of}
 use Rattle.miette_sarif.specs.rules.Places.{line_pairs}
-use Rattle.miette_sarif.specs.rules.Results as results
 use Rattle.miette_sarif.specs.rules.Results.{change, first_values, fix_value, fix_values, replacement}
-use Rattle.miette_sarif_reader.specs.rules.Bases as bases
 use Rattle.miette_sarif_reader.specs.rules.Proposals.{change_edits, change_name, description, draft_by, draft_of, drafts_of}
 use Rattle.miette_sarif_reader.specs.rules.Proposals.{edits_of, named, new_text, place_by, replaced_in}
 use Rattle.miette_sarif_reader.specs.rules.Results.{Ground, message_text, place_in}
 use Rattle.miette_log_reading_laws.specs.laws.Data.{data_of}
-use Rattle.miette_log_reading_laws.specs.laws.Files.{IsFixOver, IsOver}
-use Rattle.miette_log_reading_laws.specs.laws.Kept.{edit_kept, file_name, first_fixes, fix_kept, one_first, place_kept}
+use Rattle.miette_log_reading_laws.specs.laws.Files.{IsFixOver}
+use Rattle.miette_log_reading_laws.specs.laws.Kept.{edit_kept, file_name, first_fixes, fix_kept, place_kept}
 use Rattle.miette_log_reading_laws.specs.laws.Kept.{words}
 use Rattle.miette_log_reading_laws.specs.laws.RegionsBack.{IsIn}
 use Rattle.miette_log_reading_laws.proofs.Ground.{log_ground}

@@ -1,14 +1,12 @@
 -- The findings of reports are over files that have the texts of their sources.
-use Rattle.std.proofs.Common.{◌≡◌, ℕ, ◌+◌, Bool, true, false, List, [], ◌∷◌, ◌++◌, Option, Some, None, IfSome, refl, ap}
-use Rattle.std.proofs.Common.{sym, subst, ◌∙◌, codes, length, option_map, unwrap_or, decimal, nat_eq}
-use Rattle.std.specs.Prelude.{if◌then◌else◌}
+use Rattle.std.proofs.Common.{◌≡◌, ℕ, ◌+◌, Bool, true, false, List, [], ◌∷◌, ◌++◌, Option, Some, None, IfSome, ap}
+use Rattle.std.proofs.Common.{sym, subst, ◌∙◌, codes, length, unwrap_or, decimal, nat_eq}
 use Rattle.std.specs.List.{AllByRecursion}
-use Rattle.miette_basics.specs.rules.Lists.{is_nil}
 use Rattle.miette_json.specs.rules.JsonReport.{first_fault, later_faults}
 use Rattle.miette_protocol.specs.rules.Reading.{Source}
 use Rattle.miette_readers.specs.rules.Members.{said}
 use Rattle.miette_sarif.specs.rules.Artifacts.{Artifacts, all_named, artifacts_in, index_of}
-use Rattle.miette_sarif.specs.rules.Findings.{Finding, SeenSource, SourceName}
+use Rattle.miette_sarif.specs.rules.Findings.{Finding, SeenSource}
 use Rattle.miette_sarif.specs.rules.Gathered.{AreFindingsOf, all_findings, cause_marks, cause_proposals, finding, findings}
 use Rattle.miette_sarif.specs.rules.Marks.{Group, further_groups, groups_of, marks_of, other_marks, primary_in}
 use Rattle.miette_sarif.specs.rules.Marks.{seen_further}
@@ -23,7 +21,7 @@ use Rattle.miette_tree.specs.rules.Diagnosis.{Diagnosis, Section}
 use Rattle.miette_tree.specs.rules.Tree.{Cause, Tree, Trees, diagnostic, more_trees, no_trees, texts, tree}
 use Rattle.miette_log_reading_laws.specs.laws.Files.{AreFindingsOver, IsFindingOver, IsFixOver, IsMarkOver}
 use Rattle.miette_log_reading_laws.specs.laws.Kept.{file_name}
-use Rattle.miette_log_reading_laws.specs.laws.Sources.{AllOfCauses, AllOwn, AllSources, AreFilesOf, EachOfAll, HasText}
+use Rattle.miette_log_reading_laws.specs.laws.Sources.{AllOfCauses, AllSources, AreFilesOf, EachOfAll, HasText}
 use Rattle.miette_log_reading_laws.proofs.NamesBack.{untitled_back}
 use Rattle.miette_log_reading_laws.proofs.Over.{IsGroupThere, IsThere, all_more, fixes_are, groups_are, others_are}
 use Rattle.miette_log_reading_laws.proofs.Over.{primary_is, primary_over}

@@ -13,7 +13,7 @@ use Rattle.miette_positions.specs.declared.place.PositionEncoding.TheVariants.{U
 use Rattle.miette_protocol.specs.rules.Reading.{Source}
 use Rattle.miette_readers.specs.rules.Members.{items_in, object_at, objects_alone, objects_at}
 use Rattle.miette_sarif.specs.rules.Codes.{Rules, rule_value, rule_values}
-use Rattle.miette_sarif.specs.rules.Log.{ToolName, newlines, run_head, schema, tool_of}
+use Rattle.miette_sarif.specs.rules.Log.{ToolName, newlines, run_head, tool_of}
 use Rattle.miette_sarif.specs.rules.Objects.{Pairs, array_of, listed, maybe_text, object_of, pair}
 use Rattle.miette_sarif.specs.rules.Uris.{address_uri}
 use Rattle.miette_sarif_reader.specs.rules.Logs.{driver_of, ground_of, rules_by}

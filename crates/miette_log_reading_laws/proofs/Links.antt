@@ -1,11 +1,11 @@
 -- What is shown of a text whose braces were doubled: that text without its links.
 use Rattle.std.proofs.Common.{◌≡◌, ℕ, zero, suc, ◌+◌, ◌<◌, ◌≤◌, List, [], ◌∷◌, ◌++◌, Bool, true, false, not, ◌&&◌, refl}
-use Rattle.std.proofs.Common.{ap, sym, subst, ◌∙◌, arith, drop, length, append_assoc, cond, nat_lt, ◌==◌, slice_index}
+use Rattle.std.proofs.Common.{ap, sym, subst, ◌∙◌, arith, drop, length, cond, nat_lt, ◌==◌, slice_index}
 use Rattle.std.proofs.Common.{true≢false, inl, inr, add-one, one-add, length-drop, lt-ltb}
 use Rattle.std.specs.Prelude.{if◌then◌else◌}
 use Rattle.std.proofs.lemmas.Bool.{and_parts, eqb-true, or_cases}
 use Rattle.std.proofs.lemmas.List.{drop-drop}
-use Rattle.miette_sarif.specs.rules.Messages.{double_byte, doubled, is_brace}
+use Rattle.miette_sarif.specs.rules.Messages.{doubled, is_brace}
 use Rattle.miette_sarif_reader.specs.rules.Messages.{Piece, backslash_piece, bracket_at, closing_piece, destination_count}
 use Rattle.miette_sarif_reader.specs.rules.Messages.{ends_destination, escaped, has_destination, is_bracket, is_escapable}
 use Rattle.miette_sarif_reader.specs.rules.Messages.{is_link, opening_piece, piece_of, plain, shown, shown_behind}

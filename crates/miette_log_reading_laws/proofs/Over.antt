@@ -1,5 +1,5 @@
 -- The places of labels and of fixes are over the sources that were seen.
-use Rattle.std.proofs.Common.{◌≡◌, ℕ, ◌+◌, ◌<◌, ◌≤◌, Bool, true, false, List, [], ◌∷◌, ◌++◌, Option, Some, None, IfSome}
+use Rattle.std.proofs.Common.{◌≡◌, ℕ, Bool, true, false, List, [], ◌∷◌, ◌++◌, Option, Some, None, IfSome}
 use Rattle.std.proofs.Common.{map, refl, sym, subst, arith, option_map, nat_lt, length}
 use Rattle.std.specs.Prelude.{if◌then◌else◌, is_none, ◌&&◌}
 use Rattle.std.specs.List.{AllByRecursion, list_all}
@@ -14,13 +14,13 @@ use Rattle.miette_positions.specs.rules.Regions.{stretch_of}
 use Rattle.miette_protocol.specs.rules.Reading.{Source, Span}
 use Rattle.miette_protocol.specs.views.Meaning.{Label}
 use Rattle.miette_sarif.specs.rules.Artifacts.{Artifacts}
-use Rattle.miette_sarif.specs.rules.Findings.{Area, Mark, Place, Proposed, Replaced, SeenSource, SourceName}
-use Rattle.miette_sarif.specs.rules.Marks.{Group, Picked, area_at, area_in, area_over, first_picked, is_told, mark_or}
+use Rattle.miette_sarif.specs.rules.Findings.{Area, Mark, Proposed, Replaced, SeenSource, SourceName}
+use Rattle.miette_sarif.specs.rules.Marks.{Group, Picked, area_at, area_over, first_picked, is_told}
 use Rattle.miette_sarif.specs.rules.Marks.{mark_over, marks_from, marks_in, marks_of, other_marks, pick, pick_in}
-use Rattle.miette_sarif.specs.rules.Marks.{pick_label, pick_over, picked_or, place_in, primary_in, primary_mark}
+use Rattle.miette_sarif.specs.rules.Marks.{pick_label, pick_over, picked_or, primary_in, primary_mark}
 use Rattle.miette_sarif.specs.rules.Proposals.{Joined, joined, joined_from, later_end, listed_fix, meets, proposal_in}
 use Rattle.miette_sarif.specs.rules.Proposals.{proposal_over, proposals, proposed, replaced, replacements, widened}
-use Rattle.miette_log_reading_laws.specs.laws.Files.{IsFixOver, IsMarkOver, IsOver, IsPlaceOver}
+use Rattle.miette_log_reading_laws.specs.laws.Files.{IsFixOver, IsMarkOver, IsOver}
 use Rattle.miette_log_reading_laws.specs.laws.Kept.{file_name}
 use Rattle.miette_log_reading_laws.specs.laws.RegionsBack.{IsIn}
 use Rattle.miette_log_reading_laws.proofs.RegionsBack.{span_in, widened_in}

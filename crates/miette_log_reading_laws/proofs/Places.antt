@@ -1,6 +1,6 @@
 -- The places of a log: the files that its locations stand for, and the stretches of its regions.
-use Rattle.std.proofs.Common.{◌≡◌, ℕ, ◌+◌, ◌-◌, List, [], ◌∷◌, ◌++◌, Bool, true, false, ◌||◌, Option, Some, None, IfSome}
-use Rattle.std.proofs.Common.{refl, ap, ◌∙◌, codes, option_and_then, option_map, unwrap_or, is_some, map, add-sub_cancel}
+use Rattle.std.proofs.Common.{◌≡◌, ℕ, ◌+◌, ◌-◌, List, [], ◌++◌, Bool, true, false, ◌||◌, Option, Some, None, IfSome}
+use Rattle.std.proofs.Common.{refl, ap, ◌∙◌, codes, option_and_then, option_map, unwrap_or, is_some, add-sub_cancel}
 use Rattle.std.specs.Prelude.{if◌then◌else◌}
 use Rattle.std.specs.Option.{option_or}
 use Rattle.serde_json.specs.Data.{Data}
@@ -8,16 +8,15 @@ use Rattle.serde_json.specs.Find.{as_number, as_str, as_u64, get}
 use Rattle.miette_positions.specs.declared.place.PositionEncoding.TheVariants.{Utf16}
 use Rattle.miette_positions.specs.declared.place.Stretch.{Stretch}
 use Rattle.miette_protocol.specs.rules.Reading.{Source}
-use Rattle.miette_readers.specs.rules.Members.{object_at, objects_alone, text_at, whole_at}
+use Rattle.miette_readers.specs.rules.Members.{object_at, objects_alone, whole_at}
 use Rattle.miette_readers.specs.rules.Places as places
 use Rattle.miette_readers.specs.rules.Rustc.{stretch_from}
 use Rattle.miette_sarif.specs.rules.Artifacts.{Artifacts, located, uri_of}
 use Rattle.miette_sarif.specs.rules.Codes.{Rules}
-use Rattle.miette_sarif.specs.rules.Findings.{Area, Place, SourceName}
-use Rattle.miette_sarif.specs.rules.Places.{place_value, region}
+use Rattle.miette_sarif.specs.rules.Findings.{SourceName}
 use Rattle.miette_sarif_reader.specs.rules.Bases as bases
 use Rattle.miette_sarif_reader.specs.rules.Bases.{base_uri, behind_base, is_absolute, most_bases, own_uri}
-use Rattle.miette_sarif_reader.specs.rules.Regions.{end_columns, end_line, has_chars, has_bytes, has_line, is_told}
+use Rattle.miette_sarif_reader.specs.rules.Regions.{end_columns, end_line, has_chars, has_bytes, has_line}
 use Rattle.miette_sarif_reader.specs.rules.Regions.{line_stretch, offset_at, start_column, start_line, stretch_by_bytes}
 use Rattle.miette_sarif_reader.specs.rules.Regions.{stretch_by_chars, stretch_in}
 use Rattle.miette_sarif_reader.specs.rules.Results.{Ground, file_at, file_by, item_at, location_of, place_in, with_begin}
@@ -26,7 +25,7 @@ use Rattle.miette_log_reading_laws.specs.laws.Data.{data_of}
 use Rattle.miette_log_reading_laws.specs.laws.Kept.{file_name, place_kept}
 use Rattle.miette_log_reading_laws.specs.laws.RegionsBack.{IsIn, lines_back, log_newlines, offsets_of}
 use Rattle.miette_log_reading_laws.proofs.Ground.{log_ground}
-use Rattle.miette_log_reading_laws.proofs.Members.{AreLines, area_lines, artifact_read, base_read, region_read, uri_read}
+use Rattle.miette_log_reading_laws.proofs.Members.{AreLines, base_read, uri_read}
 use Rattle.miette_log_reading_laws.proofs.RegionsBack.{in_back}
 
 -- ---- names

@@ -1,6 +1,6 @@
 -- The rule of each code of a log stands at the code's index.
-use Rattle.std.proofs.Common.{◌≡◌, ℕ, zero, suc, ◌+◌, ◌<◌, List, [], ◌∷◌, ◌++◌, Bool, true, false, not, ◌||◌, refl, ap}
-use Rattle.std.proofs.Common.{sym, subst, ◌∙◌, arith, length, map, cond, nat_lt, Option, Some, None, slice_get, unwrap_or}
+use Rattle.std.proofs.Common.{◌≡◌, ℕ, ◌+◌, ◌<◌, List, [], ◌∷◌, ◌++◌, Bool, true, false, not, ◌||◌, refl, ap}
+use Rattle.std.proofs.Common.{sym, subst, ◌∙◌, arith, length, map, cond, Some, None, slice_get, unwrap_or}
 use Rattle.std.proofs.Common.{true≢false, inl, inr, one-add, lt-ltb}
 use Rattle.std.specs.Prelude.{if◌then◌else◌}
 use Rattle.std.specs.List.{list_any, position_or_len}
@@ -10,7 +10,6 @@ use Rattle.std.proofs.lemmas.Slice.Eq.{bytes_eq-Decides}
 use Rattle.indexmap.specs.IndexSet.{insert_key}
 use Rattle.miette_basics.specs.rules.Lists.{is_nil}
 use Rattle.serde_json.specs.Data.{Data}
-use Rattle.miette_json.specs.rules.Json.{Json}
 use Rattle.miette_readers.proofs.Holding.{Has}
 use Rattle.miette_sarif.specs.rules.Artifacts.{index_of}
 use Rattle.miette_sarif.specs.rules.Codes.{codes_after, codes_of, help_uri, rule_value, rule_values, rules_in}

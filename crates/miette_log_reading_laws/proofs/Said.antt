@@ -1,11 +1,11 @@
 -- What a result says, and its rule.
-use Rattle.std.proofs.Common.{◌≡◌, ℕ, List, [], ◌∷◌, ◌++◌, Option, Some, None, map, refl, ap, ◌∙◌, codes}
+use Rattle.std.proofs.Common.{◌≡◌, ℕ, List, [], ◌∷◌, ◌++◌, Option, Some, None, ap, ◌∙◌, codes}
 use Rattle.std.proofs.Common.{option_and_then, unwrap_or, is_some}
 use Rattle.std.specs.Prelude.{if◌then◌else◌}
 use Rattle.std.specs.Option.{option_or}
 use Rattle.std.specs.Str.{bytes_eq}
 use Rattle.serde_json.specs.Data.{Data}
-use Rattle.serde_json.specs.Find.{as_number, as_str, as_u64, get}
+use Rattle.serde_json.specs.Find.{as_number, as_str, as_u64}
 use Rattle.miette_json.specs.rules.Json as json
 use Rattle.miette_json.specs.rules.Json.{Json}
 use Rattle.miette_protocol.specs.rules.Reading.{Source}
@@ -14,20 +14,17 @@ use Rattle.miette_readers.specs.rules.Reports.{Said}
 use Rattle.miette_sarif.specs.rules.Artifacts.{index_of}
 use Rattle.miette_sarif.specs.rules.Codes.{codes_of, help_uri, rule_value, rules_in}
 use Rattle.miette_sarif.specs.rules.Findings.{Finding}
-use Rattle.miette_sarif.specs.rules.Objects.{Pairs, maybe_text, message_of, object_of, pair}
-use Rattle.miette_sarif.specs.rules.Results.{message_text as message_written}
+use Rattle.miette_sarif.specs.rules.Objects.{Pairs, maybe_text, message_of, pair}
 use Rattle.miette_sarif_reader.specs.rules.Results.{Ground, code_of, default_level, ground_for, index_told, item_at}
 use Rattle.miette_sarif_reader.specs.rules.Results.{level_of, message_in, message_text, rule_id, rule_index, rule_named}
 use Rattle.miette_sarif_reader.specs.rules.Results.{rule_of, rule_told, said_of, severity_by, strings_of, url_of}
 use Rattle.miette_log_reading_laws.specs.laws.Data.{data_of}
-use Rattle.miette_log_reading_laws.specs.laws.Kept.{message_rows, said_kept, url_kept}
-use Rattle.miette_log_reading_laws.specs.laws.Links.{without_links}
+use Rattle.miette_log_reading_laws.specs.laws.Kept.{url_kept}
 use Rattle.miette_log_reading_laws.proofs.Ground.{log_ground}
 use Rattle.miette_log_reading_laws.proofs.Members.{id_read, index_read, level_read, message_read, no_id_read}
 use Rattle.miette_log_reading_laws.proofs.Members.{no_index_read, result_by, rule_read}
-use Rattle.miette_log_reading_laws.proofs.Objects.{object_read, value_in}
+use Rattle.miette_log_reading_laws.proofs.Objects.{object_read}
 use Rattle.miette_log_reading_laws.proofs.Rules.{HasCode, rule_at}
-use Rattle.miette_log_reading_laws.proofs.Texts.{rows_shown}
 
 -- ---- a rule
 

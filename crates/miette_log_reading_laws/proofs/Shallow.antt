@@ -1,12 +1,11 @@
 -- A log doesn't nest deeply.
-use Rattle.std.proofs.Common.{ℕ, suc, ◌+◌, ◌<◌, ◌≤◌, max, List, [], ◌∷◌, ◌++◌, Bool, true, false, Option, Some, None, map}
+use Rattle.std.proofs.Common.{ℕ, suc, ◌+◌, ◌≤◌, List, [], ◌∷◌, ◌++◌, Bool, true, false, Option, Some, None, map}
 use Rattle.std.proofs.Common.{arith, codes, option_map}
 use Rattle.std.specs.Prelude.{if◌then◌else◌}
 use Rattle.std.specs.List.{AllByRecursion, list_any}
 use Rattle.std.specs.Str.{bytes_eq}
 use Rattle.indexmap.specs.IndexSet.{insert_key}
 use Rattle.json.specs.Tree.{depth, items_depth, members_depth}
-use Rattle.miette_basics.specs.rules.Lists.{is_nil}
 use Rattle.miette_json.specs.rules.Json as json
 use Rattle.miette_json.specs.rules.Json.{Json, json_text}
 use Rattle.miette_sarif.specs.rules.Artifacts.{Artifacts, all_named, artifact, artifact_values, artifacts_in, located}
@@ -143,9 +142,14 @@ change_within : (a : Artifacts) (fix : Proposed) → Within 4 (change a fix)
 change_within a fix =
     let its : List Json = map replacement fix.replacements in
     object_within 3 (pair (codes "artifactLocation") (located a fix.source)
-    ++ pair (codes "replacements") (array_of its))
-    (located_within 2 a fix.source, (array_within 2 its
-    (mapped_within 2 replacement replacement_within fix.replacements), tt))
+    ++ pair (codes "replacements") (array_of its)) (
+      located_within 2 a fix.source,
+      (
+        array_within 2 its
+            (mapped_within 2 replacement replacement_within fix.replacements),
+        tt,
+      ),
+    )
 
 fix_within : (a : Artifacts) (fix : Proposed) → Within 6 (fix_value a fix)
 fix_within a fix =
@@ -216,15 +220,18 @@ tool_within t r =
     let rules : Pairs = listed (codes "rules") (rule_values r) in
     let driver : Pairs = pair (codes "name") (json.string t.name) ++ (maybe_text (codes "version") t.version
     ++ (maybe_text (codes "informationUri") information ++ rules)) in
-    object_within 3 (pair (codes "driver") (object_of driver)) (object_within 2 driver
-    (more_pairs 2 (pair (codes "name") (json.string t.name)) (maybe_text (codes "version") t.version
-    ++ (maybe_text (codes "informationUri") information ++ rules)) (name, tt)
-    (more_pairs 2 (maybe_text (codes "version") t.version) (maybe_text (codes "informationUri") information ++ rules)
-    (text_within 2 (codes "version") t.version)
-    (more_pairs 2 (maybe_text (codes "informationUri") information) rules
-    (text_within 2 (codes "informationUri") information)
-    (listed_within 1 (codes "rules") (rule_values r)
-    (mapped_within 1 (λ code. rule_value code (r.uri code)) (λ code. rule_within code (r.uri code)) r.codes))))), tt)
+    object_within 3 (pair (codes "driver") (object_of driver)) (
+      object_within 2 driver
+          (more_pairs 2 (pair (codes "name") (json.string t.name)) (maybe_text (codes "version") t.version
+          ++ (maybe_text (codes "informationUri") information ++ rules)) (name, tt)
+          (more_pairs 2 (maybe_text (codes "version") t.version) (maybe_text (codes "informationUri") information ++ rules)
+          (text_within 2 (codes "version") t.version)
+          (more_pairs 2 (maybe_text (codes "informationUri") information) rules
+          (text_within 2 (codes "informationUri") information)
+          (listed_within 1 (codes "rules") (rule_values r)
+          (mapped_within 1 (λ code. rule_value code (r.uri code)) (λ code. rule_within code (r.uri code)) r.codes))))),
+      tt,
+    )
 
 artifact_within : (uri : List ℕ) → Within 2 (artifact uri)
 artifact_within uri = omega arith

@@ -1,10 +1,9 @@
 -- What a result tells at places.
 use Rattle.std.proofs.Common.{◌≡◌, ℕ, ◌+◌, List, [], ◌∷◌, ◌++◌, Bool, true, false, Option, Some, None, IfSome, map}
 use Rattle.std.proofs.Common.{refl, ap, ◌∙◌, append-nil, codes, filter, option_and_then, option_map}
-use Rattle.std.specs.Prelude.{if◌then◌else◌}
 use Rattle.std.specs.List.{AllByRecursion, flat_map}
 use Rattle.serde_json.specs.Data.{Data}
-use Rattle.serde_json.specs.Find.{as_array, get}
+use Rattle.serde_json.specs.Find.{as_array}
 use Rattle.miette_json.specs.rules.Json.{Json}
 use Rattle.miette_protocol.specs.rules.Reading.{Source}
 use Rattle.miette_readers.specs.rules.Members.{is_object, items_in, object_at, objects_alone, objects_at, said}
@@ -15,13 +14,12 @@ use Rattle.miette_sarif.specs.rules.Codes.{Rules}
 use Rattle.miette_sarif.specs.rules.Findings.{Area, Mark, Place, SourceName}
 use Rattle.miette_sarif.specs.rules.Places.{place_value, primary_locations, region, related_from}
 use Rattle.miette_sarif_reader.specs.rules.Bases as bases
-use Rattle.miette_sarif_reader.specs.rules.Regions.{has_line}
 use Rattle.miette_sarif_reader.specs.rules.Results.{Ground, file_at, file_of, file_row, flow_told, location_told, message_in}
 use Rattle.miette_sarif_reader.specs.rules.Results.{message_text, own_told, place_in, region_of, related_told, row_alone}
 use Rattle.miette_sarif_reader.specs.rules.Results.{told_at, told_in, told_of, with_begin}
 use Rattle.miette_log_reading_laws.specs.laws.Data.{data_of}
 use Rattle.miette_log_reading_laws.specs.laws.Files.{IsMarkOver, IsOver, IsPlaceOver}
-use Rattle.miette_log_reading_laws.specs.laws.Kept.{file_name, mark_kept, place_kept, primary_kept, told_by, told_over}
+use Rattle.miette_log_reading_laws.specs.laws.Kept.{file_name, mark_kept, primary_kept, told_by, told_over}
 use Rattle.miette_log_reading_laws.specs.laws.Kept.{words}
 use Rattle.miette_log_reading_laws.proofs.Ground.{log_ground}
 use Rattle.miette_log_reading_laws.proofs.Members.{all_related, area_lines, artifact_read, flows_read, location_by}

@@ -17,10 +17,10 @@ use Rattle.miette_sarif.specs.rules.Artifacts.{Artifacts, all_named, artifact_va
 use Rattle.miette_sarif.specs.rules.Codes.{Rules, rules_in}
 use Rattle.miette_sarif.specs.rules.Findings.{Finding}
 use Rattle.miette_sarif.specs.rules.Log.{ToolName, log, run, schema}
-use Rattle.miette_sarif.specs.rules.Objects.{Pairs, array_of, object_of, pair}
+use Rattle.miette_sarif.specs.rules.Objects.{Pairs, array_of, pair}
 use Rattle.miette_sarif.specs.rules.Places.{primary_locations, related_from}
 use Rattle.miette_sarif.specs.rules.Results.{fix_values, message_text, result_of, results}
-use Rattle.miette_sarif_reader.specs.rules.Logs.{ground_of, result_in, result_tree, run_trees, sarif_trees}
+use Rattle.miette_sarif_reader.specs.rules.Logs.{ground_of, result_tree, run_trees, sarif_trees}
 use Rattle.miette_sarif_reader.specs.rules.Proposals.{Draft, drafts_of, help_of, offers_of}
 use Rattle.miette_sarif_reader.specs.rules.Results.{Ground, ground_for, said_of, told_of}
 use Rattle.miette_tree.specs.rules.Tree.{Tree}
@@ -31,7 +31,7 @@ use Rattle.miette_log_reading_laws.specs.laws.Kept.{told_kept}
 use Rattle.miette_log_reading_laws.specs.laws.Links.{without_links}
 use Rattle.miette_log_reading_laws.proofs.Drafts.{drafts_read}
 use Rattle.miette_log_reading_laws.proofs.Ground.{found, ground_read, log_ground, results_read}
-use Rattle.miette_log_reading_laws.proofs.Objects.{all_objects, object_read, objects_in, objects_listed}
+use Rattle.miette_log_reading_laws.proofs.Objects.{all_objects, object_read, objects_listed}
 use Rattle.miette_log_reading_laws.proofs.Rules.{HasCode}
 use Rattle.miette_log_reading_laws.proofs.Said.{said_read, same_ground}
 use Rattle.miette_log_reading_laws.proofs.Texts.{rows_shown}

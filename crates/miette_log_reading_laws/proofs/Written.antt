@@ -1,5 +1,5 @@
 -- The text of a log reads back.
-use Rattle.std.proofs.Common.{◌≡◌, ℕ, ◌≤◌, List, Option, Some, map, ap, sym, subst, ◌∙◌, arith, option_and_then}
+use Rattle.std.proofs.Common.{ℕ, ◌≤◌, List, Option, ap, subst, ◌∙◌, arith, option_and_then}
 use Rattle.json.specs.Tree.{depth}
 use Rattle.serde_json.specs.Read.{max_depth, read}
 use Rattle.miette_json.specs.rules.Denotes.{Denotes}

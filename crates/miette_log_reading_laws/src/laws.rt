@@ -8,22 +8,25 @@
 //! that was refused, is a cause text, with the name of its source. A URL that isn't the rule's, causes, help, and fixes
 //! that can't be applied are rows of the message, and how sure a fix is isn't kept.
 
-ghost use Rattle.std.specs.Prelude.{◌≡◌, ℕ, List, Option, Some, map};
+ghost use Rattle.std.specs.Prelude.{◌≡◌, ℕ, List, Option, Some, map, unwrap_or};
 ghost use Rattle.std.specs.List.{AllByRecursion};
 ghost use Rattle.miette_json.specs.rules.Denotes.{Denotes};
 ghost use Rattle.miette_json.specs.rules.Json.{Json};
 ghost use Rattle.miette_positions.specs.declared.place.PositionEncoding.TheVariants.{Utf16};
 ghost use Rattle.miette_positions.specs.declared.place.Stretch.{Stretch};
 ghost use Rattle.miette_positions.specs.rules.Regions.{stretch_of};
+ghost use Rattle.miette_protocol.specs.declared.protocol.Severity.{Severity};
+ghost use Rattle.miette_protocol.specs.declared.protocol.Severity.TheVariants.{Error};
 ghost use Rattle.miette_protocol.specs.rules.Reading.{Source, Span};
 ghost use Rattle.miette_sarif.specs.rules.Artifacts.{all_named, artifacts_in};
 ghost use Rattle.miette_sarif.specs.rules.Findings.{Finding};
+ghost use Rattle.miette_sarif.specs.rules.Gathered.{level};
 ghost use Rattle.miette_sarif.specs.rules.Log.{ToolName, log};
 ghost use Rattle.miette_sarif.specs.rules.LogText.{IsLogOf};
 ghost use Rattle.miette_sarif.specs.rules.Uris.{name_uri};
 ghost use Rattle.miette_sarif_reader.specs.rules.Logs.{sarif_trees};
 ghost use Rattle.miette_sarif_reader.specs.rules.Proposals.{drafts_of};
-ghost use Rattle.miette_sarif_reader.specs.rules.Results.{said_of, told_of};
+ghost use Rattle.miette_sarif_reader.specs.rules.Results.{said_of, severity_by, told_of};
 ghost use Rattle.miette_sarif_reader.specs.rules.Uris.{name_of};
 ghost use Rattle.miette_tree.specs.rules.Tree.{Trees};
 ghost use Rattle.miette_log_reading_laws.specs.laws.Data.{NumbersFit, data_of};
@@ -68,6 +71,11 @@ pub fn texts_of_logs_read_back()
     ensures { (files : List ℕ → Option Source) (tool : ToolName) (reports : Trees) (text : List ℕ) (value : Json)
         → IsLogOf tool reports text → Denotes text value → NumbersFit value → AreFilesOf files reports
         → ReadsBack files reports text }
+{}
+
+/// A severity is read as it was; a report without one is an error.
+pub fn severities_read_back()
+    ensures { (severity : Option Severity) → severity_by (level severity) ≡ unwrap_or severity Error }
 {}
 
 /// The lines and columns of a label's region are read as the bytes that it was written for, whatever bytes they are.

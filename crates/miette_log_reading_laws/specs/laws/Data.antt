@@ -1,6 +1,6 @@
 -- The value that ours is where it is read: each of its numbers is an integer, and of a key that comes twice the last
 -- value stays.
-use Rattle.std.specs.Prelude.{⊤, List, ℕ, ◌<◌, ◌^◌}
+use Rattle.std.specs.Prelude.{⊤, ◌<◌, ◌^◌}
 use Rattle.miette_json.specs.rules.Json as json
 use Rattle.serde_json.specs.Data.{unsigned, Data, number, string, array, object, Items, no_items, item, Members}
 use Rattle.serde_json.specs.Data.{no_members, put}

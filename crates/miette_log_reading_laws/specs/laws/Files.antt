@@ -1,5 +1,5 @@
 -- The files over which a log is read are those that its findings were made over.
-use Rattle.std.specs.Prelude.{List, ℕ, Option, IfSome, ⊤}
+use Rattle.std.specs.Prelude.{List, ℕ, Option, IfSome}
 use Rattle.std.specs.List.{AllByRecursion}
 use Rattle.miette_positions.specs.declared.place.Stretch.{Stretch}
 use Rattle.miette_protocol.specs.rules.Reading.{Source}
