@@ -44,7 +44,8 @@ plain_here : (b : ℕ) (bs : List ℕ) (x y z : Bool) → eqb b 92 ≡ x → eqb
     → (eqb b 92 && is_escapable (slice_index bs 0)) ≡ false → is_link bs ≡ false → link_piece false b bs ≡ plain false b
 plain_here b bs true y z l m n none linkless =
     let same : b ≡ 92 = eqb-true b 92 l in
-    let alone : is_escapable (slice_index bs 0) ≡ false = sym (ap (λ t. t && is_escapable (slice_index bs 0)) l) ∙ none in
+    let alone : is_escapable (slice_index bs 0) ≡ false =
+    sym (ap (λ t. t && is_escapable (slice_index bs 0)) l) ∙ none in
     rw (l, alone) (ap (plain false) (sym same))
 plain_here b bs false true z l m n none linkless =
     let same : b ≡ 91 = eqb-true b 91 m in
