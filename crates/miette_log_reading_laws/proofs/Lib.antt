@@ -1,5 +1,6 @@
 pub mod Objects
 pub mod Members
+pub mod LinkEnds
 pub mod Links
 pub mod Texts
 pub mod Rules

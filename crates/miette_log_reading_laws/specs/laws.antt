@@ -1,5 +1,6 @@
 -- What holds of logs that are read back.
 pub mod Data
+pub mod LinkEnds
 pub mod Links
 pub mod RegionsBack
 pub mod NamesBack
