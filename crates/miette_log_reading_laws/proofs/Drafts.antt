@@ -17,7 +17,8 @@ use Rattle.miette_sarif.specs.rules.Findings.{Proposed, Replaced}
 use Rattle.miette_sarif.specs.rules.Objects.{object_of}
 use Rattle.miette_sarif.specs.rules.Places.{line_pairs}
 use Rattle.miette_sarif.specs.rules.Results.{change, first_values, fix_value, fix_values, replacement}
-use Rattle.miette_sarif_reader.specs.rules.Proposals.{change_edits, change_name, description, draft_by, draft_of, drafts_of}
+use Rattle.miette_sarif_reader.specs.rules.Proposals.{change_edits, change_name, description, draft_by, draft_of}
+use Rattle.miette_sarif_reader.specs.rules.Proposals.{drafts_of}
 use Rattle.miette_sarif_reader.specs.rules.Proposals.{edits_of, named, new_text, place_by, replaced_in}
 use Rattle.miette_sarif_reader.specs.rules.Results.{Ground, message_text, place_in}
 use Rattle.miette_log_reading_laws.specs.laws.Data.{data_of}
@@ -26,7 +27,8 @@ use Rattle.miette_log_reading_laws.specs.laws.Kept.{edit_kept, file_name, first_
 use Rattle.miette_log_reading_laws.specs.laws.Kept.{words}
 use Rattle.miette_log_reading_laws.specs.laws.RegionsBack.{IsIn}
 use Rattle.miette_log_reading_laws.proofs.Ground.{log_ground}
-use Rattle.miette_log_reading_laws.proofs.Members.{changed_read, changes_read, deleted_read, description_read, fixes_read}
+use Rattle.miette_log_reading_laws.proofs.Members.{changed_read, changes_read, deleted_read, description_read}
+use Rattle.miette_log_reading_laws.proofs.Members.{fixes_read}
 use Rattle.miette_log_reading_laws.proofs.Members.{inserted_read, inserted_value, lines_alone, own_text_read}
 use Rattle.miette_log_reading_laws.proofs.Members.{replacements_read, result_by}
 use Rattle.miette_log_reading_laws.proofs.Objects.{IsObject, all_objects, objects_in, objects_listed}

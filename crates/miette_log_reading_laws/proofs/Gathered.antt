@@ -7,12 +7,14 @@ use Rattle.miette_protocol.specs.rules.Reading.{Source}
 use Rattle.miette_readers.specs.rules.Members.{said}
 use Rattle.miette_sarif.specs.rules.Artifacts.{Artifacts, all_named, artifacts_in, index_of}
 use Rattle.miette_sarif.specs.rules.Findings.{Finding, SeenSource}
-use Rattle.miette_sarif.specs.rules.Gathered.{AreFindingsOf, all_findings, cause_marks, cause_proposals, finding, findings}
+use Rattle.miette_sarif.specs.rules.Gathered.{AreFindingsOf, all_findings, cause_marks, cause_proposals, finding}
+use Rattle.miette_sarif.specs.rules.Gathered.{findings}
 use Rattle.miette_sarif.specs.rules.Marks.{Group, further_groups, groups_of, marks_of, other_marks, primary_in}
 use Rattle.miette_sarif.specs.rules.Marks.{seen_further}
 use Rattle.miette_sarif.specs.rules.Proposals.{proposals}
 use Rattle.miette_sarif.specs.rules.Seen.{count_causes, count_here, count_in, count_own, seen, seen_or}
-use Rattle.miette_sarif.specs.rules.SourceAnswers.{Faults, RelatedSourceAnswers, SourceAnswers, SourceFaults, first_faults}
+use Rattle.miette_sarif.specs.rules.SourceAnswers.{Faults, RelatedSourceAnswers, SourceAnswers, SourceFaults}
+use Rattle.miette_sarif.specs.rules.SourceAnswers.{first_faults}
 use Rattle.miette_sarif.specs.rules.SourceAnswers.{later_causes, none_met}
 use Rattle.miette_sarif.specs.rules.Uris.{name_uri}
 use Rattle.miette_sarif_reader.specs.rules.Uris.{name_of}

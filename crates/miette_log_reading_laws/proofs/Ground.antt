@@ -22,7 +22,8 @@ use Rattle.miette_sarif_reader.specs.rules.Regions.{encoding_of}
 use Rattle.miette_sarif_reader.specs.rules.Results.{Ground}
 use Rattle.miette_log_reading_laws.specs.laws.Data.{data_of}
 use Rattle.miette_log_reading_laws.specs.laws.RegionsBack.{log_newlines}
-use Rattle.miette_log_reading_laws.proofs.Objects.{all_objects, listed_read, object_read, objects_in, some_array, value_in}
+use Rattle.miette_log_reading_laws.proofs.Objects.{all_objects, listed_read, object_read, objects_in, some_array}
+use Rattle.miette_log_reading_laws.proofs.Objects.{value_in}
 
 abbrev made : (List ℕ → Option Source) → List Data → PositionEncoding → List (List ℕ) → List Data → Option Data → Ground
 made files artifacts encoding ends rules bases = record {

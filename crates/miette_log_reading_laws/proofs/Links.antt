@@ -6,8 +6,10 @@ use Rattle.std.specs.Prelude.{if◌then◌else◌}
 use Rattle.std.proofs.lemmas.Bool.{and_parts, eqb-true, or_cases}
 use Rattle.std.proofs.lemmas.List.{drop-drop}
 use Rattle.miette_sarif.specs.rules.Messages.{doubled, is_brace}
-use Rattle.miette_sarif_reader.specs.rules.Messages.{Piece, backslash_piece, bracket_at, closing_piece, destination_count}
-use Rattle.miette_sarif_reader.specs.rules.Messages.{ends_destination, escaped, has_destination, is_bracket, is_escapable}
+use Rattle.miette_sarif_reader.specs.rules.Messages.{Piece, backslash_piece, bracket_at, closing_piece}
+use Rattle.miette_sarif_reader.specs.rules.Messages.{destination_count}
+use Rattle.miette_sarif_reader.specs.rules.Messages.{ends_destination, escaped, has_destination, is_bracket}
+use Rattle.miette_sarif_reader.specs.rules.Messages.{is_escapable}
 use Rattle.miette_sarif_reader.specs.rules.Messages.{is_link, opening_piece, piece_of, plain, shown, shown_behind}
 use Rattle.std.specs.List.{position_or_len}
 use Rattle.miette_log_reading_laws.specs.laws.Links.{link_piece, unlinked_behind, without_links}

@@ -19,7 +19,8 @@ use Rattle.miette_sarif_reader.specs.rules.Bases.{base_uri, behind_base, is_abso
 use Rattle.miette_sarif_reader.specs.rules.Regions.{end_columns, end_line, has_chars, has_bytes, has_line}
 use Rattle.miette_sarif_reader.specs.rules.Regions.{line_stretch, offset_at, start_column, start_line, stretch_by_bytes}
 use Rattle.miette_sarif_reader.specs.rules.Regions.{stretch_by_chars, stretch_in}
-use Rattle.miette_sarif_reader.specs.rules.Results.{Ground, file_at, file_by, item_at, location_of, place_in, with_begin}
+use Rattle.miette_sarif_reader.specs.rules.Results.{Ground, file_at, file_by, item_at, location_of, place_in}
+use Rattle.miette_sarif_reader.specs.rules.Results.{with_begin}
 use Rattle.miette_sarif_reader.specs.rules.Uris.{name_of}
 use Rattle.miette_log_reading_laws.specs.laws.Data.{data_of}
 use Rattle.miette_log_reading_laws.specs.laws.Kept.{file_name, place_kept}

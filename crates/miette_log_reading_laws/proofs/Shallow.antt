@@ -15,7 +15,8 @@ use Rattle.miette_sarif.specs.rules.Log.{ToolName, log, newlines, run, run_head,
 use Rattle.miette_sarif.specs.rules.Messages.{doubled}
 use Rattle.miette_sarif.specs.rules.Objects.{Pairs, array_of, items_of, listed, maybe_text, members_of, message_of}
 use Rattle.miette_sarif.specs.rules.Objects.{object_of, pair}
-use Rattle.miette_sarif.specs.rules.Places.{byte_pairs, line_pairs, location, place_pairs, place_value, primary_locations}
+use Rattle.miette_sarif.specs.rules.Places.{byte_pairs, line_pairs, location, place_pairs, place_value}
+use Rattle.miette_sarif.specs.rules.Places.{primary_locations}
 use Rattle.miette_sarif.specs.rules.Places.{region, region_pairs, related_from, snippet_pairs, text_pairs}
 use Rattle.miette_sarif.specs.rules.Results.{change, first_values, fix_value, fix_values, head_pairs, inserted}
 use Rattle.miette_sarif.specs.rules.Results.{message_text, replacement, result_of, results, tail_pairs}
@@ -216,22 +217,18 @@ rule_within code uri =
 tool_within : (t : ToolName) (r : Rules) → Within 4 (tool_of t r)
 tool_within t r =
     let name : Within 2 (json.string t.name) = omega arith in
-    let information : Option (List ℕ) = option_map address_uri t.information in
+    let first : Pairs = pair (codes "name") (json.string t.name) in
+    let version : Pairs = maybe_text (codes "version") t.version in
+    let address : Option (List ℕ) = option_map address_uri t.information in
+    let information : Pairs = maybe_text (codes "informationUri") address in
     let rules : Pairs = listed (codes "rules") (rule_values r) in
-    let driver : Pairs = pair (codes "name") (json.string t.name) ++ (maybe_text (codes "version") t.version
-    ++ (maybe_text (codes "informationUri") information ++ rules)) in
-    object_within 3 (pair (codes "driver") (object_of driver)) (
-      object_within 2 driver
-          (more_pairs 2 (pair (codes "name") (json.string t.name)) (maybe_text (codes "version") t.version
-          ++ (maybe_text (codes "informationUri") information ++ rules)) (name, tt)
-          (more_pairs 2 (maybe_text (codes "version") t.version) (maybe_text (codes "informationUri") information ++ rules)
-          (text_within 2 (codes "version") t.version)
-          (more_pairs 2 (maybe_text (codes "informationUri") information) rules
-          (text_within 2 (codes "informationUri") information)
-          (listed_within 1 (codes "rules") (rule_values r)
-          (mapped_within 1 (λ code. rule_value code (r.uri code)) (λ code. rule_within code (r.uri code)) r.codes))))),
-      tt,
-    )
+    let rules_there = listed_within 1 (codes "rules") (rule_values r)
+    (mapped_within 1 (λ code. rule_value code (r.uri code)) (λ code. rule_within code (r.uri code)) r.codes) in
+    let driver = more_pairs 2 first (version ++ (information ++ rules)) (name, tt)
+    (more_pairs 2 version (information ++ rules) (text_within 2 (codes "version") t.version)
+    (more_pairs 2 information rules (text_within 2 (codes "informationUri") address) rules_there)) in
+    let whole : Pairs = first ++ (version ++ (information ++ rules)) in
+    object_within 3 (pair (codes "driver") (object_of whole)) (object_within 2 whole driver, tt)
 
 artifact_within : (uri : List ℕ) → Within 2 (artifact uri)
 artifact_within uri = omega arith

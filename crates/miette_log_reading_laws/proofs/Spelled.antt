@@ -1,6 +1,7 @@
 -- The spelling of a value reads as that value.
 use Rattle.std.proofs.Common.{◌≡◌, ℕ, ◌<◌, ◌≤◌, ◌^◌, List, [], ◌∷◌, ◌++◌, Bool, true, false, cond, ◌&&◌, Some}
-use Rattle.std.proofs.Common.{refl, ap, sym, subst, ◌∙◌, inl, map, append_assoc, append-nil, option_map, option_and_then}
+use Rattle.std.proofs.Common.{refl, ap, sym, subst, ◌∙◌, inl, map, append_assoc, append-nil, option_map}
+use Rattle.std.proofs.Common.{option_and_then}
 use Rattle.std.proofs.lemmas.List.{map-append}
 use Rattle.std.specs.List.{flat_map}
 use Rattle.json.specs.Json as text
@@ -23,7 +24,8 @@ use Rattle.miette_json.specs.rules.Json as json
 use Rattle.miette_json.specs.rules.Json.{Json, escaped_text, items_text, json_text, members_text, more_items_text}
 use Rattle.miette_json.specs.rules.Json.{more_members_text, numeral, quoted_text}
 use Rattle.miette_json.proofs.JsonSpelled.{numeral_decimal}
-use Rattle.miette_log_reading_laws.specs.laws.Data.{AllNumbersFit, MembersFit, NumbersFit, data_of, items_data, members_data}
+use Rattle.miette_log_reading_laws.specs.laws.Data.{AllNumbersFit, MembersFit, NumbersFit, data_of, items_data}
+use Rattle.miette_log_reading_laws.specs.laws.Data.{members_data}
 
 -- ---- the value as the reader's JSON
 

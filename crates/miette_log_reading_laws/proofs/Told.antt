@@ -14,8 +14,10 @@ use Rattle.miette_sarif.specs.rules.Codes.{Rules}
 use Rattle.miette_sarif.specs.rules.Findings.{Area, Mark, Place, SourceName}
 use Rattle.miette_sarif.specs.rules.Places.{place_value, primary_locations, region, related_from}
 use Rattle.miette_sarif_reader.specs.rules.Bases as bases
-use Rattle.miette_sarif_reader.specs.rules.Results.{Ground, file_at, file_of, file_row, flow_told, location_told, message_in}
-use Rattle.miette_sarif_reader.specs.rules.Results.{message_text, own_told, place_in, region_of, related_told, row_alone}
+use Rattle.miette_sarif_reader.specs.rules.Results.{Ground, file_at, file_of, file_row, flow_told, location_told}
+use Rattle.miette_sarif_reader.specs.rules.Results.{message_in}
+use Rattle.miette_sarif_reader.specs.rules.Results.{message_text, own_told, place_in, region_of, related_told}
+use Rattle.miette_sarif_reader.specs.rules.Results.{row_alone}
 use Rattle.miette_sarif_reader.specs.rules.Results.{told_at, told_in, told_of, with_begin}
 use Rattle.miette_log_reading_laws.specs.laws.Data.{data_of}
 use Rattle.miette_log_reading_laws.specs.laws.Files.{IsMarkOver, IsOver, IsPlaceOver}

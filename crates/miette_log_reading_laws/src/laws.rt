@@ -8,7 +8,7 @@
 //! that was refused, is a cause text, with the name of its source. A URL that isn't the rule's, causes, help, and fixes
 //! that can't be applied are rows of the message, and how sure a fix is isn't kept.
 
-ghost use Rattle.std.specs.Prelude.{◌≡◌, ℕ, List, Option, Some, map, unwrap_or};
+ghost use Rattle.std.specs.Prelude.{◌≡◌, ℕ, List, Option, Some, false, map, unwrap_or};
 ghost use Rattle.std.specs.List.{AllByRecursion};
 ghost use Rattle.miette_json.specs.rules.Denotes.{Denotes};
 ghost use Rattle.miette_json.specs.rules.Json.{Json};
@@ -32,6 +32,8 @@ ghost use Rattle.miette_tree.specs.rules.Tree.{Trees};
 ghost use Rattle.miette_log_reading_laws.specs.laws.Data.{NumbersFit, data_of};
 ghost use Rattle.miette_log_reading_laws.specs.laws.Files.{AreFindingsOver};
 ghost use Rattle.miette_log_reading_laws.specs.laws.Kept.{fixes_kept, report_kept, said_kept, told_kept};
+ghost use Rattle.miette_log_reading_laws.specs.laws.LinkEnds.{has_link_end};
+ghost use Rattle.miette_log_reading_laws.specs.laws.Links.{without_links};
 ghost use Rattle.miette_log_reading_laws.specs.laws.NamesBack.{IsPlainAddress, IsPlainName};
 ghost use Rattle.miette_log_reading_laws.specs.laws.Reading.{ReadsBack, result_data, result_ground};
 ghost use Rattle.miette_log_reading_laws.specs.laws.RegionsBack.{lines_back, offsets_of};
@@ -71,6 +73,11 @@ pub fn texts_of_logs_read_back()
     ensures { (files : List ℕ → Option Source) (tool : ToolName) (reports : Trees) (text : List ℕ) (value : Json)
         → IsLogOf tool reports text → Denotes text value → NumbersFit value → AreFilesOf files reports
         → ReadsBack files reports text }
+{}
+
+/// A text in which no `]` stands in front of a `(` has no link, and is shown as it is.
+pub fn texts_without_links_read_back()
+    ensures { (text : List ℕ) → has_link_end text ≡ false → without_links text ≡ text }
 {}
 
 /// A severity is read as it was; a report without one is an error.
