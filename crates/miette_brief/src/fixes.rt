@@ -61,7 +61,7 @@ fn byte_of(source: &IndexedSource, at: usize) -> Result<Position, AllocError>
 }
 
 /// The row of an edit that doesn't end after the source's end.
-fn push_edit(text: FixText<'_>, edit: &Edit, out: &mut String) -> Result<(), AllocError>
+fn push_edit(out: &mut String, text: FixText<'_>, edit: &Edit) -> Result<(), AllocError>
     requires { ends_behind (length text.lines.now) edit.now ≡ false }
     ensures { OnOk result (string_bytes out.new ≡ string_bytes out.old
         ++ rows_text (edit_row (option_copied text.entry.name) text.entry.lines.now edit.now ∷ [])) }
@@ -78,19 +78,19 @@ fn push_edit(text: FixText<'_>, edit: &Edit, out: &mut String) -> Result<(), All
 }
 
 /// The rows of edits in their order, none of which ends after the source's end.
-fn push_edits(text: FixText<'_>, edits: &[&Edit], out: &mut String) -> Result<(), AllocError>
+fn push_edits(out: &mut String, text: FixText<'_>, edits: &[&Edit]) -> Result<(), AllocError>
     requires { list_any (ends_behind (length text.lines.now)) (edits_of edits.now) ≡ false }
     ensures { OnOk result (string_bytes out.new ≡ string_bytes out.old
         ++ rows_text (map (edit_row (option_copied text.entry.name) text.entry.lines.now) (edits_of edits.now))) }
 {
     for edit in edits {
-        push_edit(text, edit, out)?;
+        push_edit(out, text, edit)?;
     }
     Ok(())
 }
 
 /// `bad_file.rs:2:3: fix: a colon is missing`
-fn push_message(at: Place<'_>, message: &str, out: &mut String) -> Result<(), AllocError>
+fn push_message(out: &mut String, at: Place<'_>, message: &str) -> Result<(), AllocError>
     ensures { OnOk result (string_bytes out.new
         ≡ string_bytes out.old ++ rows_text (fix_row (place_of at.entry) message.now ∷ [])) }
 {
@@ -99,25 +99,25 @@ fn push_message(at: Place<'_>, message: &str, out: &mut String) -> Result<(), Al
 
 /// A fix that can't be applied, and why.
 fn push_failed(
+    out: &mut String,
     at: Place<'_>,
     message: &str,
     reason: &str,
-    out: &mut String,
 ) -> Result<(), AllocError>
     ensures { OnOk result (string_bytes out.new
         ≡ string_bytes out.old ++ rows_text (failed_rows (place_of at.entry) message.now reason.now)) }
 {
-    push_message(at, message, out)?;
+    push_message(out, at, message)?;
     push_row(out, at, Kind::Failure, reason)
 }
 
 /// A fix of edits in their order, none of which ends after the source's end: it lies at the first of them.
 fn push_applied(
+    out: &mut String,
     at: Place<'_>,
     text: FixText<'_>,
     message: &str,
     edits: &[&Edit],
-    out: &mut String,
 ) -> Result<(), AllocError>
     requires { list_any (ends_behind (length text.lines.now)) (edits_of edits.now) ≡ false }
     ensures { OnOk result (string_bytes out.new ≡ string_bytes out.old
@@ -125,77 +125,77 @@ fn push_applied(
         message.now (edits_of edits.now))) }
 {
     let Some(first) = edits.first() else {
-        return push_message(at, message, out);
+        return push_message(out, at, message);
     };
     let place = Place {
         name: text.name,
         position: Some(position_of(text.lines, first.offset())?),
     };
-    push_message(place, message, out)?;
-    push_edits(text, edits, out)
+    push_message(out, place, message)?;
+    push_edits(out, text, edits)
 }
 
 /// A fix over a source that was read, which may be refused.
 fn push_read(
+    out: &mut String,
     at: Place<'_>,
     text: FixText<'_>,
     fix: &Fix,
-    out: &mut String,
 ) -> Result<(), AllocError>
     ensures { OnOk result (string_bytes out.new ≡ string_bytes out.old
         ++ rows_text (rows_in (place_of at.entry) (option_copied text.entry.name) text.entry.lines.now fix.now)) }
 {
     match checked(*out.allocator(), text.lines.bytes().len(), fix.edits()) {
-        Ok(list) => push_applied(at, text, fix.message(), &list, out),
-        Err(FixError::OutOfBounds) => push_failed(at, fix.message(), "OutOfBounds", out),
-        Err(FixError::Overlap) => push_failed(at, fix.message(), "Overlap", out),
+        Ok(list) => push_applied(out, at, text, fix.message(), &list),
+        Err(FixError::OutOfBounds) => push_failed(out, at, fix.message(), "OutOfBounds"),
+        Err(FixError::Overlap) => push_failed(out, at, fix.message(), "Overlap"),
         Err(FixError::Memory) => Err(AllocError),
     }
 }
 
 /// A fix of a diagnostic at a place.
 fn push_fix(
+    out: &mut String,
     at: Place<'_>,
     over: FixSource<'_>,
     fix: &Fix,
-    out: &mut String,
 ) -> Result<(), AllocError>
     ensures { OnOk result (string_bytes out.new
         ≡ string_bytes out.old ++ rows_text (fix_rows (place_of at.entry) (fixed_over over.entry) fix.now)) }
 {
     if fix.edits().is_empty() {
-        return push_message(at, fix.message(), out);
+        return push_message(out, at, fix.message());
     }
     match over {
-        FixSource::Nowhere => push_message(at, fix.message(), out),
-        FixSource::Unread => push_failed(at, fix.message(), "IoError", out),
-        FixSource::Read(text) => push_read(at, text, fix, out),
+        FixSource::Nowhere => push_message(out, at, fix.message()),
+        FixSource::Unread => push_failed(out, at, fix.message(), "IoError"),
+        FixSource::Read(text) => push_read(out, at, text, fix),
     }
 }
 
 /// The fixes of a diagnostic at a place, in the order given.
 fn push_each(
+    out: &mut String,
     at: Place<'_>,
     over: FixSource<'_>,
     fixes: &[Fix],
-    out: &mut String,
 ) -> Result<(), AllocError>
     ensures { OnOk result (string_bytes out.new
         ≡ string_bytes out.old ++ rows_text (fixes_rows (place_of at.entry) (fixed_over over.entry) fixes.now)) }
 {
     for fix in fixes {
-        push_fix(at, over, fix, out)?;
+        push_fix(out, at, over, fix)?;
     }
     Ok(())
 }
 
 /// The fixes over these bytes of a source with this name, or without one.
 fn push_over(
+    out: &mut String,
     at: Place<'_>,
     name: Option<&str>,
     bytes: &[u8],
     fixes: &[Fix],
-    out: &mut String,
 ) -> Result<(), AllocError>
     ensures { OnOk result (string_bytes out.new ≡ string_bytes out.old
         ++ rows_text (fixes_rows (place_of at.entry) (read (option_copied name.entry) bytes.now) fixes.now)) }
@@ -206,15 +206,15 @@ fn push_over(
         name,
         lines: &lines,
     };
-    push_each(at, FixSource::Read(text), fixes, out)
+    push_each(out, at, FixSource::Read(text), fixes)
 }
 
 /// The fixes of a diagnostic at a place over a source, which is read once for all of them, as a whole.
 pub(crate) fn push_fixes<S: SourceCode>(
+    out: &mut String,
     at: Place<'_>,
     fixes: &[Fix],
     source: Option<SourceRef<'_, S>>,
-    out: &mut String,
 ) -> Result<(), AllocError>
     ensures { OnOk result (AppendsFixes (place_of at.entry) (source_shown S.source source.entry)
         fixes.now (string_bytes out.old) (string_bytes out.new)) }
@@ -223,11 +223,11 @@ pub(crate) fn push_fixes<S: SourceCode>(
         return Ok(());
     }
     let Some(source) = source else {
-        return push_each(at, FixSource::Nowhere, fixes, out);
+        return push_each(out, at, FixSource::Nowhere, fixes);
     };
     let begin = SourceSpan::new(SourceOffset::from(0), 0);
     match source.read_span(&begin, 1, usize::MAX) {
-        Ok(lent) => push_over(at, lent.name(), lent.data(), fixes, out),
-        Err(_) => push_each(at, FixSource::Unread, fixes, out),
+        Ok(lent) => push_over(out, at, lent.name(), lent.data(), fixes),
+        Err(_) => push_each(out, at, FixSource::Unread, fixes),
     }
 }

@@ -182,11 +182,11 @@ fn push_advice<D: Diagnostic, S: SourceCode>(
 
 /// The message of a report with these labels, of which one stands first, and a line feed.
 fn push_message<D: Diagnostic, S: SourceCode>(
+    out: &mut String,
     chain: bool,
     report: &Report<D, S>,
     marks: &[Mark<'_, S>],
     first: Option<usize>,
-    out: &mut String,
 ) -> Result<(), AllocError>
     requires { IfSome first (λ at. at < length marks.now) }
     ensures { OnOk result (string_bytes out.new ≡ string_bytes out.old
@@ -204,11 +204,11 @@ fn push_message<D: Diagnostic, S: SourceCode>(
 
 /// The command of a report over a source that was read as a whole, or over none, without those of related reports.
 pub(crate) fn push_command<'a, D: Diagnostic, S: SourceCode>(
+    out: &mut String,
     chain: bool,
     report: &'a Report<D, S>,
     source: Option<SourceRef<'a, S>>,
     whole: &Whole<'a>,
-    out: &mut String,
 ) -> Result<(), RenderError>
     requires { IsWhole (source_shown S.source source) whole.now }
     ensures text { OnOk result (AppendsOwn (record { chain = chain; form = Github })
@@ -221,6 +221,6 @@ pub(crate) fn push_command<'a, D: Diagnostic, S: SourceCode>(
     let first = primary_at(&marks);
     let site = chosen_site(source, whole, labels_of(report).len(), &marks, first)?;
     push_head(out, report.severity(), site, nonempty(report.code()))?;
-    push_message(chain, report, &marks, first, out)?;
+    push_message(out, chain, report, &marks, first)?;
     Ok(())
 }

@@ -154,10 +154,10 @@ impl BriefReportHandler {
     // Appends a report over a source, or over none, without those related to it.
     fn push_own<'a, D: Diagnostic, S: SourceCode>(
         &self,
+        out: &mut String,
         report: &'a Report<D, S>,
         source: Option<SourceRef<'a, S>>,
         whole: &Whole<'a>,
-        out: &mut String,
     ) -> Result<(), RenderError>
         requires { IsWholeIn self.now.form (source_shown S.source source) whole.now }
         ensures text { OnOk result (AppendsOwn self.now (source_shown S.source source.entry)
@@ -168,8 +168,8 @@ impl BriefReportHandler {
     {
         let chain = self.tells_causes();
         match self.form() {
-            Form::Gcc => push_own(chain, report, source, out),
-            Form::Github => push_command(chain, report, source, whole, out),
+            Form::Gcc => push_own(out, chain, report, source),
+            Form::Github => push_command(out, chain, report, source, whole),
         }
     }
 
@@ -192,10 +192,10 @@ impl BriefReportHandler {
     #[cycle(report)]
     fn push_report<'a, D: Diagnostic, S: SourceCode>(
         &self,
+        out: &mut String,
         report: &'a Report<D, S>,
         inherited: Option<SourceRef<'a, S>>,
         whole: &Whole<'a>,
-        out: &mut String,
     ) -> Result<(), RenderError>
         requires { IsWholeIn self.now.form (source_shown S.source inherited) whole.now }
         ensures text { OnOk result (AppendsReport self.now (source_shown S.source inherited.entry)
@@ -206,18 +206,18 @@ impl BriefReportHandler {
         let source = own_or(report, inherited);
         let own = self.own_whole(*out.allocator(), report)?;
         let whole = whole_or(&own, &*whole);
-        self.push_own(report, source, whole, out)?;
-        self.push_related(report.related(), source, whole, out)
+        self.push_own(out, report, source, whole)?;
+        self.push_related(out, report.related(), source, whole)
     }
 
     // Appends related reports, below a report with this source.
     #[cycle(report)]
     fn push_related<'a, D: Diagnostic, S: SourceCode>(
         &self,
+        out: &mut String,
         reports: &'a [Report<D, S>],
         source: Option<SourceRef<'a, S>>,
         whole: &Whole<'a>,
-        out: &mut String,
     ) -> Result<(), RenderError>
         requires { IsWholeIn self.now.form (source_shown S.source source) whole.now }
         ensures text { OnOk result (AppendsRelated self.now (source_shown S.source source.entry)
@@ -226,7 +226,7 @@ impl BriefReportHandler {
             (trees (map (tree_of D.meaning S.source) reports.now)) ≡ false }
     {
         for report in reports {
-            self.push_report(report, source, &*whole, out)?;
+            self.push_report(out, report, source, &*whole)?;
         }
         Ok(())
     }
@@ -243,7 +243,7 @@ impl TextHandler for BriefReportHandler {
         report: &Report<D, S>,
     ) -> Result<String, RenderError> {
         let mut text = String::new(alloc);
-        self.push_report(report, None, &Whole::Nowhere, &mut text)?;
+        self.push_report(&mut text, report, None, &Whole::Nowhere)?;
         Ok(text)
     }
 }

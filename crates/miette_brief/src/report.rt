@@ -35,9 +35,9 @@ use std::alloc::{AllocError, Global};
 
 /// The row of a diagnostic.
 fn push_head<D: Diagnostic, S: SourceCode>(
+    out: &mut String,
     report: &Report<D, S>,
     at: Place<'_>,
-    out: &mut String,
 ) -> Result<(), AllocError>
     ensures { OnOk result (string_bytes out.new ≡ string_bytes out.old
         ++ rows_text (finding_row (place_of at.entry) (head (tree_of D.meaning S.source report.now)) ∷ [])) }
@@ -48,10 +48,10 @@ fn push_head<D: Diagnostic, S: SourceCode>(
 
 /// The row of a label that has a text, read near lines that are known; `Refused` where its read is refused.
 fn push_note<S: SourceCode>(
+    out: &mut String,
     source: Option<SourceRef<'_, S>>,
     label: &LabeledSpan,
     known: &mut KnownLines,
-    out: &mut String,
 ) -> Result<(), RenderError>
     requires { AreKnown (source_shown S.source source) known.old }
     ensures known { AreKnown (source_shown S.source source.entry) known.new }
@@ -71,10 +71,10 @@ fn push_note<S: SourceCode>(
 
 /// The rows of labels in this order, each read near the one before; `Refused` where one can't be read.
 fn push_notes<S: SourceCode>(
+    out: &mut String,
     source: Option<SourceRef<'_, S>>,
     labels: &[LabeledSpan],
     order: &[Turn],
-    out: &mut String,
 ) -> Result<(), RenderError>
     requires inside { All (λ turn. turn.index < length labels.now) order.now }
     ensures text { OnOk result (string_bytes out.new ≡ string_bytes out.old
@@ -86,16 +86,16 @@ fn push_notes<S: SourceCode>(
     let mut known = START;
     for turn in order {
         let label = label_of(labels, *turn);
-        push_note(source, label, &mut known, out)?;
+        push_note(out, source, label, &mut known)?;
     }
     Ok(())
 }
 
 /// The rows of labels over a source, by offset; `Refused` where one can't be read.
 fn push_sorted_notes<S: SourceCode>(
+    out: &mut String,
     source: SourceRef<'_, S>,
     labels: &[LabeledSpan],
-    out: &mut String,
 ) -> Result<(), RenderError>
     ensures text { OnOk result (string_bytes out.new ≡ string_bytes out.old
         ++ rows_text (note_rows (Some (shown_source S.source source.entry)) (in_order labels.now))) }
@@ -104,13 +104,13 @@ fn push_sorted_notes<S: SourceCode>(
         accepts (Some (shown_source S.source source.entry)) (in_order labels.now) ≡ false }
 {
     let order = by_offset(*out.allocator(), labels)?;
-    push_notes(Some(source), labels, &order, out)
+    push_notes(out, Some(source), labels, &order)
 }
 
 /// The rows of labels over further sources; `Refused` where one can't be read.
 fn push_further_notes<S: SourceCode>(
-    further: &[Snippets<S>],
     out: &mut String,
+    further: &[Snippets<S>],
 ) -> Result<(), RenderError>
     ensures text { OnOk result (string_bytes out.new ≡ string_bytes out.old
         ++ rows_text (further_notes (map (section_of S.source) further.now))) }
@@ -119,13 +119,13 @@ fn push_further_notes<S: SourceCode>(
         holds_further accepts (map (section_of S.source) further.now) ≡ false }
 {
     for section in further {
-        push_sorted_notes(section.source(), section.labels(), out)?;
+        push_sorted_notes(out, section.source(), section.labels())?;
     }
     Ok(())
 }
 
 /// The rows of causes that are texts.
-fn push_cause_texts(at: Place<'_>, texts: &[String], out: &mut String) -> Result<(), AllocError>
+fn push_cause_texts(out: &mut String, at: Place<'_>, texts: &[String]) -> Result<(), AllocError>
     ensures { OnOk result (string_bytes out.new ≡ string_bytes out.old
         ++ rows_text (map (cause_row (place_of at.entry)) (map string_bytes texts.now))) }
 {
@@ -137,11 +137,11 @@ fn push_cause_texts(at: Place<'_>, texts: &[String], out: &mut String) -> Result
 
 /// The rows of the causes of a report that lies at a place over a source, or over none.
 fn push_causes<'a, D: Diagnostic, S: SourceCode>(
+    out: &mut String,
     alloc: Global,
     report: &'a Report<D, S>,
     at: Place<'a>,
     source: Option<SourceRef<'a, S>>,
-    out: &mut String,
 ) -> Result<(), AllocError>
     ensures { OnOk result (AppendsCauses true (place_of at.entry) (source_shown S.source source.entry)
         (cause_of (tree_of D.meaning S.source report.now)) (string_bytes out.old) (string_bytes out.new)) }
@@ -153,7 +153,7 @@ fn push_causes<'a, D: Diagnostic, S: SourceCode>(
         push_row(out, place, Kind::Cause, next.message())?;
         above = next;
     }
-    push_cause_texts(at, cause_texts(above), out)
+    push_cause_texts(out, at, cause_texts(above))
 }
 
 /// The row of help, where there is any.
@@ -169,25 +169,25 @@ fn push_help(out: &mut String, at: Place<'_>, help: Option<&str>) -> Result<(), 
 
 /// Help and fixes of a report that lies at a place over a source, or over none.
 fn push_advice<D: Diagnostic, S: SourceCode>(
+    out: &mut String,
     report: &Report<D, S>,
     at: Place<'_>,
     source: Option<SourceRef<'_, S>>,
-    out: &mut String,
 ) -> Result<(), AllocError>
     ensures { OnOk result (AppendsAdvice (place_of at.entry) (source_shown S.source source.entry)
         (head (tree_of D.meaning S.source report.now)) (string_bytes out.old) (string_bytes out.new)) }
 {
     push_help(out, at, report.help())?;
-    push_fixes(at, report.fixes(), source, out)
+    push_fixes(out, at, report.fixes(), source)
 }
 
 /// The rows of a report over a source, or over none, of its labels in this order, and of those over further sources;
 /// where the report lies.
 fn push_labelled<'a, D: Diagnostic, S: SourceCode>(
+    out: &mut String,
     report: &'a Report<D, S>,
     source: Option<SourceRef<'a, S>>,
     order: &[Turn],
-    out: &mut String,
 ) -> Result<Place<'a>, RenderError>
     requires inside { All (λ turn. turn.index
         < length (given_labels (head (tree_of D.meaning S.source report.now)).labels)) order.now }
@@ -201,18 +201,18 @@ fn push_labelled<'a, D: Diagnostic, S: SourceCode>(
     let labels = labels_of(report);
     let further = report.further_snippets();
     let at = diagnostic_place(*out.allocator(), source, labels, order, further)?;
-    push_head(report, at, out)?;
-    push_notes(source, labels, order, out)?;
-    push_further_notes(further, out)?;
+    push_head(out, report, at)?;
+    push_notes(out, source, labels, order)?;
+    push_further_notes(out, further)?;
     Ok(at)
 }
 
 /// The rows of a report over a source, or over none, without those of related reports.
 pub(crate) fn push_own<'a, D: Diagnostic, S: SourceCode>(
+    out: &mut String,
     chain: bool,
     report: &'a Report<D, S>,
     source: Option<SourceRef<'a, S>>,
-    out: &mut String,
 ) -> Result<(), RenderError>
     ensures text { OnOk result (AppendsOwn (record { chain = chain; form = Gcc })
         (source_shown S.source source.entry) (head (tree_of D.meaning S.source report.now))
@@ -222,10 +222,10 @@ pub(crate) fn push_own<'a, D: Diagnostic, S: SourceCode>(
 {
     let alloc = *out.allocator();
     let order = by_offset(alloc, labels_of(report))?;
-    let at = push_labelled(report, source, &order, out)?;
+    let at = push_labelled(out, report, source, &order)?;
     if chain {
-        push_causes(alloc, report, at, source, out)?;
+        push_causes(out, alloc, report, at, source)?;
     }
-    push_advice(report, at, source, out)?;
+    push_advice(out, report, at, source)?;
     Ok(())
 }

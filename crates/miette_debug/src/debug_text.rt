@@ -22,44 +22,44 @@ pub(crate) fn fields_of<D: Diagnostic, S: SourceCode>(
     ensures { IfOk result (λ text. IsDebugText (tree_of D.meaning S.source report.now) (string_bytes text)) }
 {
     let mut text = String::new(alloc);
-    push_fields(alloc, &mut text, report)?;
+    push_fields(&mut text, alloc, report)?;
     Ok(text)
 }
 
 /// Appends the fields of a report.
 fn push_fields<D: Diagnostic, S: SourceCode>(
-    alloc: Global,
     out: &mut String,
+    alloc: Global,
     report: &Report<D, S>,
 ) -> Result<(), AllocError>
     ensures { OnOk result (AppendsOne (IsDebugText (tree_of D.meaning S.source report.now)) (string_bytes out.old)
         (string_bytes out.new)) }
 {
     out.push_str("Diagnostic { message: ")?;
-    push_quoted(alloc, out, report.message())?;
-    push_members(alloc, out, report)?;
-    push_labels(alloc, out, labels_of(report))?;
-    push_field(alloc, out, "caused by", cause_name(report))?;
+    push_quoted(out, alloc, report.message())?;
+    push_members(out, alloc, report)?;
+    push_labels(out, alloc, labels_of(report))?;
+    push_field(out, alloc, "caused by", cause_name(report))?;
     out.push_str(" }\n")
 }
 
 /// `, code: "c", severity: "Warning", url: "u", help: "h"`, with those that are there.
 fn push_members<D: Diagnostic, S: SourceCode>(
-    alloc: Global,
     out: &mut String,
+    alloc: Global,
     report: &Report<D, S>,
 ) -> Result<(), AllocError>
     ensures { OnOk result (AppendsOne (AreFields (head (tree_of D.meaning S.source report.now)))
         (string_bytes out.old) (string_bytes out.new)) }
 {
-    push_field(alloc, out, "code", report.code())?;
-    push_field(alloc, out, "severity", severity_variant(report.severity()))?;
-    push_field(alloc, out, "url", report.url())?;
-    push_field(alloc, out, "help", report.help())
+    push_field(out, alloc, "code", report.code())?;
+    push_field(out, alloc, "severity", severity_variant(report.severity()))?;
+    push_field(out, alloc, "url", report.url())?;
+    push_field(out, alloc, "help", report.help())
 }
 
 /// A text in quotes, with its escapes.
-fn push_quoted(alloc: Global, out: &mut String, text: &str) -> Result<(), AllocError>
+fn push_quoted(out: &mut String, alloc: Global, text: &str) -> Result<(), AllocError>
     ensures { OnOk result (AppendsOne (IsQuoted text.now) (string_bytes out.old) (string_bytes out.new)) }
 {
     let quoted = format!(in alloc; "{text:?}")?;
@@ -68,8 +68,8 @@ fn push_quoted(alloc: Global, out: &mut String, text: &str) -> Result<(), AllocE
 
 /// `, code: "c"`, where there is such a text.
 fn push_field(
-    alloc: Global,
     out: &mut String,
+    alloc: Global,
     name: &str,
     text: Option<&str>,
 ) -> Result<(), AllocError>
@@ -82,18 +82,18 @@ fn push_field(
     out.push_str(", ")?;
     out.push_str(name)?;
     out.push_str(": ")?;
-    push_quoted(alloc, out, text)
+    push_quoted(out, alloc, text)
 }
 
 /// `, labels: "[..]"`, where there are any.
-fn push_labels(alloc: Global, out: &mut String, labels: &[LabeledSpan]) -> Result<(), AllocError>
+fn push_labels(out: &mut String, alloc: Global, labels: &[LabeledSpan]) -> Result<(), AllocError>
     ensures { OnOk result (AppendsOne (IsLabelsField labels.now) (string_bytes out.old) (string_bytes out.new)) }
 {
     if labels.is_empty() {
         return Ok(());
     }
     let shown = format!(in alloc; "{labels:?}")?;
-    push_field(alloc, out, "labels", Some(shown.as_str()))
+    push_field(out, alloc, "labels", Some(shown.as_str()))
 }
 
 /// The name of a severity's variant, where one is set.

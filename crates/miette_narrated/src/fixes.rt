@@ -73,8 +73,8 @@ fn push_text(out: &mut String, edit: &Edit) -> Appended
 
 /// `    replace line 2, column 5 with: "a\n"`
 fn push_edit<'a>(
-    alloc: Global,
     out: &mut String,
+    alloc: Global,
     source: &'a IndexedSource,
     edit: &Edit,
     kept: &mut KeptLine<'a>,
@@ -93,14 +93,14 @@ fn push_edit<'a>(
 }
 
 /// The rows of edits in their order, none of which ends after the source's end.
-fn push_edits(alloc: Global, out: &mut String, source: &IndexedSource, edits: &[&Edit]) -> Appended
+fn push_edits(out: &mut String, alloc: Global, source: &IndexedSource, edits: &[&Edit]) -> Appended
     requires { list_any (ends_behind (length source.now)) (edits_of edits.now) ≡ false }
     ensures { OnOk result (string_bytes out.new
         ≡ string_bytes out.old ++ edit_rows source.now (edits_of edits.now)) }
 {
     let mut kept = kept_first(alloc, source.bytes())?;
     for edit in edits {
-        push_edit(alloc, out, source, edit, &mut kept)?;
+        push_edit(out, alloc, source, edit, &mut kept)?;
     }
     Ok(())
 }
@@ -113,11 +113,11 @@ fn push_failure(out: &mut String, reason: &str) -> Appended
 }
 
 /// The rows of edits by offset, or why they can't be applied.
-fn push_applied(alloc: Global, out: &mut String, source: &IndexedSource, edits: &[Edit]) -> Appended
+fn push_applied(out: &mut String, alloc: Global, source: &IndexedSource, edits: &[Edit]) -> Appended
     ensures { OnOk result (string_bytes out.new ≡ string_bytes out.old ++ applied_rows source.now edits.now) }
 {
     match checked(alloc, source.bytes().len(), edits) {
-        Ok(list) => push_edits(alloc, out, source, &list),
+        Ok(list) => push_edits(out, alloc, source, &list),
         Err(FixError::OutOfBounds) => push_failure(out, "OutOfBounds"),
         Err(FixError::Overlap) => push_failure(out, "Overlap"),
         Err(FixError::Memory) => Err(AllocError),
@@ -125,7 +125,7 @@ fn push_applied(alloc: Global, out: &mut String, source: &IndexedSource, edits: 
 }
 
 /// A fix: its message, and then its edits where it has some.
-fn push_fix(alloc: Global, out: &mut String, over: &FixSource<'_>, fix: &Fix) -> Appended
+fn push_fix(out: &mut String, alloc: Global, over: &FixSource<'_>, fix: &Fix) -> Appended
     ensures { OnOk result (string_bytes out.new ≡ string_bytes out.old ++ fix_rows (fixed_over over.now) fix.now) }
 {
     push_row(out, "diagnostic fix: ", fix.message())?;
@@ -135,34 +135,34 @@ fn push_fix(alloc: Global, out: &mut String, over: &FixSource<'_>, fix: &Fix) ->
     match over {
         FixSource::Nowhere => Ok(()),
         FixSource::Unread => push_failure(out, "IoError"),
-        FixSource::Lines(source) => push_applied(alloc, out, source, fix.edits()),
+        FixSource::Lines(source) => push_applied(out, alloc, source, fix.edits()),
     }
 }
 
 /// The fixes, in the order given.
-fn push_each(alloc: Global, out: &mut String, over: &FixSource<'_>, fixes: &[Fix]) -> Appended
+fn push_each(out: &mut String, alloc: Global, over: &FixSource<'_>, fixes: &[Fix]) -> Appended
     ensures { OnOk result (string_bytes out.new ≡ string_bytes out.old ++ fixes_rows (fixed_over over.now) fixes.now) }
 {
     for fix in fixes {
-        push_fix(alloc, out, over, fix)?;
+        push_fix(out, alloc, over, fix)?;
     }
     Ok(())
 }
 
 /// The fixes over bytes.
-fn push_over(alloc: Global, out: &mut String, bytes: &[u8], fixes: &[Fix]) -> Appended
+fn push_over(out: &mut String, alloc: Global, bytes: &[u8], fixes: &[Fix]) -> Appended
     ensures { OnOk result (string_bytes out.new ≡ string_bytes out.old ++ fixes_rows (read bytes.now) fixes.now) }
 {
     let source = IndexedSource::new(alloc, bytes.to_vec(alloc)?)?;
-    push_each(alloc, out, &FixSource::Lines(&source), fixes)
+    push_each(out, alloc, &FixSource::Lines(&source), fixes)
 }
 
 /// The fixes over a source, which is read once for all of them, as a whole.
 pub(crate) fn push_fixes<S: SourceCode>(
+    out: &mut String,
     alloc: Global,
     fixes: &[Fix],
     source: Option<SourceRef<'_, S>>,
-    out: &mut String,
 ) -> Appended
     ensures { OnOk result (AppendsFixes (option_map (shown_source S.source) source.entry) fixes.now
         (string_bytes out.old) (string_bytes out.new)) }
@@ -171,11 +171,11 @@ pub(crate) fn push_fixes<S: SourceCode>(
         return Ok(());
     }
     let Some(source) = source else {
-        return push_each(alloc, out, &FixSource::Nowhere, fixes);
+        return push_each(out, alloc, &FixSource::Nowhere, fixes);
     };
     let begin = SourceSpan::new(SourceOffset::from(0), 0);
     match source.read_span(&begin, 1, usize::MAX) {
-        Ok(lent) => push_over(alloc, out, lent.data(), fixes),
-        Err(_) => push_each(alloc, out, &FixSource::Unread, fixes),
+        Ok(lent) => push_over(out, alloc, lent.data(), fixes),
+        Err(_) => push_each(out, alloc, &FixSource::Unread, fixes),
     }
 }

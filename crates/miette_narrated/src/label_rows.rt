@@ -54,8 +54,7 @@ fn push_end(out: &mut String, text: Option<&str>) -> Result<(), AllocError>
         out.push_str(": ")?;
         out.push_str(text)?;
     }
-    out.push_str("\n")?;
-    Ok(())
+    out.push_str("\n")
 }
 
 /// `, columns 2 to 3`

@@ -55,8 +55,7 @@ fn push_shown(out: &mut String, it: &NarratedLine<'_>, walk: &mut LabelWalk<'_>)
     let order = walk.order;
     push_line(out, it)?;
     if !it.is_last {
-        push_inner(alloc, out, it, &order)?;
-        return Ok(());
+        return push_inner(out, alloc, it, &order);
     }
     come_to(
         alloc,
@@ -71,8 +70,8 @@ fn push_shown(out: &mut String, it: &NarratedLine<'_>, walk: &mut LabelWalk<'_>)
 
 /// The rows of labels under a line that isn't the snippet's last: only labels that begin or end there are gone through.
 fn push_inner(
-    alloc: Global,
     out: &mut String,
+    alloc: Global,
     it: &NarratedLine<'_>,
     order: &LabelOrder<'_>,
 ) -> Appended

@@ -32,7 +32,7 @@ fn push_severity(out: &mut String, severity: Option<Severity>) -> Appended
 }
 
 /// The message and the severity of the outermost report.
-fn push_head<D: Diagnostic, S: SourceCode>(report: &Report<D, S>, out: &mut String) -> Appended
+fn push_head<D: Diagnostic, S: SourceCode>(out: &mut String, report: &Report<D, S>) -> Appended
     ensures { OnOk result (string_bytes out.new
         ≡ string_bytes out.old ++ head_rows (head (tree_of D.meaning S.source report.now))) }
 {
@@ -41,7 +41,7 @@ fn push_head<D: Diagnostic, S: SourceCode>(report: &Report<D, S>, out: &mut Stri
 }
 
 /// The message of a related report after its title, its severity, and a blank row.
-fn push_titled<D: Diagnostic, S: SourceCode>(report: &Report<D, S>, out: &mut String) -> Appended
+fn push_titled<D: Diagnostic, S: SourceCode>(out: &mut String, report: &Report<D, S>) -> Appended
     ensures { OnOk result (string_bytes out.new
         ≡ string_bytes out.old ++ titled_rows (head (tree_of D.meaning S.source report.now))) }
 {
@@ -51,7 +51,7 @@ fn push_titled<D: Diagnostic, S: SourceCode>(report: &Report<D, S>, out: &mut St
 }
 
 /// A row for each cause of a report.
-fn push_causes<D: Diagnostic, S: SourceCode>(report: &Report<D, S>, out: &mut String) -> Appended
+fn push_causes<D: Diagnostic, S: SourceCode>(out: &mut String, report: &Report<D, S>) -> Appended
     ensures { OnOk result (string_bytes out.new
         ≡ string_bytes out.old ++ cause_rows (causes_of (cause_of (tree_of D.meaning S.source report.now)))) }
 {
@@ -68,15 +68,15 @@ fn push_causes<D: Diagnostic, S: SourceCode>(report: &Report<D, S>, out: &mut St
 
 /// The same where causes are told.
 fn push_causes_if<D: Diagnostic, S: SourceCode>(
+    out: &mut String,
     told: bool,
     report: &Report<D, S>,
-    out: &mut String,
 ) -> Appended
     ensures { OnOk result (string_bytes out.new
         ≡ string_bytes out.old ++ causes_if told (causes_of (cause_of (tree_of D.meaning S.source report.now)))) }
 {
     if told {
-        push_causes(report, out)
+        push_causes(out, report)
     } else {
         Ok(())
     }
@@ -96,27 +96,27 @@ fn push_url(out: &mut String, url: Option<&str>) -> Appended
 
 /// Help, fixes, code and url, over this source.
 fn push_advice<D: Diagnostic, S: SourceCode>(
+    out: &mut String,
     alloc: Global,
     report: &Report<D, S>,
     source: Option<SourceRef<'_, S>>,
-    out: &mut String,
 ) -> Appended
     ensures { OnOk result (AppendsAdvice (option_map (shown_source S.source) source.entry)
         (head (tree_of D.meaning S.source report.now)) (string_bytes out.old) (string_bytes out.new)) }
 {
     push_row_if(out, "diagnostic help: ", report.help())?;
-    push_fixes(alloc, report.fixes(), source, out)?;
+    push_fixes(out, alloc, report.fixes(), source)?;
     push_row_if(out, "diagnostic code: ", report.code())?;
     push_url(out, report.url())
 }
 
 /// The rows of a report over this source below its causes: snippets, help, fixes, code and url.
 fn push_below<D: Diagnostic, S: SourceCode>(
+    out: &mut String,
     alloc: Global,
     context: usize,
     report: &Report<D, S>,
     source: Option<SourceRef<'_, S>>,
-    out: &mut String,
 ) -> Result<(), RenderError>
     ensures text { OnOk result (AppendsBelow context (option_map (shown_source S.source) source.entry)
         (head (tree_of D.meaning S.source report.now)) (string_bytes out.old) (string_bytes out.new)) }
@@ -124,15 +124,15 @@ fn push_below<D: Diagnostic, S: SourceCode>(
         labels_accepted (option_map (shown_source S.source) source.entry)
         (head (tree_of D.meaning S.source report.now)) ≡ false }
 {
-    push_all_snippets(alloc, context, report, source, out)?;
-    push_advice(alloc, report, source, out)?;
+    push_all_snippets(out, alloc, context, report, source)?;
+    push_advice(out, alloc, report, source)?;
     Ok(())
 }
 
 /// A blank row where there are related reports.
 fn push_blank_before<D: Diagnostic, S: SourceCode>(
-    reports: &[Report<D, S>],
     out: &mut String,
+    reports: &[Report<D, S>],
 ) -> Appended
     ensures { OnOk result (string_bytes out.new
         ≡ string_bytes out.old ++ blank_before (trees (map (tree_of D.meaning S.source) reports.now))) }
@@ -146,11 +146,11 @@ fn push_blank_before<D: Diagnostic, S: SourceCode>(
 /// Appends a related report, under one with this source.
 #[cycle(report)]
 fn push_report<'a, D: Diagnostic, S: SourceCode>(
+    out: &mut String,
     alloc: Global,
     context: usize,
     report: &'a Report<D, S>,
     inherited: Option<SourceRef<'a, S>>,
-    out: &mut String,
 ) -> Result<(), RenderError>
     ensures text { OnOk result (AppendsReport context (option_map (shown_source S.source) inherited.entry)
         (tree_of D.meaning S.source report.now) (string_bytes out.old) (string_bytes out.new)) }
@@ -159,20 +159,20 @@ fn push_report<'a, D: Diagnostic, S: SourceCode>(
         ≡ false }
 {
     let source = own_or(report, inherited);
-    push_titled(report, out)?;
-    push_causes(report, out)?;
-    push_below(alloc, context, report, source, out)?;
-    push_related(alloc, context, report.related(), source, out)
+    push_titled(out, report)?;
+    push_causes(out, report)?;
+    push_below(out, alloc, context, report, source)?;
+    push_related(out, alloc, context, report.related(), source)
 }
 
 /// Appends related reports, under a report with this source, after a blank row.
 #[cycle(report)]
 fn push_related<'a, D: Diagnostic, S: SourceCode>(
+    out: &mut String,
     alloc: Global,
     context: usize,
     reports: &'a [Report<D, S>],
     source: Option<SourceRef<'a, S>>,
-    out: &mut String,
 ) -> Result<(), RenderError>
     ensures text { OnOk result (AppendsRelated context (option_map (shown_source S.source) source.entry)
         (trees (map (tree_of D.meaning S.source) reports.now)) (string_bytes out.old) (string_bytes out.new)) }
@@ -180,9 +180,9 @@ fn push_related<'a, D: Diagnostic, S: SourceCode>(
         holds_of_all accepts (option_map (shown_source S.source) source.entry)
         (trees (map (tree_of D.meaning S.source) reports.now)) ≡ false }
 {
-    push_blank_before(reports, out)?;
+    push_blank_before(out, reports)?;
     for report in reports {
-        push_report(alloc, context, report, source, out)?;
+        push_report(out, alloc, context, report, source)?;
     }
     Ok(())
 }
@@ -200,15 +200,15 @@ pub(crate) fn narration_of<D: Diagnostic, S: SourceCode>(
 {
     let mut text = String::new(alloc);
     let source = own_or(report, None);
-    push_head(report, &mut text)?;
-    push_causes_if(settings.cause_chain, report, &mut text)?;
-    push_below(alloc, settings.context_lines, report, source, &mut text)?;
+    push_head(&mut text, report)?;
+    push_causes_if(&mut text, settings.cause_chain, report)?;
+    push_below(&mut text, alloc, settings.context_lines, report, source)?;
     push_related(
+        &mut text,
         alloc,
         settings.context_lines,
         report.related(),
         source,
-        &mut text,
     )?;
     push_row_if(&mut text, "", settings.footer)?;
     Ok(text)

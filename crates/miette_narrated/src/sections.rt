@@ -20,11 +20,11 @@ use std::alloc::Global;
 
 /// The snippets of labels over a source, none without one.
 fn push_snippets_of<S: SourceCode>(
+    out: &mut String,
     alloc: Global,
     context: usize,
     labels: &[LabeledSpan],
     source: Option<SourceRef<'_, S>>,
-    out: &mut String,
 ) -> Result<(), RenderError>
     ensures text { OnOk result (AppendsSnippets context (option_map (shown_source S.source) source.entry) labels.now
         (string_bytes out.old) (string_bytes out.new)) }
@@ -32,17 +32,17 @@ fn push_snippets_of<S: SourceCode>(
         accepts (option_map (shown_source S.source) source.entry) labels.now ≡ false }
 {
     match source {
-        Some(source) => push_snippets(alloc, out, context, &source, labels),
+        Some(source) => push_snippets(out, alloc, context, &source, labels),
         None => Ok(()),
     }
 }
 
 /// The snippets over further sources, in their order.
 fn push_further<S: SourceCode>(
+    out: &mut String,
     alloc: Global,
     context: usize,
     sections: &[Snippets<S>],
-    out: &mut String,
 ) -> Result<(), RenderError>
     ensures text { OnOk result (AppendsFurther context (map (section_of S.source) sections.now)
         (string_bytes out.old) (string_bytes out.new)) }
@@ -50,18 +50,18 @@ fn push_further<S: SourceCode>(
         holds_further accepts (map (section_of S.source) sections.now) ≡ false }
 {
     for section in sections {
-        push_snippets(alloc, out, context, &section.source(), section.labels())?;
+        push_snippets(out, alloc, context, &section.source(), section.labels())?;
     }
     Ok(())
 }
 
 /// The snippets of a report over this source, then those over each further one.
 pub(crate) fn push_all_snippets<D: Diagnostic, S: SourceCode>(
+    out: &mut String,
     alloc: Global,
     context: usize,
     report: &Report<D, S>,
     source: Option<SourceRef<'_, S>>,
-    out: &mut String,
 ) -> Result<(), RenderError>
     ensures text { OnOk result (AppendsAll context (option_map (shown_source S.source) source.entry)
         (head (tree_of D.meaning S.source report.now)) (string_bytes out.old) (string_bytes out.new)) }
@@ -69,6 +69,6 @@ pub(crate) fn push_all_snippets<D: Diagnostic, S: SourceCode>(
         labels_accepted (option_map (shown_source S.source) source.entry)
         (head (tree_of D.meaning S.source report.now)) ≡ false }
 {
-    push_snippets_of(alloc, context, labels_of(report), source, out)?;
-    push_further(alloc, context, report.further_snippets(), out)
+    push_snippets_of(out, alloc, context, labels_of(report), source)?;
+    push_further(out, alloc, context, report.further_snippets())
 }

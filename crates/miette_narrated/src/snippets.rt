@@ -119,8 +119,8 @@ fn push_read<'a, S: SourceCode>(
 /// The snippets of a diagnostic whose labels are given over a source. Fails with `Refused` where a label isn't
 /// accepted or can't be read, or a group can't, and with `Memory` where memory is refused.
 pub(crate) fn push_snippets<S: SourceCode>(
-    alloc: Global,
     out: &mut String,
+    alloc: Global,
     context: usize,
     source: &S,
     labels: &[LabeledSpan],

@@ -16,8 +16,7 @@ pub(crate) fn push_number(out: &mut String, words: &str, number: usize) -> Appen
 {
     out.push_str(words)?;
     let mut digits = Buffer::new();
-    out.push_str(digits.format(number))?;
-    Ok(())
+    out.push_str(digits.format(number))
 }
 
 /// Appends a row: words, a text, and a line feed.
