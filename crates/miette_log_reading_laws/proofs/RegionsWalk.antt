@@ -37,7 +37,7 @@ cut_clean : (bytes : List ℕ) (size : ℕ) → Cut bytes size → StartsClean (
 cut_clean bytes size c =
     ⊎_elim (λ none. (λ some. absurd (omega (arith, some, ap length none)))) (λ it. it.1.clean) c.behind
 
--- ---- lines, one behind another
+-- ---- lines, one after another
 
 line_next : (newlines : List (List ℕ)) (bytes : List ℕ) (k from at size : ℕ)
     → line_behind newlines bytes from k ≡ Some at → line_size newlines (drop at bytes) ≡ Some size
@@ -111,7 +111,7 @@ module _ (e : PositionEncoding) (wide : (c : Character) → 0 < units e c) (byte
   back_at : Back e bytes (stop_on at line 0)
   back_at = back_on at 0 (units_here e wide at (characters (text_at bytes at)))
 
-  -- the stops of what is left of its text, and those behind
+  -- the stops of what is left of its text, and those after it
   walk : (stop f : ℕ) (left : List ℕ) (behind : List Character) (off column : ℕ) → length left ≤ f
       → list_all is_text left ≡ true → off + length left ≡ stop
       → ((k : ℕ) → units_on e at (column + k) (characters (text_at bytes at)) ≡ units_on e off k (characters left))
@@ -164,7 +164,7 @@ module _ (e : PositionEncoding) (wide : (c : Character) → 0 < units e c) (byte
 
 module _ (e : PositionEncoding) (wide : (c : Character) → 0 < units e c) (bytes : List ℕ) (at line : ℕ)
     (begins : line_behind log_newlines bytes 0 line ≡ Some at) where
-  -- the stops of the lines behind it, where its text stops
+  -- the stops of the lines after it, where its text stops
   behind_text : (size more : ℕ) → Cut (drop at bytes) size → size ≡ text_size log_newlines (drop at bytes)
       → at ≤ length bytes
       → ((next : ℕ) → at < next → next ≤ length bytes → line_behind log_newlines bytes 0 (line + 1) ≡ Some next
@@ -203,7 +203,7 @@ module _ (e : PositionEncoding) (wide : (c : Character) → 0 < units e c) (byte
           (lines next (omega (arith, h.some)) (omega (arith, h.within, whole, tail, h.some)) starts) in
           subst (AllByRecursion (Back e bytes)) (sym (h.stops e (stop_on (at + size) line more))) (here, others)
 
-  -- its stops, and those of the lines behind it
+  -- its stops, and those of the lines after it
   line_back : at ≤ length bytes
       → ((next : ℕ) → at < next → next ≤ length bytes → line_behind log_newlines bytes 0 (line + 1) ≡ Some next
       → AllByRecursion (Back e bytes) (stops_behind e (stop_on next (line + 1) 0) (characters (drop next bytes))))
