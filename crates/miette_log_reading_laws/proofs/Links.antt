@@ -54,7 +54,7 @@ same_at m n zs e =
 abbrev passes : ℕ → Bool
 passes z = not (ends_destination z)
 
--- how many bytes stand in front of what ends a destination
+-- how many bytes stand before what ends a destination
 abbrev count : List ℕ → ℕ
 count zs = position_or_len ends_destination zs
 
@@ -132,7 +132,7 @@ same_destination : (zs : List ℕ) → SameDestination (doubled zs) zs
 same_destination [] = refl
 same_destination (z ∷ zs) = destination_by z zs (is_brace z) refl
 
--- ---- what stands behind a destination
+-- ---- what stands after a destination
 
 behind_end : (zs : List ℕ) → slice_index zs (count zs) ≡ 41
     → drop (count (doubled zs) + 1) (doubled zs) ≡ doubled (drop (count zs + 1) zs)
@@ -190,7 +190,7 @@ same_bracket : (zs : List ℕ) (s : Bool) → SameBracket s (doubled zs) zs
 same_bracket [] s = refl
 same_bracket (z ∷ zs) s = bracket_by z zs s (is_brace z) refl (same_bracket zs)
 
--- a link's text ends here, where its destination stands behind
+-- a link's text ends here, where its destination stands next
 abbrev is_end : List ℕ → Bool
 is_end zs = (slice_index zs 0 == 93) && has_destination (drop 1 zs)
 
@@ -220,7 +220,7 @@ same_link zs =
 
 -- ---- pieces
 
--- the piece that begins a double is that of the text, which stands behind it
+-- the piece that begins a double is that of the text
 record Same (p q : Piece) (zs : List ℕ) : Type 0 where
   text : p.shown ≡ q.shown
   in_link : p.in_link ≡ q.in_link
@@ -302,7 +302,7 @@ skips_unlinked l (suc n) (z ∷ zs) = skips_unlinked l n zs
 abbrev AllShown : ℕ → Type 0
 AllShown n = (l : Bool) (zs : List ℕ) → length zs ≤ n → shown_behind [] l 0 (doubled zs) ≡ unlinked_behind l 0 zs
 
--- behind a piece
+-- after a piece
 rest_shown : (n : ℕ) → AllShown n → (p q : Piece) (zs : List ℕ) → length zs ≤ n → Same p q zs
     → p.shown ++ shown_behind [] p.in_link p.further (doubled zs)
     ≡ q.shown ++ unlinked_behind q.in_link q.further zs

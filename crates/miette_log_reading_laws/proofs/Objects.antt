@@ -15,7 +15,7 @@ use Rattle.miette_log_reading_laws.specs.laws.Data.{data_of, items_data, members
 
 -- ---- members
 
--- the value of the last pair of a key, else what was found in front
+-- the value of the last pair of a key, else what was found before
 abbrev pub value_in : List ℕ → Pairs → Option Data → Option Data
 value_in k [] o = o
 value_in k (p ∷ ps) o = value_in k ps (if bytes_eq k p.0 then Some (data_of p.1) else o)

@@ -67,7 +67,7 @@ mutual
       ap (option_and_then (λ d. of_members (members_outline ms) (put k d found))) (value_read j h.0)
       ∙ members_read ms (put k (data_of j) found) h.1
 
--- ---- its tokens, each with the gap in front of it
+-- ---- its tokens, each with the gap before it
 
 abbrev mutual
   spaced : List ℕ → Json → List (List ℕ × Token)
@@ -163,7 +163,7 @@ key_text k gap value more =
     append_assoc (34 ∷ (flat_map escape_byte k ++ 34 ∷ [])) (58 ∷ []) (gap ++ (value ++ more))
     ∙ quoted_more k (58 ∷ (gap ++ (value ++ more)))
 
--- a member, by what its value and those behind it are
+-- a member, by what its value and those after it are
 member_printed : (k : List ℕ) (j : Json) (ms : json.Members) (ps : List (List ℕ × Token))
     → print_spaced false (spaced (32 ∷ []) j ++ (members_spaced ms ++ ps))
     ≡ 32 ∷ (json_text j ++ print_spaced true (members_spaced ms ++ ps))

@@ -53,7 +53,7 @@ see_doubled : (uri url : Option (List ℕ)) → doubled (see_row uri url) ≡ re
 see_doubled uri None = refl
 see_doubled uri (Some url) = see_by url (is_uri_of_rule uri url)
 
--- of texts, each in front of those that follow
+-- of texts, each before those that follow
 more_doubled : (xs ys us vs : List ℕ) → doubled xs ≡ us → doubled ys ≡ vs → doubled (xs ++ ys) ≡ us ++ vs
 more_doubled xs ys us vs e f =
     doubled_more xs ys ∙ (ap (λ zs. zs ++ doubled ys) e ∙ ap (λ zs. us ++ zs) f)

@@ -76,7 +76,7 @@ pub fn texts_of_logs_read_back()
         → ReadsBack files reports text }
 {}
 
-/// A text in which no `]` stands in front of a `(` has no link, and is shown as it is.
+/// A text in which no `]` stands before a `(` has no link, and is shown as it is.
 pub fn texts_without_links_read_back()
     ensures { (text : List ℕ) → has_link_end text ≡ false → without_links text ≡ text }
 {}

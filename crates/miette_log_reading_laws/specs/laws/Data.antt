@@ -16,7 +16,7 @@ abbrev mutual
   items_data json.no_items = no_items
   items_data (json.item j js) = item (data_of j) (items_data js)
 
-  -- behind the members that were found in front
+  -- after the members that were found before
   pub members_data : json.Members → Members → Members
   members_data json.no_members found = found
   members_data (json.member k j ms) found = members_data ms (put k (data_of j) found)

@@ -2,7 +2,7 @@
 use Rattle.std.specs.Prelude.{ℕ, zero, suc, List, [], ◌∷◌, ◌++◌, Bool, false, ◌==◌, if◌then◌else◌}
 use Rattle.miette_sarif_reader.specs.rules.Messages.{Piece, backslash_piece, closing_piece, opening_piece, plain}
 
--- the piece that begins with a byte, in front of others: a brace stands for itself
+-- the piece that begins with a byte, before others: a brace stands for itself
 abbrev pub link_piece : Bool → ℕ → List ℕ → Piece
 link_piece in_link b text =
     if b == 92 then backslash_piece in_link text

@@ -3,6 +3,7 @@ use Rattle.std.specs.Prelude.{ℕ, List, [], ◌∷◌, ◌++◌, codes, true, O
 use Rattle.std.specs.Str.{bytes_eq}
 use Rattle.miette_protocol.specs.declared.protocol.Severity.TheVariants.{Advice}
 use Rattle.miette_protocol.specs.rules.Reading.{Source}
+use Rattle.miette_protocol.specs.views.Meaning.{Label}
 use Rattle.miette_tree.specs.rules.Tree.{Tree, no_trees, texts, tree}
 use Rattle.miette_fixes.specs.declared.applicability.Applicability.TheVariants.{MachineApplicable, Unspecified}
 use Rattle.miette_fixes.specs.rules.Edits.{Replacement}
@@ -37,6 +38,9 @@ given =
           ∷ [];
     }) (Some file) (texts (codes "why" ∷ [])) no_trees
 
+abbrev pub primary : Label → Label
+primary l = record l { primary = true }
+
 -- its first label by offset is the primary one, and causes and help are rows of its message
 abbrev pub kept : Tree
 kept =
@@ -46,7 +50,7 @@ kept =
       severity = Some Advice;
       help = None;
       url = Some (codes "https://x.org/braces");
-      labels = Some (record (label (span 2 3) (codes "{b}")) { primary = true } ∷ label (span 6 1) (codes "there") ∷ []);
+      labels = Some (primary (label (span 2 3) (codes "{b}")) ∷ label (span 6 1) (codes "there") ∷ []);
       snippets = [];
       fixes = record { message = codes "write c"; applicability = Unspecified; edits = edit (codes "c") ∷ [] } ∷ [];
     }) (Some file) (texts []) no_trees

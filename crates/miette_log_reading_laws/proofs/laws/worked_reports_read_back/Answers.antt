@@ -12,6 +12,6 @@ use Rattle.miette_sarif_reader.specs.rules.Uris.{behind}
 use Rattle.miette_log_reading_laws.proofs.laws.worked_reports_read_back.Goals as goal
 
 pub returns : goal.returns
-unfolding encoded encoded_byte is_encoded decoded lossy valid numeral digits chars pieces_from escape_byte is_utf8 behind
-    lib.Utf8.encode
+unfolding encoded encoded_byte is_encoded decoded lossy valid numeral digits chars pieces_from escape_byte is_utf8
+    behind lib.Utf8.encode
 returns c = refl
