@@ -1,0 +1,152 @@
+-- By what the results of a log are read.
+use Rattle.std.proofs.Common.{◌≡◌, ℕ, List, [], ◌∷◌, ◌++◌, Option, Some, None, map, refl, ap, ◌∙◌, codes}
+use Rattle.std.proofs.Common.{option_and_then, option_map, unwrap_or}
+use Rattle.std.specs.Prelude.{if◌then◌else◌}
+use Rattle.std.specs.List.{filter_map}
+use Rattle.std.specs.Str.{bytes_eq}
+use Rattle.serde_json.specs.Data.{Data, string}
+use Rattle.serde_json.specs.Find.{as_array, as_str, get}
+use Rattle.miette_json.specs.rules.Json as json
+use Rattle.miette_json.specs.rules.Json.{Json}
+use Rattle.miette_positions.specs.declared.place.PositionEncoding.{PositionEncoding}
+use Rattle.miette_positions.specs.declared.place.PositionEncoding.TheVariants.{Utf16, Utf32}
+use Rattle.miette_protocol.specs.rules.Reading.{Source}
+use Rattle.miette_readers.specs.rules.Members.{items_in, object_at, objects_alone, objects_at}
+use Rattle.miette_sarif.specs.rules.Codes.{Rules, rule_value, rule_values}
+use Rattle.miette_sarif.specs.rules.Log.{ToolName, newlines, run_head, tool_of}
+use Rattle.miette_sarif.specs.rules.Objects.{Pairs, array_of, listed, maybe_text, object_of, pair}
+use Rattle.miette_sarif.specs.rules.Uris.{address_uri}
+use Rattle.miette_sarif_reader.specs.rules.Logs.{driver_of, ground_of, rules_by}
+use Rattle.miette_sarif_reader.specs.rules.Newlines.{newlines_of, or_usual, sequence_in}
+use Rattle.miette_sarif_reader.specs.rules.Regions.{encoding_of}
+use Rattle.miette_sarif_reader.specs.rules.Results.{Ground}
+use Rattle.miette_log_reading_laws.specs.laws.Data.{data_of}
+use Rattle.miette_log_reading_laws.specs.laws.RegionsBack.{log_newlines}
+use Rattle.miette_log_reading_laws.proofs.Objects.{all_objects, listed_read, object_read, objects_in, some_array}
+use Rattle.miette_log_reading_laws.proofs.Objects.{value_in}
+
+abbrev made : (List ℕ → Option Source) → List Data → PositionEncoding → List (List ℕ) → List Data → Option Data → Ground
+made files artifacts encoding ends rules bases = record {
+  files = files;
+  encoding = encoding;
+  newlines = ends;
+  rules = rules;
+  artifacts = artifacts;
+  bases = bases;
+  strings = None;
+}
+
+abbrev pub log_ground : (List ℕ → Option Source) → Rules → List Data → Ground
+log_ground files r artifacts = made files artifacts Utf16 log_newlines (map data_of (rule_values r)) None
+
+-- ---- a run
+
+module _ (t : ToolName) (r : Rules) (rs : List Json) where
+  abbrev run_pairs : List Json → Pairs
+  run_pairs artifacts =
+      run_head t r ++ (listed (codes "artifacts") artifacts ++ pair (codes "results") (array_of rs))
+
+  abbrev pub run_data : List Json → Data
+  run_data artifacts = data_of (object_of (run_pairs artifacts))
+
+  tool_in : (artifacts : List Json)
+      → value_in (codes "tool") (run_pairs artifacts) None ≡ Some (data_of (tool_of t r))
+  tool_in [] = refl
+  tool_in (v ∷ vs) = refl
+
+  kind_in : (artifacts : List Json)
+      → value_in (codes "columnKind") (run_pairs artifacts) None ≡ Some (string (codes "utf16CodeUnits"))
+  kind_in [] = refl
+  kind_in (v ∷ vs) = refl
+
+  ends_in : (artifacts : List Json)
+      → value_in (codes "newlineSequences") (run_pairs artifacts) None ≡ Some (data_of newlines)
+  ends_in [] = refl
+  ends_in (v ∷ vs) = refl
+
+  bases_in : (artifacts : List Json) → value_in (codes "originalUriBaseIds") (run_pairs artifacts) None ≡ None
+  bases_in [] = refl
+  bases_in (v ∷ vs) = refl
+
+  results_in : (artifacts : List Json)
+      → value_in (codes "results") (run_pairs artifacts) None ≡ Some (data_of (array_of rs))
+  results_in [] = refl
+  results_in (v ∷ vs) = refl
+
+  pub results_read : (artifacts : List Json)
+      → get (codes "results") (run_data artifacts) ≡ Some (data_of (array_of rs))
+  results_read artifacts = object_read (codes "results") (run_pairs artifacts) ∙ results_in artifacts
+
+  -- ---- its tool
+
+  abbrev driver_pairs : Option (List ℕ) → Option (List ℕ) → Pairs
+  driver_pairs version information =
+      pair (codes "name") (json.string t.name)
+      ++ (maybe_text (codes "version") version
+      ++ (maybe_text (codes "informationUri") information ++ listed (codes "rules") (rule_values r)))
+
+  abbrev driver_by : Option (List ℕ) → Option (List ℕ) → Data
+  driver_by version information = data_of (object_of (driver_pairs version information))
+
+  rules_in : (version information : Option (List ℕ))
+      → value_in (codes "rules") (driver_pairs version information) None ≡ some_array (rule_values r)
+  rules_in None None = listed_read (codes "rules") (rule_values r) refl
+  rules_in None (Some uri) = listed_read (codes "rules") (rule_values r) refl
+  rules_in (Some version) None = listed_read (codes "rules") (rule_values r) refl
+  rules_in (Some version) (Some uri) = listed_read (codes "rules") (rule_values r) refl
+
+  driver_rules : (version information : Option (List ℕ))
+      → rules_by (Some (driver_by version information)) ≡ map data_of (rule_values r)
+  driver_rules version information =
+      objects_in (codes "rules") (driver_by version information) (rule_values r)
+      (object_read (codes "rules") (driver_pairs version information) ∙ rules_in version information)
+      (all_objects (λ code. rule_value code (r.uri code)) (λ code. refl) r.codes)
+
+  abbrev information : Option (List ℕ)
+  information = option_map address_uri t.information
+
+  driver_read : object_at (codes "driver") (data_of (tool_of t r)) ≡ Some (driver_by t.version information)
+  driver_read =
+      ap (option_and_then objects_alone)
+      (object_read (codes "driver") (pair (codes "driver") (object_of (driver_pairs t.version information))))
+
+  rules_read : (artifacts : List Json) → rules_by (driver_of (run_data artifacts)) ≡ map data_of (rule_values r)
+  rules_read artifacts =
+      ap (λ o. rules_by (option_and_then (object_at (codes "driver")) (option_and_then objects_alone o)))
+      (object_read (codes "tool") (run_pairs artifacts) ∙ tool_in artifacts)
+      ∙ (ap rules_by driver_read ∙ driver_rules t.version information)
+
+  -- ---- how places are counted
+
+  encoding_read : (artifacts : List Json) → encoding_of (run_data artifacts) ≡ Utf16
+  encoding_read artifacts =
+      ap (λ o. if bytes_eq (unwrap_or (option_and_then as_str o) []) (codes "utf16CodeUnits") then Utf16 else Utf32)
+      (object_read (codes "columnKind") (run_pairs artifacts) ∙ kind_in artifacts)
+
+  newlines_read : (artifacts : List Json) → newlines_of (run_data artifacts) ≡ log_newlines
+  newlines_read artifacts =
+      ap (λ o. or_usual (filter_map sequence_in (items_in (option_and_then as_array o))))
+      (object_read (codes "newlineSequences") (run_pairs artifacts) ∙ ends_in artifacts)
+
+  bases_read : (artifacts : List Json) → object_at (codes "originalUriBaseIds") (run_data artifacts) ≡ None
+  bases_read artifacts =
+      ap (option_and_then objects_alone)
+      (object_read (codes "originalUriBaseIds") (run_pairs artifacts) ∙ bases_in artifacts)
+
+  -- ---- all of it
+
+  abbrev pub found : List Json → List Data
+  found artifacts = objects_at (codes "artifacts") (run_data artifacts)
+
+  pub ground_read : (files : List ℕ → Option Source) (artifacts : List Json)
+      → ground_of files (run_data artifacts) ≡ log_ground files r (found artifacts)
+  ground_read files artifacts =
+      let d : Data = run_data artifacts in
+      let rules : List Data = map data_of (rule_values r) in
+      ap (λ it. made files (found artifacts) it (newlines_of d) (rules_by (driver_of d))
+      (object_at (codes "originalUriBaseIds") d)) (encoding_read artifacts)
+      ∙ (ap (λ it. made files (found artifacts) Utf16 it (rules_by (driver_of d))
+      (object_at (codes "originalUriBaseIds") d)) (newlines_read artifacts)
+      ∙ (ap (λ it. made files (found artifacts) Utf16 log_newlines it (object_at (codes "originalUriBaseIds") d))
+      (rules_read artifacts)
+      ∙ ap (made files (found artifacts) Utf16 log_newlines rules) (bases_read artifacts)))

@@ -1,0 +1,167 @@
+-- What a result says, and its rule.
+use Rattle.std.proofs.Common.{◌≡◌, ℕ, List, [], ◌∷◌, ◌++◌, Option, Some, None, ap, ◌∙◌, codes}
+use Rattle.std.proofs.Common.{option_and_then, unwrap_or, is_some}
+use Rattle.std.specs.Prelude.{if◌then◌else◌}
+use Rattle.std.specs.Option.{option_or}
+use Rattle.std.specs.Str.{bytes_eq}
+use Rattle.serde_json.specs.Data.{Data}
+use Rattle.serde_json.specs.Find.{as_number, as_str, as_u64}
+use Rattle.miette_json.specs.rules.Json as json
+use Rattle.miette_json.specs.rules.Json.{Json}
+use Rattle.miette_protocol.specs.rules.Reading.{Source}
+use Rattle.miette_readers.specs.rules.Members.{object_at, objects_alone, said, text_at, whole_at}
+use Rattle.miette_readers.specs.rules.Reports.{Said}
+use Rattle.miette_sarif.specs.rules.Artifacts.{index_of}
+use Rattle.miette_sarif.specs.rules.Codes.{codes_of, help_uri, rule_value, rules_in}
+use Rattle.miette_sarif.specs.rules.Findings.{Finding}
+use Rattle.miette_sarif.specs.rules.Objects.{Pairs, maybe_text, message_of, pair}
+use Rattle.miette_sarif_reader.specs.rules.Results.{Ground, code_of, default_level, ground_for, index_told, item_at}
+use Rattle.miette_sarif_reader.specs.rules.Results.{level_of, message_in, message_text, rule_id, rule_index, rule_named}
+use Rattle.miette_sarif_reader.specs.rules.Results.{rule_of, rule_told, said_of, severity_by, strings_of, url_of}
+use Rattle.miette_log_reading_laws.specs.laws.Data.{data_of}
+use Rattle.miette_log_reading_laws.specs.laws.Kept.{url_kept}
+use Rattle.miette_log_reading_laws.proofs.Ground.{log_ground}
+use Rattle.miette_log_reading_laws.proofs.Members.{id_read, index_read, level_read, message_read, no_id_read}
+use Rattle.miette_log_reading_laws.proofs.Members.{no_index_read, result_by, rule_read}
+use Rattle.miette_log_reading_laws.proofs.Objects.{object_read}
+use Rattle.miette_log_reading_laws.proofs.Rules.{HasCode, rule_at}
+
+-- ---- a rule
+
+abbrev value_pairs : List ℕ → Option (List ℕ) → Pairs
+value_pairs code uri = pair (codes "id") (json.string code) ++ maybe_text (codes "helpUri") uri
+
+pub address_read : (code : List ℕ) (uri : Option (List ℕ))
+    → text_at (codes "helpUri") (data_of (rule_value code uri)) ≡ uri
+address_read code None = ap (option_and_then as_str) (object_read (codes "helpUri") (value_pairs code None))
+address_read code (Some uri) =
+    ap (option_and_then as_str) (object_read (codes "helpUri") (value_pairs code (Some uri)))
+
+no_strings : (code : List ℕ) (uri : Option (List ℕ))
+    → object_at (codes "messageStrings") (data_of (rule_value code uri)) ≡ None
+no_strings code None =
+    ap (option_and_then objects_alone) (object_read (codes "messageStrings") (value_pairs code None))
+no_strings code (Some uri) =
+    ap (option_and_then objects_alone) (object_read (codes "messageStrings") (value_pairs code (Some uri)))
+
+-- ---- a result over the rules of its log
+
+module _ (files : List ℕ → Option Source) (artifacts : List Data) (fs : List Finding) (level text : List ℕ)
+    (ls rs xs : List Json) where
+  abbrev g : Ground
+  g = log_ground files (rules_in fs) artifacts
+
+  abbrev d : List ℕ → Data
+  d code = result_by (rules_in fs) level text ls rs xs code
+
+  abbrev rule_kept : List ℕ → Option Data
+  rule_kept [] = None
+  rule_kept (c ∷ cs) = Some (data_of (rule_value (c ∷ cs) (help_uri (c ∷ cs) fs)))
+
+  told_none : (code : List ℕ) → rule_told (d code) ≡ None
+  told_none code = ap (option_and_then objects_alone) (rule_read (rules_in fs) level text ls rs xs code)
+
+  -- it is one of the tool's own
+  own_index : (code : List ℕ) → rule_index (d code) ≡ index_told (d code)
+  own_index code =
+      ap (λ o. if is_some (option_and_then (object_at (codes "toolComponent")) o) then None else index_told (d code))
+      (told_none code)
+
+  id_none : rule_id (d []) ≡ None
+  id_none =
+      ap (λ o. option_or (option_and_then as_str o) (option_and_then (text_at (codes "id")) (rule_told (d []))))
+      (no_id_read (rules_in fs) level text ls rs xs)
+      ∙ ap (λ o. option_or None (option_and_then (text_at (codes "id")) o)) (told_none [])
+
+  id_there : (c : ℕ) (cs : List ℕ) → rule_id (d (c ∷ cs)) ≡ Some (c ∷ cs)
+  id_there c cs =
+      ap (λ o. option_or (option_and_then as_str o)
+      (option_and_then (text_at (codes "id")) (rule_told (d (c ∷ cs)))))
+      (id_read (rules_in fs) level text ls rs xs c cs)
+
+  index_none : rule_index (d []) ≡ None
+  index_none =
+      own_index []
+      ∙ (ap (λ o. option_or (option_and_then as_u64 (option_and_then as_number o))
+      (option_and_then (whole_at (codes "index")) (rule_told (d []))))
+      (no_index_read (rules_in fs) level text ls rs xs)
+      ∙ ap (λ o. option_or None (option_and_then (whole_at (codes "index")) o)) (told_none []))
+
+  index_there : (c : ℕ) (cs : List ℕ)
+      → rule_index (d (c ∷ cs)) ≡ Some (index_of (bytes_eq (c ∷ cs)) (codes_of fs))
+  index_there c cs =
+      own_index (c ∷ cs)
+      ∙ ap (λ o. option_or (option_and_then as_u64 (option_and_then as_number o))
+      (option_and_then (whole_at (codes "index")) (rule_told (d (c ∷ cs)))))
+      (index_read (rules_in fs) level text ls rs xs c cs)
+
+  pub rule_found : (code : List ℕ) → HasCode code fs → rule_of g (d code) ≡ rule_kept code
+  rule_found [] h =
+      ap (λ i. option_or (item_at g.rules i) (rule_named g.rules (rule_id (d [])))) index_none
+      ∙ ap (λ i. option_or None (rule_named g.rules i)) id_none
+  rule_found (c ∷ cs) h =
+      let id : Option (List ℕ) = rule_id (d (c ∷ cs)) in
+      ap (λ i. option_or (item_at g.rules i) (rule_named g.rules id)) (index_there c cs)
+      ∙ ap (λ o. option_or o (rule_named g.rules id)) (rule_at c cs fs h)
+
+  strings_none : (code : List ℕ) → HasCode code fs → strings_of g (d code) ≡ None
+  strings_none [] h = ap (option_and_then (object_at (codes "messageStrings"))) (rule_found [] h)
+  strings_none (c ∷ cs) h =
+      ap (option_and_then (object_at (codes "messageStrings"))) (rule_found (c ∷ cs) h)
+      ∙ no_strings (c ∷ cs) (help_uri (c ∷ cs) fs)
+
+  pub same_ground : (code : List ℕ) → HasCode code fs → ground_for g (d code) ≡ g
+  same_ground code h = ap (λ o. record g { strings = o }) (strings_none code h)
+
+  -- ---- what it says
+
+  code_read : (code : List ℕ) → HasCode code fs → code_of g (d code) ≡ said (Some code)
+  code_read [] h =
+      ap (λ o. option_or o (option_and_then (text_at (codes "id")) (rule_of g (d [])))) id_none
+      ∙ ap (λ o. option_or None (option_and_then (text_at (codes "id")) o)) (rule_found [] h)
+  code_read (c ∷ cs) h =
+      ap (λ o. option_or o (option_and_then (text_at (codes "id")) (rule_of g (d (c ∷ cs))))) (id_there c cs)
+
+  url_read : (code : List ℕ) → HasCode code fs → url_of g (d code) ≡ url_kept fs code
+  url_read [] h = ap (option_and_then (text_at (codes "helpUri"))) (rule_found [] h)
+  url_read (c ∷ cs) h =
+      ap (option_and_then (text_at (codes "helpUri"))) (rule_found (c ∷ cs) h)
+      ∙ address_read (c ∷ cs) (help_uri (c ∷ cs) fs)
+
+  severity_read : (code : List ℕ) → severity_by (level_of g (d code)) ≡ severity_by level
+  severity_read code =
+      ap (λ o. severity_by (unwrap_or (option_and_then as_str o) (default_level g (d code))))
+      (level_read (rules_in fs) level text ls rs xs code)
+
+  message_said : (code rows : List ℕ) → message_text None (data_of (message_of text)) ≡ Some rows
+      → unwrap_or (message_in None (d code)) [] ≡ rows
+  message_said code rows e =
+      ap (λ o. unwrap_or (option_and_then (message_text None) (option_and_then objects_alone o)) [])
+      (message_read (rules_in fs) level text ls rs xs code)
+      ∙ ap (λ o. unwrap_or o []) e
+
+  abbrev made : Option (List ℕ) → List ℕ → Option (List ℕ) → List ℕ → Option (List ℕ) → Said
+  made help message code named url = record {
+    message = message;
+    code = code;
+    severity = severity_by named;
+    help = help;
+    url = url;
+  }
+
+  pub said_read : (help : Option (List ℕ)) (code rows : List ℕ) → HasCode code fs
+      → message_text None (data_of (message_of text)) ≡ Some rows
+      → said_of g help (d code) ≡ record {
+        message = rows;
+        code = said (Some code);
+        severity = severity_by level;
+        help = help;
+        url = url_kept fs code;
+      }
+  said_read help code rows h e =
+      let named : List ℕ = level_of g (d code) in
+      ap (λ it. made help it (code_of g (d code)) named (url_of g (d code))) (message_said code rows e)
+      ∙ (ap (λ it. made help rows it named (url_of g (d code))) (code_read code h)
+      ∙ (ap (made help rows (said (Some code)) named) (url_read code h)
+      ∙ ap (λ it. record (made help rows (said (Some code)) named (url_kept fs code)) { severity = it })
+      (severity_read code)))

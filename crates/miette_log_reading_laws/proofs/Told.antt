@@ -1,0 +1,152 @@
+-- What a result tells at places.
+use Rattle.std.proofs.Common.{◌≡◌, ℕ, ◌+◌, List, [], ◌∷◌, ◌++◌, Bool, true, false, Option, Some, None, IfSome, map}
+use Rattle.std.proofs.Common.{refl, ap, ◌∙◌, append-nil, codes, filter, option_and_then, option_map}
+use Rattle.std.specs.List.{AllByRecursion, flat_map}
+use Rattle.serde_json.specs.Data.{Data}
+use Rattle.serde_json.specs.Find.{as_array}
+use Rattle.miette_json.specs.rules.Json.{Json}
+use Rattle.miette_protocol.specs.rules.Reading.{Source}
+use Rattle.miette_readers.specs.rules.Members.{is_object, items_in, object_at, objects_alone, objects_at, said}
+use Rattle.miette_readers.specs.rules.Places.{Told}
+use Rattle.miette_readers.specs.rules.Rustc.{maybe_row}
+use Rattle.miette_sarif.specs.rules.Artifacts.{Artifacts, located}
+use Rattle.miette_sarif.specs.rules.Codes.{Rules}
+use Rattle.miette_sarif.specs.rules.Findings.{Area, Mark, Place, SourceName}
+use Rattle.miette_sarif.specs.rules.Places.{place_value, primary_locations, region, related_from}
+use Rattle.miette_sarif_reader.specs.rules.Bases as bases
+use Rattle.miette_sarif_reader.specs.rules.Results.{Ground, file_at, file_of, file_row, flow_told, location_told}
+use Rattle.miette_sarif_reader.specs.rules.Results.{message_in}
+use Rattle.miette_sarif_reader.specs.rules.Results.{message_text, own_told, place_in, region_of, related_told}
+use Rattle.miette_sarif_reader.specs.rules.Results.{row_alone}
+use Rattle.miette_sarif_reader.specs.rules.Results.{told_at, told_in, told_of, with_begin}
+use Rattle.miette_log_reading_laws.specs.laws.Data.{data_of}
+use Rattle.miette_log_reading_laws.specs.laws.Files.{IsMarkOver, IsOver, IsPlaceOver}
+use Rattle.miette_log_reading_laws.specs.laws.Kept.{file_name, mark_kept, primary_kept, told_by, told_over}
+use Rattle.miette_log_reading_laws.specs.laws.Kept.{words}
+use Rattle.miette_log_reading_laws.proofs.Ground.{log_ground}
+use Rattle.miette_log_reading_laws.proofs.Members.{all_related, area_lines, artifact_read, flows_read, location_by}
+use Rattle.miette_log_reading_laws.proofs.Members.{physical_read, places_read, region_read, related_read, result_by}
+use Rattle.miette_log_reading_laws.proofs.Members.{text_read, text_value}
+use Rattle.miette_log_reading_laws.proofs.Objects.{objects_in}
+use Rattle.miette_log_reading_laws.proofs.Places.{begin_told, file_read, line_told, name_read, place_read}
+use Rattle.miette_log_reading_laws.proofs.Texts.{text_shown}
+
+module _ (files : List ℕ → Option Source) (r : Rules) (artifacts : List Data) (a : Artifacts) where
+  abbrev g : Ground
+  g = log_ground files r artifacts
+
+  -- ---- its text
+
+  words_by : (text : List ℕ) → said (option_and_then (message_text None)
+      (option_and_then objects_alone (text_value text))) ≡ words text
+  words_by [] = refl
+  words_by (c ∷ cs) = ap said (text_shown None (c ∷ cs))
+
+  words_read : (id : Option ℕ) (place : Option Place) (text : List ℕ)
+      → said (message_in None (location_by a id place text)) ≡ words text
+  words_read id place text =
+      ap (λ o. said (option_and_then (message_text None) (option_and_then objects_alone o)))
+      (text_read a id place text)
+      ∙ words_by text
+
+  -- ---- its place
+
+  abbrev located_at : SourceName → Data
+  located_at s = data_of (located a s)
+
+  abbrev area_data : Option Area → Option Data
+  area_data area = option_map (λ it. data_of (region it)) area
+
+  begin_by : (area : Option Area)
+      → option_and_then with_begin (option_and_then objects_alone (area_data area)) ≡ area_data area
+  begin_by None = refl
+  begin_by (Some area) = begin_told (data_of (region area)) area.stretch (area_lines area)
+
+  abbrev told_in_place : Option (List ℕ) → Bool → Option Data → Told
+  told_in_place text own place =
+      told_at g text true own (option_and_then (file_at g) place)
+      (option_and_then with_begin (option_and_then (object_at (codes "region")) place))
+
+  area_told : (text : Option (List ℕ)) (own : Bool) (s : SourceName) (area : Option Area)
+      → IfSome area (λ (it : Area). IsOver files a s it.stretch)
+      → told_at g text true own (Some (located_at s)) (area_data area) ≡ told_over files a own text s area
+  area_told text own s None over = ap (λ name. row_alone (Some (file_row name text)) own) (name_read a s)
+  area_told text own s (Some area) over =
+      let d : Data = data_of (region area) in
+      ap (λ b. told_in text true own b (place_in g (bases.file_name None (located_at s)) d))
+      (line_told d area.stretch (area_lines area))
+      ∙ ap (λ (it : _). record { rows = maybe_row text; place = Some it; primary = true; own = own })
+      (ap (λ name. place_in g name d) (name_read a s)
+      ∙ place_read d area.stretch (area_lines area) files r artifacts (file_name a s) over)
+
+  place_told : (text : Option (List ℕ)) (own : Bool) (place : Option Place) → IfSome place (IsPlaceOver files a)
+      → told_in_place text own (option_and_then objects_alone (option_map (λ p. data_of (place_value a p)) place))
+      ≡ told_by files a own text place
+  place_told text own None over = refl
+  place_told text own (Some p) over =
+      let d : Data = data_of (place_value a p) in
+      ap (λ o. told_at g text true own o
+      (option_and_then with_begin (object_at (codes "region") d))) (file_read files r artifacts a d p.source
+      (artifact_read a p))
+      ∙ (ap (λ o. told_at g text true own (Some (located_at p.source))
+      (option_and_then with_begin (option_and_then objects_alone o))) (region_read a p)
+      ∙ (ap (told_at g text true own (Some (located_at p.source))) (begin_by p.area)
+      ∙ area_told text own p.source p.area over))
+
+  mark_told : (id : Option ℕ) (own : Bool) (m : Mark) → IsMarkOver files a m
+      → location_told g true own (location_by a id m.place m.text) ≡ mark_kept files a own m
+  mark_told id own m over =
+      let l : Data = location_by a id m.place m.text in
+      ap (λ text. told_at g text true own (file_of g l) (region_of l)) (words_read id m.place m.text)
+      ∙ (ap (λ o. told_in_place (words m.text) own (option_and_then objects_alone o))
+      (physical_read a id m.place m.text)
+      ∙ place_told (words m.text) own m.place over)
+
+  -- ---- all of them
+
+  primary_told : (o : Option Mark) → IfSome o (IsMarkOver files a)
+      → own_told g (map data_of (primary_locations a o)) ≡ primary_kept files a o
+  primary_told None over = refl
+  primary_told (Some m) over = ap (λ t. t ∷ []) (mark_told None true m over)
+
+  marks_told : (id : ℕ) (ms : List Mark) → AllByRecursion (IsMarkOver files a) ms
+      → map (location_told g true false) (map data_of (related_from a id ms)) ≡ map (mark_kept files a false) ms
+  marks_told id [] over = refl
+  marks_told id (m ∷ ms) over =
+      ap (λ t. t ∷ map (location_told g true false) (map data_of (related_from a (id + 1) ms)))
+      (mark_told (Some id) false m over.0)
+      ∙ ap (λ ts. mark_kept files a false m ∷ ts) (marks_told (id + 1) ms over.1)
+
+  module _ (level text : List ℕ) (xs : List Json) (code : List ℕ) (o : Option Mark) (ms : List Mark) where
+    abbrev d : Data
+    d = result_by r level text (primary_locations a o) (related_from a 1 ms) xs code
+
+    flows_told : flat_map (flow_told g) (objects_at (codes "codeFlows") d) ≡ []
+    flows_told =
+        ap (λ flows. flat_map (flow_told g) (filter is_object (items_in (option_and_then as_array flows))))
+        (flows_read r level text (primary_locations a o) (related_from a 1 ms) xs code)
+
+    one_object : (p : Option Mark) → AllByRecursion (λ v. is_object (data_of v) ≡ true) (primary_locations a p)
+    one_object None = tt
+    one_object (Some m) = (refl, tt)
+
+    places_told : IfSome o (IsMarkOver files a)
+        → own_told g (objects_at (codes "locations") d) ≡ primary_kept files a o
+    places_told over =
+        ap (own_told g) (objects_in (codes "locations") d (primary_locations a o)
+        (places_read r level text (primary_locations a o) (related_from a 1 ms) xs code) (one_object o))
+        ∙ primary_told o over
+
+    others_told : AllByRecursion (IsMarkOver files a) ms → related_told g d ≡ map (mark_kept files a false) ms
+    others_told over =
+        ap (map (location_told g true false)) (objects_in (codes "relatedLocations") d (related_from a 1 ms)
+        (related_read r level text (primary_locations a o) (related_from a 1 ms) xs code) (all_related a 1 ms))
+        ∙ marks_told 1 ms over
+
+    pub told_read : IfSome o (IsMarkOver files a) → AllByRecursion (IsMarkOver files a) ms
+        → told_of g d ≡ primary_kept files a o ++ map (mark_kept files a false) ms
+    told_read first others =
+        ap (λ flows. (own_told g (objects_at (codes "locations") d) ++ related_told g d) ++ flows) flows_told
+        ∙ (append-nil (own_told g (objects_at (codes "locations") d) ++ related_told g d)
+        ∙ (ap (λ ts. ts ++ related_told g d) (places_told first)
+        ∙ ap (λ ts. primary_kept files a o ++ ts) (others_told others)))

@@ -1,0 +1,185 @@
+-- A log reads back as one report of each finding.
+use Rattle.std.proofs.Common.{◌≡◌, ℕ, List, [], ◌∷◌, ◌++◌, Option, Some, None, map, refl, ap, ◌∙◌, append-nil, codes}
+use Rattle.std.proofs.Common.{is_some, option_and_then}
+use Rattle.std.specs.Prelude.{if◌then◌else◌}
+use Rattle.std.specs.List.{AllByRecursion, flat_map}
+use Rattle.serde_json.specs.Data.{Data}
+use Rattle.serde_json.specs.Find.{as_array, get}
+use Rattle.miette_json.specs.rules.Json as json
+use Rattle.miette_json.specs.rules.Json.{Json}
+use Rattle.miette_protocol.specs.rules.Reading.{Source}
+use Rattle.miette_readers.specs.rules.Members.{objects_at}
+use Rattle.miette_readers.specs.rules.Places.{Told}
+use Rattle.miette_readers.specs.rules.Reports.{Said, report_tree}
+use Rattle.miette_readers.specs.rules.Settling.{settled}
+use Rattle.miette_readers.proofs.Holding.{Has, Is, all_each, all_there, has_each}
+use Rattle.miette_sarif.specs.rules.Artifacts.{Artifacts, all_named, artifact_values, artifacts_in}
+use Rattle.miette_sarif.specs.rules.Codes.{Rules, rules_in}
+use Rattle.miette_sarif.specs.rules.Findings.{Finding}
+use Rattle.miette_sarif.specs.rules.Log.{ToolName, log, run, schema}
+use Rattle.miette_sarif.specs.rules.Objects.{Pairs, array_of, pair}
+use Rattle.miette_sarif.specs.rules.Places.{primary_locations, related_from}
+use Rattle.miette_sarif.specs.rules.Results.{fix_values, message_text, result_of, results}
+use Rattle.miette_sarif_reader.specs.rules.Logs.{ground_of, result_tree, run_trees, sarif_trees}
+use Rattle.miette_sarif_reader.specs.rules.Proposals.{Draft, drafts_of, help_of, offers_of}
+use Rattle.miette_sarif_reader.specs.rules.Results.{Ground, ground_for, said_of, told_of}
+use Rattle.miette_tree.specs.rules.Tree.{Tree}
+use Rattle.miette_log_reading_laws.specs.laws.Data.{data_of}
+use Rattle.miette_log_reading_laws.specs.laws.Files.{AreFindingsOver, IsFindingOver}
+use Rattle.miette_log_reading_laws.specs.laws.Kept.{fixes_kept, message_rows, report_kept, report_with, said_kept}
+use Rattle.miette_log_reading_laws.specs.laws.Kept.{told_kept}
+use Rattle.miette_log_reading_laws.specs.laws.Links.{without_links}
+use Rattle.miette_log_reading_laws.proofs.Drafts.{drafts_read}
+use Rattle.miette_log_reading_laws.proofs.Ground.{found, ground_read, log_ground, results_read}
+use Rattle.miette_log_reading_laws.proofs.Objects.{all_objects, object_read, objects_listed}
+use Rattle.miette_log_reading_laws.proofs.Rules.{HasCode}
+use Rattle.miette_log_reading_laws.proofs.Said.{said_read, same_ground}
+use Rattle.miette_log_reading_laws.proofs.Texts.{rows_shown}
+use Rattle.miette_log_reading_laws.proofs.Told.{told_read}
+
+module _ (files : List ℕ → Option Source) (tool : ToolName) (fs : List Finding) where
+  abbrev r : Rules
+  r = rules_in fs
+
+  abbrev a : Artifacts
+  a = artifacts_in (all_named fs)
+
+  abbrev run_results : List Json
+  run_results = results r a fs
+
+  abbrev listed_artifacts : List Data
+  listed_artifacts = found tool r run_results (artifact_values a)
+
+  abbrev g : Ground
+  g = log_ground files r listed_artifacts
+
+  abbrev first : Ground
+  first = ground_of files (data_of (run tool fs))
+
+  abbrev d : Finding → Data
+  d f = data_of (result_of r a f)
+
+  run_ground : first ≡ g
+  run_ground = ground_read tool r run_results files (artifact_values a)
+
+  -- ---- one result
+
+  module _ (f : Finding) (h : HasCode f.code fs) where
+    abbrev ls : List Json
+    ls = primary_locations a f.primary
+
+    abbrev rs : List Json
+    rs = related_from a 1 f.marks
+
+    abbrev xs : List Json
+    xs = fix_values a f.fixes
+
+    own_ground : ground_for first (d f) ≡ g
+    own_ground =
+        ap (λ it. ground_for it (d f)) run_ground
+        ∙ same_ground files listed_artifacts fs f.level (message_text r f) ls rs xs f.code h
+
+    pub one_said : (help : Option (List ℕ)) → said_of (ground_for first (d f)) help (d f) ≡ said_kept fs help f
+    one_said help =
+        ap (λ it. said_of it help (d f)) own_ground
+        ∙ said_read files listed_artifacts fs f.level (message_text r f) ls rs xs help f.code
+        (without_links (message_rows r f)) h (rows_shown None r f)
+
+    pub one_told : IsFindingOver files a f → told_of (ground_for first (d f)) (d f) ≡ told_kept files a f
+    one_told over =
+        ap (λ it. told_of it (d f)) own_ground
+        ∙ told_read files r listed_artifacts a f.level (message_text r f) xs f.code f.primary f.marks over.primary
+        over.marks
+
+    pub one_drafted : IsFindingOver files a f → drafts_of (ground_for first (d f)) (d f) ≡ fixes_kept files a f
+    one_drafted over =
+        ap (λ it. drafts_of it (d f)) own_ground
+        ∙ drafts_read files r listed_artifacts a f.level (message_text r f) ls rs f.code f.fixes over.fixes
+
+    one_by : (said : Said) (told : List Told) (drafts : List Draft) → Tree
+    one_by said told drafts = report_tree said (settled files told) (offers_of files drafts)
+
+    pub one_read : IsFindingOver files a f → result_tree first (d f) ≡ report_with files fs a (fixes_kept files a f) f
+    one_read over =
+        let k : Ground = ground_for first (d f) in
+        let kept : List Draft = fixes_kept files a f in
+        let told : List Told = told_of k (d f) in
+        ap (λ (drafts : List Draft). report_tree (said_of k (help_of files drafts) (d f)) (settled files told)
+        (offers_of files drafts)) (one_drafted over)
+        ∙ (ap (λ (it : List Told). report_tree (said_of k (help_of files kept) (d f)) (settled files it)
+        (offers_of files kept)) (one_told over)
+        ∙ ap (λ (said : Said). report_tree said (settled files (told_kept files a f)) (offers_of files kept))
+        (one_said (help_of files kept)))
+
+  -- ---- all of them
+
+  coded : AllByRecursion (λ (f : Finding). HasCode f.code fs) fs
+  coded =
+      all_each (λ (f : Finding). Has (Is f) fs) (λ (f : Finding). HasCode f.code fs)
+      (λ f h. has_each (Is f) (λ (it : Finding). it.code ≡ f.code) (λ it e. ap (λ (x : Finding). x.code) e) fs h) fs
+      (all_there fs)
+
+  all_by : (gs : List Finding) → AllByRecursion (λ (f : Finding). HasCode f.code fs) gs
+      → AllByRecursion (IsFindingOver files a) gs
+      → map (result_tree first) (map data_of (results r a gs))
+      ≡ map (λ f. report_with files fs a (fixes_kept files a f) f) gs
+  all_by [] h over = refl
+  all_by (f ∷ gs) h over =
+      ap (λ t. t ∷ map (result_tree first) (map data_of (results r a gs))) (one_read f h.0 over.0)
+      ∙ ap (λ ts. report_with files fs a (fixes_kept files a f) f ∷ ts) (all_by gs h.1 over.1)
+
+  run_read : AreFindingsOver files fs → run_trees files (data_of (run tool fs)) ≡ map (report_kept files fs) fs
+  run_read over =
+      ap (map (result_tree first)) (objects_listed (codes "results") (data_of (run tool fs)) run_results
+      (results_read tool r run_results (artifact_values a)) (all_objects (result_of r a) (λ f. refl) fs))
+      ∙ all_by fs coded over
+
+  -- ---- the log
+
+  abbrev log_pairs : Pairs
+  log_pairs = pair (codes "$schema") (json.string schema) ++ (pair (codes "version") (json.string (codes "2.1.0"))
+      ++ pair (codes "runs") (array_of (run tool fs ∷ [])))
+
+  runs_read : get (codes "runs") (data_of (log tool fs)) ≡ Some (data_of (array_of (run tool fs ∷ [])))
+  runs_read = object_read (codes "runs") log_pairs
+
+  pub log_read : AreFindingsOver files fs
+      → sarif_trees files (data_of (log tool fs)) ≡ Some (map (report_kept files fs) fs)
+  log_read over =
+      let runs : List Data = objects_at (codes "runs") (data_of (log tool fs)) in
+      ap (λ o. if is_some (option_and_then as_array o) then Some (flat_map (run_trees files) runs) else None) runs_read
+      ∙ (ap (λ ds. Some (flat_map (run_trees files) ds)) (objects_listed (codes "runs") (data_of (log tool fs))
+      (run tool fs ∷ []) runs_read (refl, tt))
+      ∙ (ap (λ ts. Some ts) (append-nil (run_trees files (data_of (run tool fs))) ∙ run_read over)))
+
+  -- ---- clauses
+
+  said_all : (gs : List Finding) → AllByRecursion (λ (f : Finding). HasCode f.code fs) gs
+      → AllByRecursion (λ f. (help : Option (List ℕ)) → said_of (ground_for first (d f)) help (d f)
+      ≡ said_kept fs help f) gs
+  said_all [] h = tt
+  said_all (f ∷ gs) h = (one_said f h.0, said_all gs h.1)
+
+  told_all : (gs : List Finding) → AllByRecursion (λ (f : Finding). HasCode f.code fs) gs
+      → AllByRecursion (IsFindingOver files a) gs
+      → AllByRecursion (λ f. told_of (ground_for first (d f)) (d f) ≡ told_kept files a f) gs
+  told_all [] h over = tt
+  told_all (f ∷ gs) h over = (one_told f h.0 over.0, told_all gs h.1 over.1)
+
+  drafted_all : (gs : List Finding) → AllByRecursion (λ (f : Finding). HasCode f.code fs) gs
+      → AllByRecursion (IsFindingOver files a) gs
+      → AllByRecursion (λ f. drafts_of (ground_for first (d f)) (d f) ≡ fixes_kept files a f) gs
+  drafted_all [] h over = tt
+  drafted_all (f ∷ gs) h over = (one_drafted f h.0 over.0, drafted_all gs h.1 over.1)
+
+  pub all_said : AllByRecursion (λ f. (help : Option (List ℕ)) → said_of (ground_for first (d f)) help (d f)
+      ≡ said_kept fs help f) fs
+  all_said = said_all fs coded
+
+  pub all_told : AreFindingsOver files fs
+      → AllByRecursion (λ f. told_of (ground_for first (d f)) (d f) ≡ told_kept files a f) fs
+  all_told over = told_all fs coded over
+
+  pub all_drafted : AreFindingsOver files fs
+      → AllByRecursion (λ f. drafts_of (ground_for first (d f)) (d f) ≡ fixes_kept files a f) fs
+  all_drafted over = drafted_all fs coded over

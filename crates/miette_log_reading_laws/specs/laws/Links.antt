@@ -1,0 +1,20 @@
+-- Texts without their links: of a link nothing is shown but its text.
+use Rattle.std.specs.Prelude.{ℕ, zero, suc, List, [], ◌∷◌, ◌++◌, Bool, false, ◌==◌, if◌then◌else◌}
+use Rattle.miette_sarif_reader.specs.rules.Messages.{Piece, backslash_piece, closing_piece, opening_piece, plain}
+
+-- the piece that begins with a byte, in front of others: a brace stands for itself
+abbrev pub link_piece : Bool → ℕ → List ℕ → Piece
+link_piece in_link b text =
+    if b == 92 then backslash_piece in_link text
+    else if b == 91 then opening_piece in_link text
+    else if b == 93 then closing_piece in_link text else plain in_link b
+
+-- what is shown of a text, but for so many bytes at its beginning
+abbrev pub unlinked_behind : Bool → ℕ → List ℕ → List ℕ
+unlinked_behind in_link n [] = []
+unlinked_behind in_link zero (b ∷ bs) =
+    let piece = link_piece in_link b bs in piece.shown ++ unlinked_behind piece.in_link piece.further bs
+unlinked_behind in_link (suc n) (b ∷ bs) = unlinked_behind in_link n bs
+
+abbrev pub without_links : List ℕ → List ℕ
+without_links text = unlinked_behind false 0 text

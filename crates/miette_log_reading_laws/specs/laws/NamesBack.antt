@@ -1,0 +1,18 @@
+-- The names of files that stand in a log of ours so that they are read as they are.
+use Rattle.std.specs.Prelude.{◌≡◌, ◌≢◌, ◌==◌, ℕ, List, [], true, false, not, codes, nat_eq}
+use Rattle.std.specs.List.{list_all, starts_with}
+use Rattle.std.specs.Str.{IsUtf8}
+use Rattle.miette_sarif.specs.rules.Uris.{has_authority}
+
+-- not empty, and no address: it begins with no scheme and `://`
+pub record IsPlainName (name : List ℕ) : Type 0 where
+  pub some : name ≢ []
+  pub utf8 : IsUtf8 name
+  pub no_address : has_authority name ≡ false
+
+-- an address without a `%` that is no `file:` URI
+pub record IsPlainAddress (name : List ℕ) : Type 0 where
+  pub utf8 : IsUtf8 name
+  pub address : has_authority name ≡ true
+  pub no_escape : list_all (λ b. not (b == 37)) name ≡ true
+  pub no_file : starts_with nat_eq name (codes "file:") ≡ false

@@ -1,0 +1,4 @@
+//! What holds of SARIF logs that we wrote and read back.
+#![tactic(auto)]
+
+pub mod laws;
