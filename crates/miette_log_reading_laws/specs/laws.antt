@@ -8,3 +8,4 @@ pub mod Kept
 pub mod Files
 pub mod Reading
 pub mod Sources
+pub mod Worked

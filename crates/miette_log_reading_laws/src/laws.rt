@@ -8,7 +8,7 @@
 //! that was refused, is a cause text, with the name of its source. A URL that isn't the rule's, causes, help, and fixes
 //! that can't be applied are rows of the message, and how sure a fix is isn't kept.
 
-ghost use Rattle.std.specs.Prelude.{◌≡◌, ℕ, List, Option, Some, false, map, unwrap_or};
+ghost use Rattle.std.specs.Prelude.{◌≡◌, ℕ, List, [], ◌∷◌, Option, Some, false, map, unwrap_or};
 ghost use Rattle.std.specs.List.{AllByRecursion};
 ghost use Rattle.miette_json.specs.rules.Denotes.{Denotes};
 ghost use Rattle.miette_json.specs.rules.Json.{Json};
@@ -20,7 +20,7 @@ ghost use Rattle.miette_protocol.specs.declared.protocol.Severity.TheVariants.{E
 ghost use Rattle.miette_protocol.specs.rules.Reading.{Source, Span};
 ghost use Rattle.miette_sarif.specs.rules.Artifacts.{all_named, artifacts_in};
 ghost use Rattle.miette_sarif.specs.rules.Findings.{Finding};
-ghost use Rattle.miette_sarif.specs.rules.Gathered.{level};
+ghost use Rattle.miette_sarif.specs.rules.Gathered.{level, read_findings};
 ghost use Rattle.miette_sarif.specs.rules.Log.{ToolName, log};
 ghost use Rattle.miette_sarif.specs.rules.LogText.{IsLogOf};
 ghost use Rattle.miette_sarif.specs.rules.Uris.{name_uri};
@@ -28,7 +28,7 @@ ghost use Rattle.miette_sarif_reader.specs.rules.Logs.{sarif_trees};
 ghost use Rattle.miette_sarif_reader.specs.rules.Proposals.{drafts_of};
 ghost use Rattle.miette_sarif_reader.specs.rules.Results.{said_of, severity_by, told_of};
 ghost use Rattle.miette_sarif_reader.specs.rules.Uris.{name_of};
-ghost use Rattle.miette_tree.specs.rules.Tree.{Trees};
+ghost use Rattle.miette_tree.specs.rules.Tree.{Trees, trees};
 ghost use Rattle.miette_log_reading_laws.specs.laws.Data.{NumbersFit, data_of};
 ghost use Rattle.miette_log_reading_laws.specs.laws.Files.{AreFindingsOver};
 ghost use Rattle.miette_log_reading_laws.specs.laws.Kept.{fixes_kept, report_kept, said_kept, told_kept};
@@ -38,6 +38,7 @@ ghost use Rattle.miette_log_reading_laws.specs.laws.NamesBack.{IsPlainAddress, I
 ghost use Rattle.miette_log_reading_laws.specs.laws.Reading.{ReadsBack, result_data, result_ground};
 ghost use Rattle.miette_log_reading_laws.specs.laws.RegionsBack.{lines_back, offsets_of};
 ghost use Rattle.miette_log_reading_laws.specs.laws.Sources.{AreFilesOf};
+ghost use Rattle.miette_log_reading_laws.specs.laws.Worked.{found, given, kept};
 
 /// What each result says is read as it was found: message, severity, code and URL (`said_kept`).
 pub fn what_is_said_reads_back()
@@ -83,6 +84,12 @@ pub fn texts_without_links_read_back()
 /// A severity is read as it was; a report without one is an error.
 pub fn severities_read_back()
     ensures { (severity : Option Severity) → severity_by (level severity) ≡ unwrap_or severity Error }
+{}
+
+/// What is kept of a worked report, computed by the definitions.
+pub fn worked_reports_read_back()
+    ensures { let findings = read_findings (trees (given ∷ [])) in
+        map (report_kept found findings) findings ≡ kept ∷ [] }
 {}
 
 /// The lines and columns of a label's region are read as the bytes that it was written for, whatever bytes they are.
