@@ -188,9 +188,6 @@ impl<O: Canvas> Page<O> {
         self.out.push(character)
     }
 
-<<<<<<< ours
-    /// Puts a text after the run's text. `AllocError` where memory is refused.
-=======
     /// Takes room for a text of `len` bytes and a few rows, where it is long: so these rows don't copy it. What was
     /// printed stays. `AllocError` where memory is refused.
     pub fn make_room(&mut self, len: usize) -> Result<(), AllocError>
@@ -202,8 +199,7 @@ impl<O: Canvas> Page<O> {
         self.out.reserve(' ', len.saturating_add(FEW_ROWS))
     }
 
-    /// Puts a text behind the run's text. `AllocError` where memory is refused.
->>>>>>> theirs
+    /// Puts a text after the run's text. `AllocError` where memory is refused.
     pub fn push_str(&mut self, text: &str) -> Result<(), AllocError>
         ensures { OnOk result (self.new ≡ self.old ⊕ text_tokens (chars text.now)) }
     {
