@@ -165,8 +165,8 @@ fn push_break<O: Canvas>(page: &mut Page<O>, context: &LineContext, shown: &Show
 /// texts of the labels of several lines that end there. Where it is left out, the row of the break that begins with
 /// it, if one does. `AllocError` where memory is refused, or a column is past the largest `usize`.
 pub(crate) fn push_line_or_break<O: Canvas>(
-    alloc: Global,
     page: &mut Page<O>,
+    alloc: Global,
     context: &LineContext,
     shown: &ShownLine,
 ) -> Outcome

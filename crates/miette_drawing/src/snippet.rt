@@ -165,10 +165,10 @@ fn seek<'a>(
 // The rows of a snippet's lines, in the highlighter's pieces, which is asked for those that are left out too. Where
 // there is none, a gap is passed over at once.
 fn push_lines<'a, H: Highlighter, O: Canvas>(
+    page: &mut Page<O>,
     drawing: &Drawing<'a>,
     body: &Body<'_>,
     highlighter: &mut Option<H>,
-    page: &mut Page<O>,
     sweep: &mut Sweep<'a>,
 ) -> Outcome
     requires sorted { AreSorted drawing.now.placed.now }
@@ -218,7 +218,7 @@ fn push_lines<'a, H: Highlighter, O: Canvas>(
             left_out,
             gap,
         };
-        push_line_or_break(drawing.settings.alloc, page, &context, &shown)?;
+        push_line_or_break(page, drawing.settings.alloc, &context, &shown)?;
         sweep.leave(line.end);
         let next = next_start(body.folds, place, &line, may_pass(highlighter, left_out));
         pass_over(drawing.placed, line.end, next.offset, sweep)?;
@@ -231,9 +231,9 @@ fn push_lines<'a, H: Highlighter, O: Canvas>(
 
 // The rows of a snippet, where the sweep has come to its read's contents.
 fn push_framed<'a, H: Highlighter, O: Canvas>(
+    page: &mut Page<O>,
     drawing: &Drawing<'a>,
     highlighter: &mut Option<H>,
-    page: &mut Page<O>,
     sweep: &mut Sweep<'a>,
     snippet: &Snippet<'_>,
 ) -> Outcome
@@ -279,9 +279,8 @@ fn push_framed<'a, H: Highlighter, O: Canvas>(
         place: snippet.place,
     };
     push_top_row(page, &frame, &heading)?;
-    push_lines(drawing, &body, highlighter, page, sweep)?;
-    push_bottom_row(page, &frame)?;
-    Ok(())
+    push_lines(page, drawing, &body, highlighter, sweep)?;
+    push_bottom_row(page, &frame)
 }
 
 /// The rows of a snippet: its frame, and its lines in the pieces of the highlighter, which is restarted. The sweep over
@@ -310,7 +309,7 @@ pub fn push_snippet<'a, H: Highlighter, O: Canvas>(
     };
     seek(drawing.settings.alloc, drawing.placed, start, passage)?;
     restart(highlighter, snippet.contents);
-    push_framed(drawing, highlighter, page, &mut passage.sweep, snippet)?;
+    push_framed(page, drawing, highlighter, &mut passage.sweep, snippet)?;
     passage.at = end;
     Ok(())
 }

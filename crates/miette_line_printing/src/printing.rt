@@ -54,6 +54,7 @@ fn push_text<O: Canvas>(
 {
     if pieces.is_empty() {
         if let Some(untabbed) = text_without_tabs(text.bytes) {
+            page.make_room(untabbed.len())?;
             page.begin(PLAIN)?;
             return page.push_str(untabbed);
         }

@@ -23,8 +23,7 @@ fn push_all(list: &mut Vec<Fix>, more: Vec<Fix>) -> Result<(), AllocError>
     ensures { OnOk result (list.new.items ≡ list.old.items ++ more.items) }
 {
     let mut more = more;
-    list.append(&mut more)?;
-    Ok(())
+    list.append(&mut more)
 }
 
 impl Gathered {

@@ -21,6 +21,12 @@ pub const PLAIN: Style = Style {
     underline: false,
 };
 
+// From how many bytes on a text is long.
+const LONG: usize = 4096;
+
+// The room for a few rows, in bytes.
+const FEW_ROWS: usize = 1024;
+
 /// Rows of runs, each run a style and a text, printed after what an output holds.
 ///
 /// A run is begun with its style and then gets its text; a row is ended after its last run. A run without a character
@@ -180,6 +186,17 @@ impl<O: Canvas> Page<O> {
     {
         self.start_text()?;
         self.out.push(character)
+    }
+
+    /// Takes room for a text of `len` bytes and a few rows, where it is long: so these rows don't copy it. What was
+    /// printed stays. `AllocError` where memory is refused.
+    pub fn make_room(&mut self, len: usize) -> Result<(), AllocError>
+        ensures { OnOk result (self.new ≡ self.old) }
+    {
+        if len < LONG {
+            return Ok(());
+        }
+        self.out.reserve(' ', len.saturating_add(FEW_ROWS))
     }
 
     /// Puts a text after the run's text. `AllocError` where memory is refused.

@@ -100,8 +100,7 @@ pub(crate) fn primary_or<'a>(primary: Option<Mark<'a>>, seen: Option<&Seen<'a>>)
 pub(crate) fn sort(labels: &mut Vec<&LabeledSpan>) -> Result<(), AllocError>
     ensures { OnOk result (labels_in labels.new.items ≡ in_order (labels_in labels.old.items)) }
 {
-    labels.sort_by_key(|label| label.offset())?;
-    Ok(())
+    labels.sort_by_key(|label| label.offset())
 }
 
 // Whether a mark tells anything.

@@ -108,10 +108,10 @@ pub(crate) fn push_doubled_message(out: &mut String, text: &str) -> Result<(), A
 
 // Appends the url, where it isn't that of the rule.
 fn push_see<'a>(
+    out: &mut String,
     alloc: Global,
     rules: &Rules<'a>,
     finding: &Finding<'a>,
-    out: &mut String,
 ) -> Result<(), AllocError>
     ensures { OnOk result (string_bytes out.new ≡ string_bytes out.old
         ++ see_row ((rules_view rules.now).uri (finding_of finding.now).code) (finding_of finding.now).url) }
@@ -127,10 +127,10 @@ fn push_see<'a>(
 
 // Appends the rows of a message: its text, causes, help, fixes that can't be applied, and the url that its rule hasn't.
 fn push_message<'a>(
+    out: &mut String,
     alloc: Global,
     rules: &Rules<'a>,
     finding: &Finding<'a>,
-    out: &mut String,
 ) -> Result<(), AllocError>
     ensures { OnOk result (string_bytes out.new ≡ string_bytes out.old
         ++ message_text (rules_view rules.now) (finding_of finding.now)) }
@@ -139,7 +139,7 @@ fn push_message<'a>(
     push_rows(out, "caused by: ", &finding.told.causes)?;
     push_maybe(out, "help: ", finding.told.help)?;
     push_rows(out, "fix: ", &finding.unapplied)?;
-    push_see(alloc, rules, finding, out)
+    push_see(out, alloc, rules, finding)
 }
 
 /// Appends the message of a result: `{"text": "oops"}`
@@ -153,6 +153,6 @@ pub(crate) fn push_told<'a>(
 {
     let alloc = *out.allocator();
     let mut text = String::new(alloc);
-    push_message(alloc, rules, finding, &mut text)?;
+    push_message(&mut text, alloc, rules, finding)?;
     push_plain_message(out, text.as_str())
 }

@@ -132,7 +132,7 @@ pub fn push_wrapped<S: Sink>(
         ++ spell (wrapped_tokens (runs_plan plan.entry) (tokens (chars text.now)))) }
 {
     if !plan.wraps {
-        return push_whole(alloc, out, plan.first.parts(), plan.further.parts(), text);
+        return push_whole(out, alloc, plan.first.parts(), plan.further.parts(), text);
     }
     if let Some(codes) = plain(text) {
         // the indents of most texts are less than a fourth of them

@@ -165,8 +165,7 @@ pub(crate) fn push_filled<S: Sink, W: Words, C: Lined>(
         let inside = push_rows::<S, W, C>(out, cuts, place, start, line)?;
         used += inside;
         if end == all {
-            push_tags(out, &text.tags[used..])?;
-            return Ok(());
+            return push_tags(out, &text.tags[used..]);
         }
         let behind = push_signs(out, end, &text.tags[used..])?;
         used += behind;

@@ -143,8 +143,8 @@ const LONG: usize = 256;
 
 // The same. Where the text is long the indent is printed once for all its lines.
 fn push_printed<S: Sink>(
-    alloc: Global,
     out: &mut S,
+    alloc: Global,
     indent: RunsSlice<'_>,
     text: &str,
 ) -> Result<(), AllocError>
@@ -167,8 +167,8 @@ fn push_printed<S: Sink>(
 /// The lines of a text, each whole under its indent. A white line has the indent without its last spaces, and nothing
 /// is before what stands after the last line feed where that has no character.
 pub(crate) fn push_whole<S: Sink>(
-    alloc: Global,
     out: &mut S,
+    alloc: Global,
     first: RunsSlice<'_>,
     further: RunsSlice<'_>,
     text: &str,
@@ -187,5 +187,5 @@ pub(crate) fn push_whole<S: Sink>(
     let (fed, behind) = cut_line(text, len);
     push_indent(out, first, None, line.is_white)?;
     out.push_str(fed)?;
-    push_printed(alloc, out, further, behind)
+    push_printed(out, alloc, further, behind)
 }

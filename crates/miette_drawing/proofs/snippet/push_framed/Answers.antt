@@ -1,5 +1,6 @@
 use Rattle.std.proofs.Common.{ℕ, ◌≡◌, ◌+◌, List, ap, sym, subst, ◌∙◌, length, map, refl}
 use Rattle.std.specs.Option.{option_map}
+use Rattle.std.proofs.lemmas.Result.{on_ok_weaker}
 use Rattle.miette_folds.specs.views.Spreads.{spread_of}
 use Rattle.miette_frames.specs.views.Places.{place_at}
 use Rattle.miette_folds.specs.views.Folding.{fold_in}
@@ -69,7 +70,8 @@ returns-clause-rows g c =
     let blank = leaves_plain g.H.Highlighter.is_blank c.args.highlighter.now in
     let had : List Call → Type 0 = follows g.H.Highlighter.may_follow c.args.highlighter.now in
     let now : List Call → Type 0 = follows g.H.Highlighter.may_follow c.push_lines.new.highlighter in
-    told_lent (settings_of drawing.settings) (map spread_of drawing.spreads.now) drawing.placed.now
+    on_ok_weaker c.push_bottom_row.result
+    (told_lent (settings_of drawing.settings) (map spread_of drawing.spreads.now) drawing.placed.now
     snippet.contents.now (option_map place_at snippet.place) blank (λ calls. Leads had calls now)
     c.in_ok-number_width.field-0 c.in_ok-gutter_width.field-0 c.in_ok-extent.extent.lines c.in_ok-extent.extent.most
     c.line-before.result c.offset-start.result
@@ -86,5 +88,5 @@ returns-clause-rows g c =
     (map drawn_of drawing.placed.now)
     (cells_in (settings_of drawing.settings) c.offset-start.result c.data-bytes.result.now))
     c.push_top_row.new.page c.push_lines.new.page refl c.around-spreads.ensures.around
-    c.in_ok-push_lines.ensures.rows)
-    c.in_ok-push_bottom_row.ensures
+    c.in_ok-push_lines.ensures.rows))
+    c.push_bottom_row.ensures

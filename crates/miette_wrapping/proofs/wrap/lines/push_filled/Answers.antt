@@ -1,6 +1,7 @@
 use Rattle.std.proofs.Common.{◌≡◌, ◌∙◌, ◌+◌, ◌<◌, ◌++◌, ℕ, List, ap, arith, drop, length, length-drop, sym}
 use Rattle.std.proofs.Common.{take}
 use Rattle.std.proofs.lemmas.List.{take_rest}
+use Rattle.std.proofs.lemmas.Result.{on_ok_weaker}
 use Rattle.miette_runs.specs.views.Interleaving.{interleaving, left_at}
 use Rattle.miette_wrapping.proofs.Filling.{codes_of_row, last-filled, line_rows, next-filled, tags_from}
 use Rattle.miette_wrapping.proofs.Joining.{text-printed}
@@ -59,12 +60,13 @@ returns-then-end-all g c =
     let rows = rows-here cuts indent c.rest.room under.further_room s n cs front (tags_from k all) o
     (g.S.Canvas.written c.push_rows.new.out) c.in_ok-inside.ensures.text c.front.ensures in
     let left = left-here s n m cs front (tags_from k all) c.in_ok-inside.ensures.left c.front.ensures in
-    last-filled cuts indent c.rest.room under.further_room s n k m cs all o (g.S.Canvas.written c.push_rows.new.out)
-    (g.S.Canvas.written c.push_tags.new.out) is (omega (arith, c.if-end-all.true, c.count-all.ensures)) rows left
-    c.in_ok-push_tags.ensures
+    on_ok_weaker c.push_tags.result (λ h. last-filled cuts indent c.rest.room under.further_room s n k m cs all o
+    (g.S.Canvas.written c.push_rows.new.out) (g.S.Canvas.written c.push_tags.new.out) is
+    (omega (arith, c.if-end-all.true, c.count-all.ensures)) rows left h
     ∙ c.rest.invariant.printed
     ∙ ap (λ us. g.S.Canvas.written c.args.out.now ++ us)
-    (sym (text-printed cuts under.room under.further_room indent (text_lines (interleaving 0 cs all))))
+    (sym (text-printed cuts under.room under.further_room indent (text_lines (interleaving 0 cs all)))))
+    c.push_tags.ensures
 
 pub rest-preserved : goal.rest-preserved
 rest-preserved g c =
