@@ -1,12 +1,15 @@
-//! A SARIF log that we wrote reads back as one report for each result: with its severity, its code, and the URL of that
-//! code's rule; with the rows of the result's message, without links and with single braces; with each label's place
-//! and text; with each fix. Each law is the contract of a function that does nothing; a caller cites it by calling it.
+//! A SARIF log that we wrote reads back as one report for each result, so for each report and, beside it, for each one
+//! that is related to it: with its severity, its code, and the URL of that code's rule; with the rows of the result's
+//! message, without links and with single braces; with each label's place and text; with each fix. Each law is the
+//! contract of a function that does nothing; a caller cites it by calling it.
 //!
-//! What is rounded: a place goes to whole characters, as the log has it. What is equal: places over the same bytes are
-//! one label, and of fixes that are written alike the first stays. What has no source: a text without a place, or over
-//! a label that was refused, is a cause text, with the name of its source, and so is one over a file that isn't found,
-//! with its line and column; fixes over such a file are help. A URL that isn't the rule's, causes, help and fixes that
-//! can't be applied are rows of the message. How sure a fix is isn't kept.
+//! What is rounded: a place goes to whole characters, as the log has it, and edits that meet are one. What is equal:
+//! places over the same bytes are one label, and of fixes that are written alike the first stays. What has no source: a
+//! text without a place, or over a label that was refused, is a cause text, with the name of its source; so is that
+//! name of a report without labels, and what is over a file that isn't found, with line and column. Fixes over such a
+//! file are help. A URL that isn't the rule's, causes, help and fixes that can't be applied are rows of the message;
+//! labels and fixes of causes are the report's. A fix without a message is named by what it writes, and how sure a fix
+//! is isn't kept. Which labels and fixes these become, the rules of all readers say (`settled`, `offers_of`).
 
 ghost use Rattle.std.specs.Prelude.{◌≡◌, ℕ, List, [], ◌∷◌, Option, Some, false, map, unwrap_or};
 ghost use Rattle.std.specs.List.{AllByRecursion};
