@@ -186,8 +186,7 @@ impl Variables {
         fill(lookup, "LC_CTYPE", &mut self.lc_ctype)?;
         fill(lookup, "LANG", &mut self.lang)?;
         fill(lookup, "COLUMNS", &mut self.columns)?;
-        fill(lookup, "NO_GRAPHICS", &mut self.no_graphics)?;
-        Ok(())
+        fill(lookup, "NO_GRAPHICS", &mut self.no_graphics)
     }
 
     /// What they say of the terminal that a text for this stream goes to. Takes no memory.

@@ -6,7 +6,7 @@ use miette_runs::runs::output::Output;
 use std::alloc::{AllocError, Global};
 
 // Appends a text, which takes the place of an empty one. An `Err` leaves the text before it as it was.
-fn append(text: String, out: &mut String) -> Result<(), AllocError>
+fn append(out: &mut String, text: String) -> Result<(), AllocError>
     ensures ok { OnOk result (string_bytes out.new ≡ string_bytes out.old ++ string_bytes text) }
     ensures err { OnErr result (string_bytes out.new ≡ string_bytes out.old) }
 {
@@ -23,5 +23,5 @@ pub fn append_printed(alloc: Global, printed: Output, out: &mut String) -> Resul
     ensures err { OnErr result (string_bytes out.new ≡ string_bytes out.old) }
 {
     let text = printed.into_text(alloc)?;
-    append(text, out)
+    append(out, text)
 }

@@ -140,8 +140,7 @@ fn push_all<T: Drop>(list: &mut Vec<T>, more: Vec<T>) -> Result<(), AllocError>
     ensures { OnOk result (list.new.items ≡ list.old.items ++ more.items) }
 {
     let mut more = more;
-    list.append(&mut more)?;
-    Ok(())
+    list.append(&mut more)
 }
 
 /// The reports of all parts, in their order; what is none is passed on.

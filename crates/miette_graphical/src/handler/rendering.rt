@@ -40,8 +40,8 @@ impl<H: Highlighter> GraphicalReportHandler<H> {
     // Appends the picture of a report, and tells the calls on the highlighter.
     fn draw<D: Diagnostic, S: SourceCode>(
         &mut self,
-        report: &Report<D, S>,
         out: &mut String,
+        report: &Report<D, S>,
     ) -> Result<(), RenderError>
         ensures keeps { Keeps H.is_blank self.old self.new }
         ensures calls { OnOk result (AppendsOne (IsAskedText whole_drawing self.old.settings
@@ -153,7 +153,7 @@ impl<H: Highlighter> GraphicalReportHandler<H> {
         fixes_law();
         erasing_law();
         holding_law();
-        self.draw(report, out)
+        self.draw(out, report)
     }
 }
 
@@ -172,6 +172,6 @@ impl<H: Highlighter> ReportHandler for GraphicalReportHandler<H> {
         report: &Report<D, S>,
         out: &mut String,
     ) -> Result<(), RenderError> {
-        self.draw::<D, S>(report, out)
+        self.draw::<D, S>(out, report)
     }
 }

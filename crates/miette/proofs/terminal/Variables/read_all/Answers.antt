@@ -1,7 +1,8 @@
+use Rattle.std.proofs.lemmas.Result.{on_ok_weaker}
 use Rattle.miette.proofs.terminal.Variables.read_all.Goals as goal
 
 pub returns-clause-variables : goal.returns-clause-variables
-returns-clause-variables g c = record {
+returns-clause-variables g c = on_ok_weaker c.fill-14.result (λ last. record {
   force_color = c.in_ok-fill.ensures;
   no_color = c.in_ok-fill-2.ensures;
   clicolor = c.in_ok-fill-3.ensures;
@@ -15,5 +16,5 @@ returns-clause-variables g c = record {
   lc_ctype = c.in_ok-fill-11.ensures;
   lang = c.in_ok-fill-12.ensures;
   columns = c.in_ok-fill-13.ensures;
-  no_graphics = c.in_ok-fill-14.ensures;
-}
+  no_graphics = last;
+}) c.fill-14.ensures
