@@ -7,19 +7,19 @@ use Rattle.serde_json.specs.Data.{no_members, put}
 
 abbrev mutual
   pub data_of : json.Json → Data
-  data_of (json.number n) = number (unsigned n)
-  data_of (json.string s) = string s
-  data_of (json.array js) = array (items_data js)
   data_of (json.object ms) = object (members_data ms no_members)
-
-  pub items_data : json.Items → Items
-  items_data json.no_items = no_items
-  items_data (json.item j js) = item (data_of j) (items_data js)
+  data_of (json.array js) = array (items_data js)
+  data_of (json.string s) = string s
+  data_of (json.number n) = number (unsigned n)
 
   -- after the members that were found before
   pub members_data : json.Members → Members → Members
   members_data json.no_members found = found
   members_data (json.member k j ms) found = members_data ms (put k (data_of j) found)
+
+  pub items_data : json.Items → Items
+  items_data json.no_items = no_items
+  items_data (json.item j js) = item (data_of j) (items_data js)
 
 -- each number fits 64 bits, as a larger one is read as a float
 abbrev mutual

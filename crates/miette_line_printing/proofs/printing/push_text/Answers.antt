@@ -13,8 +13,8 @@ returns-in-Some g c =
     untabbed_put c.args.text.now.tab c.args.text.now.start c.args.text.now.bytes.now c.in-Some.untabbed.now
     c.args.pieces.now c.args.page.now c.begin.new.self c.push_str.new.self
     (eqb-true _ _ (sym c.is_empty.ensures ∙ c.if-is_empty.true)) c.in-Some.ensures.same c.in-Some.ensures.utf8
-    c.in-Some.ensures.untabbed (c.in_ok-begin.ensures ∙ ap (λ page. page ⊕ begins PLAIN ∷ []) c.in_ok-make_room.ensures) h)
-    c.push_str.ensures
+    c.in-Some.ensures.untabbed
+    (c.in_ok-begin.ensures ∙ ap (λ page. page ⊕ begins PLAIN ∷ []) c.in_ok-make_room.ensures) h) c.push_str.ensures
 
 pub push_tabbed-requires : goal.push_tabbed-requires
 push_tabbed-requires g c = tabbed_ascii c.args.text.now.bytes.now (sym c.all_tabbed.ensures ∙ c.if-all_tabbed.true)
