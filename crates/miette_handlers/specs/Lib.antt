@@ -1,7 +1,7 @@
 pub use Rattle.miette_debug.specs.rules.DebugText
 pub use Rattle.miette_picture_rules.specs.views.Handling
 pub use Rattle.miette_picture_rules.specs.rules.Settings
-pub use Rattle.miette_picture_rules.specs.views.Settings
+pub use Rattle.miette_picture_rules.specs.views.Settings as HandlerSettings
 pub use Rattle.miette_picture_rules.specs.rules.Answers
 pub use Rattle.miette_picture_rules.specs.rules.Indents
 pub use Rattle.miette_picture_rules.specs.rules.DiagnosticText
