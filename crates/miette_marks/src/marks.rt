@@ -70,6 +70,7 @@ enum Rounding {
 }
 
 // Whether an offset's column is the first one of this cell, where it is that of no cell before it.
+#[inline(always)]
 fn stops_at(rounding: Rounding, cell: &Cell, offset: usize) -> bool
     ensures { result ≡ stops_at rounding cell.now offset }
 {
@@ -80,6 +81,7 @@ fn stops_at(rounding: Rounding, cell: &Cell, offset: usize) -> bool
 }
 
 // The column of an offset among these cells, where it is that of one of them.
+#[inline(always)]
 fn column_among(
     walk: Walk<'_>,
     rounding: Rounding,
@@ -190,6 +192,7 @@ impl<'a> Columns<'a> {
     }
 
     // The column of an offset that is rounded so. One past the largest `usize` is refused as want of memory.
+    #[inline(always)]
     fn column_of(&self, rounding: Rounding, offset: usize) -> Result<usize, AllocError>
         ensures { IfOk result (λ column. column
             ≡ column_in rounding self.now.cells self.now.text_end self.now.width offset) }

@@ -190,6 +190,7 @@ impl<O: Canvas> Page<O> {
 
     /// Takes room for a text of `len` bytes and a few rows, where it is long: so these rows don't copy it. What was
     /// printed stays. `AllocError` where memory is refused.
+    #[inline(always)]
     pub fn make_room(&mut self, len: usize) -> Result<(), AllocError>
         ensures { OnOk result (self.new ≡ self.old) }
     {
