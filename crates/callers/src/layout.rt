@@ -32,6 +32,6 @@ pub fn snippets_in(
     };
     let mut highlighter: Option<BlankHighlighter> = None;
     let page = Page::over(Output::for_text(alloc));
-    let page = snippets(&mut highlighter, &settings, &source, labels, page)?;
+    let page = snippets(page, &mut highlighter, &settings, &source, labels)?;
     Ok(page.into_output()?)
 }

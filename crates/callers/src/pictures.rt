@@ -102,9 +102,9 @@ pub fn draw_sum(alloc: Global, report: &Report) -> Result<String, RenderError>
 
 /// Appends that picture, and says whether it did; the highlighter is one of any kind.
 pub fn add_sum<H: Highlighter>(
+    out: &mut String,
     handler: &mut GraphicalReportHandler<H>,
     report: &Report,
-    out: &mut String,
 ) -> bool
     // where it isn't drawn, the text is as before: by `err`
     ensures none { result ≡ false → string_bytes out.new ≡ string_bytes out.old }

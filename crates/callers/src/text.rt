@@ -8,7 +8,7 @@ use miette_text::wrap::{WordSeparator, WordSplitter, WrapOptions, fill};
 use std::alloc::AllocError;
 
 /// Appends a hint in rows of a width, the first after `hint: `, the others below its text.
-pub fn push_hint(hint: &str, width: usize, out: &mut String) -> Result<(), AllocError>
+pub fn push_hint(out: &mut String, hint: &str, width: usize) -> Result<(), AllocError>
     ensures ok { OnOk result (string_bytes out.new ≡ string_bytes out.old
         ++ encode_utf8_all (wrapped_text (hint_plan width) (chars hint.now))) }
     ensures err { OnErr result (string_bytes out.new ≡ string_bytes out.old) }

@@ -84,7 +84,7 @@ fn appended(alloc: Global, call: Call, row: &mut Rows) -> Called {
 /// What the call answers.
 fn append(call: Call, text: &mut String) -> Result<(), RenderError> {
     match call {
-        Call::AppendWhole => append_whole("a text that is longer than what is there", text),
+        Call::AppendWhole => append_whole(text, "a text that is longer than what is there"),
         _ => Ok(fill(TEXT, &OPTIONS, text)?),
     }
 }
@@ -111,14 +111,14 @@ fn wrap_text(alloc: Global, output: &mut Output) -> Result<Result<(), AllocError
         first: &first,
         further: &further,
     };
-    Ok(wrap(alloc, plan, &text, output))
+    Ok(wrap(output, alloc, plan, &text))
 }
 
 fn fitted(alloc: Global, row: &mut Rows) -> Called {
     let first = read_text(alloc, "* ")?;
     let mut output = Output::for_runs(alloc);
     row.value(&output);
-    let answer = push_fitting(true, 13, &first, "word-and-\u{6f22}", &mut output);
+    let answer = push_fitting(&mut output, true, 13, &first, "word-and-\u{6f22}");
     row.after(answer, &output);
     Ok(())
 }

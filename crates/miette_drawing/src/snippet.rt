@@ -287,9 +287,9 @@ fn push_framed<'a, H: Highlighter, O: Canvas>(
 /// the labels comes to where the bytes of the contents end. `AllocError` where memory is refused, to the highlighter
 /// too, or an offset, a line's number or a column is past the largest `usize`.
 pub fn push_snippet<'a, H: Highlighter, O: Canvas>(
+    page: &mut Page<O>,
     drawing: &Drawing<'a>,
     highlighter: &mut Option<H>,
-    page: &mut Page<O>,
     passage: &mut Passage<'a>,
     snippet: &Snippet<'_>,
 ) -> Outcome

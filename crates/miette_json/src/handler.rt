@@ -40,7 +40,7 @@ impl JSONReportHandler {
         ensures memory { OnErr result (result ≡ Err RenderError.Memory) }
         ensures err { OnErr result (string_bytes out.new ≡ string_bytes out.old) }
     {
-        append_text(self, report, out)
+        append_text(out, self, report)
     }
 }
 

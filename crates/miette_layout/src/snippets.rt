@@ -59,11 +59,11 @@ struct LabelReads<'a, 'b, 'c> {
 
 // The snippets of labels that were read, or none where the read of a group or of some place failed.
 fn read_snippets<'a, 'b, S: SourceCode, H: Highlighter, O: Canvas + Drop>(
+    page: Page<O>,
     highlighter: &mut Option<H>,
     settings: &SnippetSettings<'b>,
     source: &'a S,
     given: &LabelReads<'a, 'b, '_>,
-    page: Page<O>,
 ) -> Result<Option<Page<O>>, AllocError>
     requires order { map (λ read. label_at given.now.labels.now read.index) given.now.reads.now
         ≡ in_order given.now.labels.now }
@@ -104,7 +104,7 @@ fn read_snippets<'a, 'b, S: SourceCode, H: Highlighter, O: Canvas + Drop>(
             contents: &group.contents,
             place: place.begins(),
         };
-        push_snippet(&drawing, highlighter, &mut page, &mut passage, &snippet)?;
+        push_snippet(&mut page, &drawing, highlighter, &mut passage, &snippet)?;
     }
     Ok(Some(page))
 }
@@ -112,11 +112,11 @@ fn read_snippets<'a, 'b, S: SourceCode, H: Highlighter, O: Canvas + Drop>(
 // All snippets with the lines of context of these settings, or the one row of a label that is refused; none where the
 // read of a group or of some place failed.
 fn snippets_around<'b, S: SourceCode, H: Highlighter, O: Canvas + Drop>(
+    page: Page<O>,
     highlighter: &mut Option<H>,
     settings: &SnippetSettings<'b>,
     source: &S,
     labels: &'b [LabeledSpan],
-    page: Page<O>,
 ) -> Result<Option<Page<O>>, AllocError>
     ensures gives { IfOk result (λ made. GivesAround
         (printing_of H.is_blank H.may_follow (settings_of settings.now) highlighter.old highlighter.new)
@@ -136,7 +136,7 @@ fn snippets_around<'b, S: SourceCode, H: Highlighter, O: Canvas + Drop>(
                 labels,
                 reads: &reads,
             };
-            read_snippets(highlighter, settings, source, &given, page)
+            read_snippets(page, highlighter, settings, source, &given)
         }
         ReadLabels::Refused(index, refusal) => {
             let frame = Frame {
@@ -170,11 +170,11 @@ fn end_lines<S: SourceCode>(layout: &LayoutOptions, source: &S, labels: &[Labele
 
 // All snippets with the lines of context that labels at the source's end ask for.
 fn all_snippets<'b, S: SourceCode, H: Highlighter, O: Canvas + Drop>(
+    page: Page<O>,
     highlighter: &mut Option<H>,
     settings: &SnippetSettings<'b>,
     source: &S,
     labels: &'b [LabeledSpan],
-    page: Page<O>,
 ) -> Result<Option<Page<O>>, AllocError>
     ensures gives { IfOk result (λ made. MayGive
         (printing_of H.is_blank H.may_follow (settings_of settings.now) highlighter.old highlighter.new)
@@ -190,7 +190,7 @@ fn all_snippets<'b, S: SourceCode, H: Highlighter, O: Canvas + Drop>(
         layout: &layout,
         ..*settings
     };
-    snippets_around(highlighter, &settings, source, labels, page)
+    snippets_around(page, highlighter, &settings, source, labels)
 }
 
 /// Prints the rows of a diagnostic's snippets, whose labels are given over its source, after what the page holds:
@@ -201,11 +201,11 @@ fn all_snippets<'b, S: SourceCode, H: Highlighter, O: Canvas + Drop>(
 /// group of labels with their own numbers of context lines or a label's place can't be read, which a source that always
 /// reads never does, and with `Memory` where memory is refused, to the highlighter too.
 pub fn snippets<'b, S: SourceCode, H: Highlighter, O: Canvas + Drop>(
+    page: Page<O>,
     highlighter: &mut Option<H>,
     settings: &SnippetSettings<'b>,
     source: &S,
     labels: &'b [LabeledSpan],
-    page: Page<O>,
 ) -> Result<Page<O>, RenderError>
     ensures gives { MatchResult result
         (λ made. MayGive
@@ -216,7 +216,7 @@ pub fn snippets<'b, S: SourceCode, H: Highlighter, O: Canvas + Drop>(
         (S.source source.now) labels.now page e) }
     ensures stays { leaves_plain H.is_blank highlighter.new ≡ leaves_plain H.is_blank highlighter.old }
 {
-    match all_snippets(highlighter, settings, source, labels, page) {
+    match all_snippets(page, highlighter, settings, source, labels) {
         Ok(Some(page)) => Ok(page),
         Ok(None) => Err(RenderError::Refused),
         Err(_) => Err(RenderError::Memory),

@@ -181,7 +181,7 @@ impl NarratableReportHandler {
             report_accepted (tree_of D.meaning S.source report.now) ≡ false }
         ensures err { OnErr result (string_bytes out.new ≡ string_bytes out.old) }
     {
-        append_text(self, report, out)
+        append_text(out, self, report)
     }
 }
 

@@ -78,7 +78,7 @@ fn push_wrapped(
     ensures { OnOk result (out.new ≡ out.old ++ (wrapped_text (printed_plan plan.entry) (spell text.now)
         ++ parts.line_feed)) }
 {
-    wrap(alloc, plan, text, out)?;
+    wrap(out, alloc, plan, text)?;
     out.push('\n')
 }
 
@@ -92,7 +92,7 @@ fn push_wrapped_text(
     ensures { OnOk result (out.new ≡ out.old ++ (wrapped_text (printed_plan plan.entry) (chars text.now)
         ++ parts.line_feed)) }
 {
-    wrap_text(alloc, plan, text, out)?;
+    wrap_text(out, alloc, plan, text)?;
     out.push('\n')
 }
 
@@ -106,7 +106,7 @@ fn push_row<H>(painter: &mut Painter<'_, H>, first: &Runs, text: &str) -> Result
 {
     let wraps = painter.settings.wrapping.wrap_lines;
     let width = painter.width.saturating_sub(2);
-    if !push_fitting(wraps, width, first, text, &mut painter.out)? {
+    if !push_fitting(&mut painter.out, wraps, width, first, text)? {
         return Ok(false);
     }
     painter.out.push('\n')?;

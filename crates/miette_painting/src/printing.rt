@@ -18,7 +18,7 @@ fn append(out: &mut String, text: String) -> Result<(), AllocError>
 }
 
 /// Appends what was printed. An `Err` leaves the text as it was.
-pub fn append_printed(alloc: Global, printed: Output, out: &mut String) -> Result<(), AllocError>
+pub fn append_printed(out: &mut String, alloc: Global, printed: Output) -> Result<(), AllocError>
     ensures ok { OnOk result (string_bytes out.new ≡ string_bytes out.old ++ encode_utf8_all printed) }
     ensures err { OnErr result (string_bytes out.new ≡ string_bytes out.old) }
 {

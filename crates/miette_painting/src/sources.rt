@@ -108,7 +108,7 @@ fn push_drawn<S: SourceCode, H: Highlighter>(
         layout: look.layout,
     };
     let page = Page::over(mem::replace(&mut painter.out, Output::for_text(painter.alloc)));
-    let page = snippets(&mut painter.highlighter, &drawn_with, &source, labels, page)?;
+    let page = snippets(page, &mut painter.highlighter, &drawn_with, &source, labels)?;
     painter.out = page.into_output()?;
     Ok(())
 }

@@ -86,8 +86,8 @@ impl<H: Highlighter> JobHandler<H> {
     {
         let mut text = String::new(alloc);
         let rendered = match self {
-            JobHandler::Json => append_text(&JSONReportHandler::new(), report, &mut text),
-            JobHandler::Debug => append_text(&DebugReportHandler::new(), report, &mut text),
+            JobHandler::Json => append_text(&mut text, &JSONReportHandler::new(), report),
+            JobHandler::Debug => append_text(&mut text, &DebugReportHandler::new(), report),
             JobHandler::Built(MietteHandler::Graphical(handler)) => {
                 handler.debug(report, &mut text)
             }

@@ -32,7 +32,7 @@ fn wrapped_text(alloc: Global, options: &WrapOptions<'_>, text: &str) -> Result<
         further: &further,
     };
     let mut out = String::with_capacity(alloc, text.len())?;
-    push_wrapped(alloc, &mut out, plan, text)?;
+    push_wrapped(&mut out, alloc, plan, text)?;
     Ok(out)
 }
 

@@ -74,7 +74,7 @@ fn push_displayed<D: Diagnostic, S: SourceCode>(
     ensures err { OnErr result (string_bytes out.new ≡ string_bytes out.old) }
 {
     match displayed_text(*out.allocator(), report, alternate) {
-        Ok(text) => append_whole(text.as_str(), out),
+        Ok(text) => append_whole(out, text.as_str()),
         Err(AllocError) => Err(RenderError::Memory),
     }
 }
@@ -95,7 +95,7 @@ fn displayed_text<D: Diagnostic, S: SourceCode>(
 }
 
 /// Appends a whole text; after an error, which is `Memory`, `out` is as before.
-pub fn append_whole(text: &str, out: &mut String) -> Result<(), RenderError>
+pub fn append_whole(out: &mut String, text: &str) -> Result<(), RenderError>
     ensures ok { OnOk result (string_bytes out.new ≡ string_bytes out.old ++ text.now) }
     ensures memory { OnErr result (result ≡ Err RenderError.Memory) }
     ensures err { OnErr result (string_bytes out.new ≡ string_bytes out.old) }

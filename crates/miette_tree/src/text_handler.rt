@@ -45,7 +45,7 @@ impl<H: TextHandler> ReportHandler for H {
         report: &Report<D, S>,
         out: &mut String,
     ) -> Result<(), RenderError> {
-        append_text(self, report, out)
+        append_text(out, self, report)
     }
 }
 
@@ -54,9 +54,9 @@ impl<H: TextHandler> ReportHandler for H {
 /// # Errors
 /// Those of `text_of`, and `Memory` where memory is refused for the text. `out` is then as before.
 pub fn append_text<H: TextHandler, D: Diagnostic, S: SourceCode>(
+    out: &mut String,
     handler: &H,
     report: &Report<D, S>,
-    out: &mut String,
 ) -> Result<(), RenderError>
     ensures text { OnOk result (AppendsOne (H.texts handler.now (tree_of D.meaning S.source report.now))
         (string_bytes out.old) (string_bytes out.new)) }
@@ -69,5 +69,5 @@ pub fn append_text<H: TextHandler, D: Diagnostic, S: SourceCode>(
         *out = text;
         return Ok(());
     }
-    append_whole(text.as_str(), out)
+    append_whole(out, text.as_str())
 }

@@ -123,8 +123,8 @@ fn plain(text: &str) -> Option<Ascii<'_>>
 /// `AllocError` where memory is refused, or a row has more columns than a `usize` counts. What `out` holds is then
 /// open.
 pub fn push_wrapped<S: Sink>(
-    alloc: Global,
     out: &mut S,
+    alloc: Global,
     plan: Plan<'_>,
     text: &str,
 ) -> Result<(), AllocError>
@@ -157,15 +157,15 @@ fn are_settled(plan: Plan<'_>) -> bool
 /// `AllocError` where memory is refused, or a row has more columns than a `usize` counts. What `out` holds is then
 /// open.
 pub fn wrap_text(
+    out: &mut Output,
     alloc: Global,
     plan: Plan<'_>,
     text: &str,
-    out: &mut Output,
 ) -> Result<(), AllocError>
     ensures { OnOk result (out.new ≡ out.old ++ wrapped_text (printed_plan plan.entry) (chars text.now)) }
 {
     if are_settled(plan) {
-        return push_wrapped(alloc, out, plan, text);
+        return push_wrapped(out, alloc, plan, text);
     }
     let first = reread(alloc, plan.first)?;
     let further = reread(alloc, plan.further)?;
@@ -174,7 +174,7 @@ pub fn wrap_text(
         further: &further,
         ..plan
     };
-    push_wrapped(alloc, out, read, text)
+    push_wrapped(out, alloc, read, text)
 }
 
 /// Appends the runs, wrapped, as the text that they print is.
@@ -182,12 +182,12 @@ pub fn wrap_text(
 /// # Errors
 /// `AllocError` where memory is refused, or a row has more columns than a `usize` counts. What `out` holds is then
 /// open.
-pub fn wrap(alloc: Global, plan: Plan<'_>, text: &Runs, out: &mut Output) -> Result<(), AllocError>
+pub fn wrap(out: &mut Output, alloc: Global, plan: Plan<'_>, text: &Runs) -> Result<(), AllocError>
     ensures { OnOk result (out.new ≡ out.old ++ wrapped_text (printed_plan plan.entry) (spell text.now)) }
 {
     if plan.wraps && are_settled(plan) && is_settled(text.parts()) {
         return push_filled_runs(out, plan, text);
     }
     let text = print(alloc, text)?;
-    wrap_text(alloc, plan, text.as_str(), out)
+    wrap_text(out, alloc, plan, text.as_str())
 }

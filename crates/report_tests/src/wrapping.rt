@@ -166,7 +166,7 @@ static TABLES: [(WrapOptions<'static>, &[Row<'static>]); 9] = [
 /// Whether the text fits after a red indent of two columns.
 fn fits(alloc: Global, wraps: bool, width: usize, text: &str) -> Result<bool, AllocError> {
     let first = read_text(alloc, "\u{1B}[31m>\u{1B}[0m ")?;
-    push_fitting(wraps, width, &first, text, &mut Output::for_text(alloc))
+    push_fitting(&mut Output::for_text(alloc), wraps, width, &first, text)
 }
 
 /// A text, its columns with the indent's, and whether it fits these.

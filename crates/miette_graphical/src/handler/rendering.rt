@@ -55,7 +55,7 @@ impl<H: Highlighter> GraphicalReportHandler<H> {
         let mut highlighter = self.highlighter.take();
         let printed = report_output(alloc, &self.settings, &mut highlighter, report);
         self.highlighter = highlighter;
-        append_printed(alloc, printed?, out)?;
+        append_printed(out, alloc, printed?)?;
         Ok(())
     }
 

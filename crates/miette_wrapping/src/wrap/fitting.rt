@@ -122,11 +122,11 @@ fn fits(wraps: bool, width: usize, first: &Runs, text: &str) -> Result<bool, All
 /// `AllocError` where memory is refused, or the indent has more columns than a `usize` counts. What `out` holds is then
 /// open.
 pub fn push_fitting(
+    out: &mut Output,
     wraps: bool,
     width: usize,
     first: &Runs,
     text: &str,
-    out: &mut Output,
 ) -> Result<bool, AllocError>
     ensures when { IfOk result (λ found. found ≡ fits wraps width first.now (chars text.now)) }
     ensures fits { IfOk result (λ found. found ≡ true → (p : Plan (List ℕ)) →
