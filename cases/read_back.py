@@ -13,7 +13,7 @@ them:
   name), is a cause text, of its place and text; so are the text of a label without a source, and the name of the source
   of a report without labels
 - of equal fixes the first one stays; over a source in no file a fix is help; over another source than that of the first
-  label it is a fix of a related report
+  label, or where there is no label, it is a fix of a related report
 - causes, help, fixes that can't be applied, and URLs that aren't the rule's are rows of the message; labels of causes
   are the report's
 

@@ -1,15 +1,21 @@
 //! A SARIF log that we wrote reads back as one report for each result, so for each report and, beside it, for each one
 //! that is related to it: with its severity, its code, and the URL of that code's rule; with the rows of the result's
-//! message, without links and with single braces; with each label's place and text; with each fix. Each law is the
-//! contract of a function that does nothing; a caller cites it by calling it.
+//! message; with the places and texts of its labels; with its fixes. The texts of messages, labels and fixes are
+//! without links, and with single braces. Each law is the contract of a function that does nothing; a caller cites it
+//! by calling it.
 //!
-//! What is rounded: a place goes to whole characters, as the log has it, and edits that meet are one. What is equal:
-//! places over the same bytes are one label, and of fixes that are written alike the first stays. What has no source: a
-//! text without a place, or over a label that was refused, is a cause text, with the name of its source; so is that
-//! name of a report without labels, and what is over a file that isn't found, with line and column. Fixes over such a
-//! file are help. A URL that isn't the rule's, causes, help and fixes that can't be applied are rows of the message;
-//! labels and fixes of causes are the report's. A fix without a message is named by what it writes, and how sure a fix
-//! is isn't kept. Which labels and fixes these become, the rules of all readers say (`settled`, `offers_of`).
+//! What is rounded: a place goes to whole characters and line ends, as the log has it, and edits that then overlap, or
+//! begin at one place, are one. What is equal: places over the same bytes are one label, equal cause texts one, and of
+//! fixes that are written alike the first stays. A label without a text, within one that was told before, is left out;
+//! the first label of each list is primary, and no other. What has no place: a text without a source is a cause text;
+//! so is, with the name of its source, the text of a label that was refused, and that name where a report has no label;
+//! so is, with line and column too, what is over a file that isn't found. Fixes over such a file are help, without
+//! their edits. Fixes over another file than the first label's, or of a report without one, are of advice that is
+//! related to the report. A URL that isn't the rule's, causes, help and fixes that can't be applied are rows of the
+//! message; labels and fixes of causes are told with the report's. A fix without a message has words of its edits, and
+//! how sure a fix is isn't kept. What a log doesn't have isn't read: code, severity, help and URL of causes, reports
+//! related to them, context lines of labels, languages. Labels and fixes are by the rules of all readers (`settled`,
+//! `offers_of`).
 
 ghost use Rattle.std.specs.Prelude.{◌≡◌, ℕ, List, [], ◌∷◌, Option, Some, false, map, unwrap_or};
 ghost use Rattle.std.specs.List.{AllByRecursion};
@@ -43,7 +49,7 @@ ghost use Rattle.miette_log_reading_laws.specs.laws.RegionsBack.{lines_back, off
 ghost use Rattle.miette_log_reading_laws.specs.laws.Sources.{AreFilesOf};
 ghost use Rattle.miette_log_reading_laws.specs.laws.Worked.{found, given, kept};
 
-/// What each result says is read as it was found: message, severity, code and URL (`said_kept`).
+/// What each result says is read by its rule: message without links, severity, code and the rule's URL (`said_kept`).
 pub fn what_is_said_reads_back()
     ensures { (files : List ℕ → Option Source) (tool : ToolName) (fs : List Finding) → AllByRecursion (λ f.
         (help : Option (List ℕ)) → said_of (result_ground files tool fs f) help (result_data fs f)
@@ -72,14 +78,14 @@ pub fn logs_read_back()
 {}
 
 /// The text of a log, parsed and read over files that have the texts of the reports' sources, is one report for each
-/// finding of the reports, in their order. Its numbers are to fit 64 bits, as those of all sources in memory do.
+/// finding of the reports, in their order. Its numbers are to fit 64 bits, which no contract promises.
 pub fn texts_of_logs_read_back()
     ensures { (files : List ℕ → Option Source) (tool : ToolName) (reports : Trees) (text : List ℕ) (value : Json)
         → IsLogOf tool reports text → Denotes text value → NumbersFit value → AreFilesOf files reports
         → ReadsBack files reports text }
 {}
 
-/// A text in which no `]` stands before a `(` has no link, and is shown as it is.
+/// A text in which no `]` stands right before a `(` has no link, and is shown as it is.
 pub fn texts_without_links_read_back()
     ensures { (text : List ℕ) → has_link_end text ≡ false → without_links text ≡ text }
 {}

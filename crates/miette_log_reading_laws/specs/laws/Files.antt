@@ -1,4 +1,4 @@
--- The files over which a log is read are those that its findings were made over.
+-- The files over which a log is read have the places of its findings.
 use Rattle.std.specs.Prelude.{List, ℕ, Option, IfSome}
 use Rattle.std.specs.List.{AllByRecursion}
 use Rattle.miette_positions.specs.declared.place.Stretch.{Stretch}
