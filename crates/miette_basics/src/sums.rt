@@ -8,6 +8,7 @@ use std::alloc::AllocError;
 ///
 /// # Errors
 /// `AllocError` where the sum is past the largest number.
+#[inline(always)]
 pub fn sum(a: usize, b: usize) -> Result<usize, AllocError>
     ensures { IfOk result (λ n. n ≡ a + b) }
 {

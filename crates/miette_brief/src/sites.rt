@@ -103,8 +103,7 @@ fn whole_site<'a, S: SourceCode>(
     ensures refused { (result ≡ Err RenderError.Refused) → IsSpotUnread (spot_of_mark (mark_of S.source mark.now)) }
 {
     let span = *mark.label.inner();
-    let site = site_over(whole, span)?;
-    Ok(site)
+    site_over(whole, span)
 }
 
 /// Where a label lies: over a source that was read as a whole, or over another one; `Refused` where its source can't

@@ -173,8 +173,7 @@ fn read_over<'a, S: SourceCode>(
     let Some(span) = span else {
         return Ok(Found::Nothing);
     };
-    let found = read_spot(source, &span)?;
-    Ok(found)
+    read_spot(source, &span)
 }
 
 /// Of labels in this order the span of the one that is chosen.
@@ -234,8 +233,7 @@ fn chosen_found<'a, S: SourceCode>(
     if found.is_label() {
         return Ok(found);
     }
-    let behind = chosen_further(alloc, choice, further)?;
-    Ok(behind)
+    chosen_further(alloc, choice, further)
 }
 
 /// What the read of the primary label gives, of labels in this order over a first source and of those over further
@@ -257,8 +255,7 @@ pub(crate) fn primary_found<'a, S: SourceCode>(
         return Ok(marked);
     }
     let first_own = first_span(labels, order);
-    let first = chosen_found(alloc, Choice::First, source, first_own, further)?;
-    Ok(first)
+    chosen_found(alloc, Choice::First, source, first_own, further)
 }
 
 /// That of labels in any order.
@@ -272,6 +269,5 @@ pub(crate) fn primary_label<'a, S: SourceCode>(
         (in_order labels.now) (map (section_of S.source) further.now)) found) }
 {
     let order = by_offset(alloc, labels)?;
-    let found = primary_found(alloc, source, labels, &order, further)?;
-    Ok(found)
+    primary_found(alloc, source, labels, &order, further)
 }

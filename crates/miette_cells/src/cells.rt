@@ -9,6 +9,7 @@ ghost use Rattle.miette_cells.specs.rules.Cells.{width_at};
 ghost use Rattle.miette_cells.specs.rules.Cells.{Cell as TextCell, cells_from, characters, is_hidden, hides_next};
 
 use crate::plain::plain_len;
+use miette_basics::sums::sum;
 use std::alloc::AllocError;
 use std::marker::Model;
 use unicode_width::UnicodeWidthChar;
@@ -189,9 +190,7 @@ impl<'a> Walk<'a> {
         }
         let (code, size, columns) = measured(self.rest);
         let width = width_there(self.tab, self.hidden, self.column, code, columns);
-        let Some(until) = self.column.checked_add(width) else {
-            return Err(AllocError);
-        };
+        let until = sum(self.column, width)?;
         let cell = Cell {
             code,
             start: self.offset,
@@ -222,12 +221,10 @@ impl<'a> Walk<'a> {
             });
         }
         let many = plain_len(&self.rest[..self.rest.len().min(most)]);
-        let Some(behind) = from.checked_add(many) else {
-            return Err(AllocError);
-        };
+        let after = sum(from, many)?;
         self.rest = &self.rest[many..];
         self.offset += many;
-        self.column = behind;
+        self.column = after;
         Ok(PlainCells { start, from, many })
     }
 }

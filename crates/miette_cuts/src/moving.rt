@@ -58,16 +58,14 @@ fn row_column_of(
         let columns = stretch.columns;
         let left = column - place.before;
         if left < columns {
-            let inside = sum(place.row, column_within(stretch, left))?;
-            return Ok(inside);
+            return sum(place.row, column_within(stretch, left));
         }
         let row = sum(place.row, shown_columns(stretch, dots))?;
         place.row = row;
         place.before += columns;
         place.passed += 1;
     }
-    let behind = sum(place.row, column - place.before)?;
-    Ok(behind)
+    sum(place.row, column - place.before)
 }
 
 // A mark in the row of a line's stretches.

@@ -113,8 +113,7 @@ fn digits(number: usize) -> usize
 fn number_of(before: usize, place: usize) -> Result<usize, AllocError>
     ensures { IfOk result (λ number. number ≡ before + place + 1) }
 {
-    let number = sum(sum(before, place)?, 1)?;
-    Ok(number)
+    sum(sum(before, place)?, 1)
 }
 
 // The digits of the number of the last of `lines` lines, where `before` stand before the first; 1 where there is none.
@@ -124,10 +123,7 @@ fn number_width(before: usize, lines: usize) -> Result<usize, AllocError>
     if lines == 0 {
         return Ok(1);
     }
-    match before.checked_add(lines) {
-        Some(last) => Ok(digits(last)),
-        None => Err(AllocError),
-    }
+    Ok(digits(sum(before, lines)?))
 }
 
 // The columns of a gutter with room for `most` labels.
@@ -137,10 +133,7 @@ fn gutter_width(most: usize) -> Result<usize, AllocError>
     if most == 0 {
         return Ok(0);
     }
-    match most.checked_add(3) {
-        Some(columns) => Ok(columns),
-        None => Err(AllocError),
-    }
+    sum(most, 3)
 }
 
 // Brings a sweep to an offset.
@@ -304,9 +297,7 @@ pub fn push_snippet<'a, H: Highlighter, O: Canvas>(
         passage.new.sweep.running.items) }
 {
     let start = snippet.contents.span().offset();
-    let Some(end) = start.checked_add(snippet.contents.data().len()) else {
-        return Err(AllocError);
-    };
+    let end = sum(start, snippet.contents.data().len())?;
     seek(drawing.settings.alloc, drawing.placed, start, passage)?;
     restart(highlighter, snippet.contents);
     push_framed(page, drawing, highlighter, &mut passage.sweep, snippet)?;

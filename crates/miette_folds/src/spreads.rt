@@ -15,6 +15,7 @@ ghost use Rattle.miette_folds.specs.steps.LineNumbers.{IsLineIn};
 
 use crate::folds::Spread;
 use crate::windows::Spreads;
+use miette_basics::sums::sum;
 use miette_labels::grouping::end_of;
 use miette_labels::reading::{ReadLabel, lines_around, some_own, usual_lines};
 use miette_protocol::protocol::{LabeledSpan, SourceSpan};
@@ -49,10 +50,7 @@ fn last_byte(read: &ReadLabel<'_>) -> Result<usize, AllocError>
 fn behind(span: &SourceSpan) -> Result<usize, AllocError>
     ensures { IfOk result (λ end. end ≡ max (end_of_span span.now) (span.now.offset + 1)) }
 {
-    let Some(next) = span.offset().checked_add(1) else {
-        return Err(AllocError);
-    };
-    Ok(end_of(span)?.max(next))
+    Ok(end_of(span)?.max(sum(span.offset(), 1)?))
 }
 
 // The number of the line of an offset of some bytes, counted from 0; the bytes after it aren't looked at.
@@ -76,10 +74,7 @@ fn bytes_before(lent: &MietteSpanContents<'_>, offset: usize) -> usize
 fn line_behind(lent: &MietteSpanContents<'_>, lines: usize) -> Result<usize, AllocError>
     ensures { IfOk result (λ line. line ≡ lent.now.line + lines) }
 {
-    match lent.line().checked_add(lines) {
-        Some(line) => Ok(line),
-        None => Err(AllocError),
-    }
+    sum(lent.line(), lines)
 }
 
 // The number of the line of an offset that a read reaches, by the lines of its contents before the offset.
@@ -178,6 +173,5 @@ pub fn spreads(
         All (HasLines source.bytes) spreads) }
 {
     let all = spread_list(settings, labels, reads)?;
-    let spreads = Spreads::new(settings.alloc, all)?;
-    Ok(spreads)
+    Spreads::new(settings.alloc, all)
 }

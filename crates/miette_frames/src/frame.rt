@@ -77,10 +77,7 @@ fn push_corner<O: Canvas>(page: &mut Page<O>, frame: &Frame, corner: char, many:
         ⊕ row_tokens (corner_row (settings_of frame.now.settings) frame.now.number_width corner
         many)) }
 {
-    let Some(columns) = frame.number_width.checked_add(2) else {
-        return Err(AllocError);
-    };
-    page.push_blank(columns)?;
+    page.push_blank(sum(frame.number_width, 2)?)?;
     page.push_line(PLAIN, corner, frame.settings.theme.characters.hbar, many)
 }
 

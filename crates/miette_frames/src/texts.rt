@@ -16,6 +16,7 @@ use crate::frame::Outcome;
 use crate::gutters::{GutterEnd, push_gutter};
 use crate::label_text::first_part;
 use crate::line_context::LineContext;
+use miette_basics::sums::sum;
 use miette_page::canvas::Canvas;
 use miette_page::page::{PLAIN, Page};
 use miette_snippet_rules::marks::Mark;
@@ -27,10 +28,7 @@ pub(crate) fn push_other_start<O: Canvas>(page: &mut Page<O>, context: &LineCont
     ensures { OnOk result (page.new ≡ page.old
         ⊕ row_tokens (other_start (settings context.now) context.now.frame.number_width)) }
 {
-    let Some(columns) = context.frame.number_width.checked_add(2) else {
-        return Err(AllocError);
-    };
-    page.push_blank(columns)?;
+    page.push_blank(sum(context.frame.number_width, 2)?)?;
     page.push_line(
         PLAIN,
         context.frame.settings.theme.characters.vbar_break,

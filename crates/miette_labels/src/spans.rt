@@ -4,6 +4,7 @@ ghost use Rattle.std.specs.Prelude.{◌≡◌, IfOk};
 ghost use Rattle.miette_label_rules.specs.rules.Contexts.{end_of_span};
 ghost use Rattle.miette_label_rules.specs.rules.Groups.{joined_span};
 
+use miette_basics::sums::sum;
 use miette_protocol::protocol::{SourceOffset, SourceSpan};
 use std::alloc::AllocError;
 
@@ -11,10 +12,7 @@ use std::alloc::AllocError;
 pub fn end_of(span: &SourceSpan) -> Result<usize, AllocError>
     ensures { IfOk result (λ end. end ≡ end_of_span span.now) }
 {
-    match span.offset().checked_add(span.len()) {
-        Some(end) => Ok(end),
-        None => Err(AllocError),
-    }
+    sum(span.offset(), span.len())
 }
 
 /// The span from the first one's offset to the greater end; an error where an end is past the largest `usize`.

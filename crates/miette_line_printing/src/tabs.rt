@@ -8,6 +8,7 @@ ghost use Rattle.miette_page.specs.views.Tokens.{text_tokens};
 ghost use Rattle.miette_line_printing.specs.steps.Tabs.{is_untabbed, is_tabbed, tabbed_codes};
 
 use memchr::memchr;
+use miette_basics::sums::sum;
 use miette_page::canvas::Canvas;
 use miette_page::page::Page;
 use std::alloc::AllocError;
@@ -73,15 +74,10 @@ pub(crate) fn push_tabbed<O: Canvas>(
     let mut column: usize = 0;
     while let Some(size) = memchr(b'\t', rest) {
         push_ascii(page, &rest[..size])?;
-        let Some(until) = column.checked_add(size) else {
-            return Err(AllocError);
-        };
+        let until = sum(column, size)?;
         let spaces = tab_columns(tab, until);
         page.push_copies(' ', spaces)?;
-        let Some(next) = until.checked_add(spaces) else {
-            return Err(AllocError);
-        };
-        column = next;
+        column = sum(until, spaces)?;
         rest = &rest[size + 1..];
     }
     push_ascii(page, rest)

@@ -70,10 +70,7 @@ fn push_snippet(
     ensures order { walk.new.order ≡ walk.old.order }
     ensures at { OnOk result (IsUnderWay walk.new) }
 {
-    let end = lent.span().offset().checked_add(lent.data().len());
-    if end.is_none() {
-        return Err(AllocError);
-    }
+    sum(lent.span().offset(), lent.data().len())?;
     push_begin(out, lent)?;
     push_lines(out, lent, walk)
 }
