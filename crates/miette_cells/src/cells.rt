@@ -179,7 +179,7 @@ impl<'a> Walk<'a> {
         }
     }
 
-    /// The next cell, if there is one. Columns past the largest `usize` are refused as want of memory.
+    /// The next cell, if there is one; `AllocError` where its columns are past the largest `usize`.
     #[inline(always)]
     pub fn next(&mut self) -> Result<Option<Cell>, AllocError>
         ensures { IfOk result (λ next. MatchOption next ((self.old ≡ []) × (self.new ≡ []))
@@ -205,8 +205,8 @@ impl<'a> Walk<'a> {
         Ok(Some(cell))
     }
 
-    /// Goes past the cells of printable ASCII that come next, at most `most`. Columns past the largest `usize` are
-    /// refused as want of memory.
+    /// Goes past the cells of printable ASCII that come next, at most `most`; `AllocError` where their columns are past
+    /// the largest `usize`.
     pub fn pass_plain(&mut self, most: usize) -> Result<PlainCells, AllocError>
         ensures few { IfOk result (λ passed. passed.many ≤ most) }
         ensures passed { IfOk result (λ passed. ComeFirst passed self.old self.new) }

@@ -68,8 +68,8 @@ pub(crate) fn overlap_text(alloc: Global, first: Overlap) -> Result<String, Allo
     Ok(text)
 }
 
-/// The column after a place's own and a text's, which begins with what the place holds; past the largest `usize` it is
-/// refused as want of memory.
+/// The column after a place's own and a text's, which begins with what the place holds; `AllocError` where it is past
+/// the largest `usize`.
 pub(crate) fn column_after(from: PartingPlace, text: &str) -> Result<usize, AllocError>
     ensures { IfOk result (λ column. column ≡ (from.column + str_width false (chars text.now)) - from.twice) }
 {

@@ -77,7 +77,8 @@ fn push_corner<O: Canvas>(page: &mut Page<O>, frame: &Frame, corner: char, many:
         ⊕ row_tokens (corner_row (settings_of frame.now.settings) frame.now.number_width corner
         many)) }
 {
-    page.push_blank(sum(frame.number_width, 2)?)?;
+    let columns = sum(frame.number_width, 2)?;
+    page.push_blank(columns)?;
     page.push_line(PLAIN, corner, frame.settings.theme.characters.hbar, many)
 }
 

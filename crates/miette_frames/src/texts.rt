@@ -28,7 +28,8 @@ pub(crate) fn push_other_start<O: Canvas>(page: &mut Page<O>, context: &LineCont
     ensures { OnOk result (page.new ≡ page.old
         ⊕ row_tokens (other_start (settings context.now) context.now.frame.number_width)) }
 {
-    page.push_blank(sum(context.frame.number_width, 2)?)?;
+    let columns = sum(context.frame.number_width, 2)?;
+    page.push_blank(columns)?;
     page.push_line(
         PLAIN,
         context.frame.settings.theme.characters.vbar_break,

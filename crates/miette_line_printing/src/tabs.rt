@@ -77,7 +77,8 @@ pub(crate) fn push_tabbed<O: Canvas>(
         let until = sum(column, size)?;
         let spaces = tab_columns(tab, until);
         page.push_copies(' ', spaces)?;
-        column = sum(until, spaces)?;
+        let next = sum(until, spaces)?;
+        column = next;
         rest = &rest[size + 1..];
     }
     push_ascii(page, rest)

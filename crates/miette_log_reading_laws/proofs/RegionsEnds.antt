@@ -78,7 +78,7 @@ text_first b bs size h =
 abbrev pub stop_on : ℕ → ℕ → ℕ → Stop
 stop_on offset line column = record { offset = offset; position = record { line = line; column = column } }
 
--- so many bytes end a line: the stop after them is the next line's first
+-- `size` bytes end a line: the stop after them is the next line's first
 pub record Ends (bytes : List ℕ) (size : ℕ) : Type 0 where
   pub some : 0 < size
   pub within : size ≤ length bytes

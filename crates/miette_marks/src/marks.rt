@@ -191,7 +191,7 @@ impl<'a> Columns<'a> {
         sum(self.width, 1)
     }
 
-    // The column of an offset that is rounded so. One past the largest `usize` is refused as want of memory.
+    // The column of an offset that is rounded so; `AllocError` where it is past the largest `usize`.
     #[inline(always)]
     fn column_of(&self, rounding: Rounding, offset: usize) -> Result<usize, AllocError>
         ensures { IfOk result (λ column. column
@@ -212,8 +212,7 @@ impl<'a> Columns<'a> {
         }
     }
 
-    /// The column of an offset, rounded down to a character's start. A column past the largest `usize` is refused as
-    /// want of memory.
+    /// The column of an offset, rounded down to a character's start; `AllocError` where it is past the largest `usize`.
     pub fn first_column(&self, offset: usize) -> Result<usize, AllocError>
         ensures { IfOk result (λ column. column
             ≡ first_of_cells self.now.cells self.now.text_end self.now.width offset) }

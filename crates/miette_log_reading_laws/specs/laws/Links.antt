@@ -9,7 +9,7 @@ link_piece in_link b text =
     else if b == 91 then opening_piece in_link text
     else if b == 93 then closing_piece in_link text else plain in_link b
 
--- what is shown of a text, but for so many bytes at its beginning
+-- what is shown of a text, but for `n` bytes at its beginning
 abbrev pub unlinked_behind : Bool → ℕ → List ℕ → List ℕ
 unlinked_behind in_link n [] = []
 unlinked_behind in_link zero (b ∷ bs) =

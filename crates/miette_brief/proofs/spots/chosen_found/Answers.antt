@@ -1,5 +1,6 @@
 use Rattle.std.proofs.Common.{map, sym, ◌∙◌}
 use Rattle.std.specs.Option.{option_map}
+use Rattle.std.proofs.lemmas.Result.{IfOk-weaker}
 use Rattle.miette_tree.specs.views.Attached.{section_of}
 use Rattle.miette_tree.specs.views.Owned.{shown_source}
 use Rattle.miette_brief.specs.rules.Places.{found_further, spot_over}
@@ -15,7 +16,8 @@ returns-then-is_label g c =
 
 pub returns : goal.returns
 returns g c =
+    IfOk-weaker c.chosen_further.result _ _ (λ further is.
     found_later (spot_over (option_map (shown_source g.S.SourceCode.source) c.args.source) c.args.own)
     (found_further (chosen_in c.args.choice) (map (section_of g.S.SourceCode.source) c.args.further.now))
-    c.in_ok-found.found c.in_ok-behind.behind c.in_ok-found.ensures (sym c.is_label.ensures ∙ c.if-is_label.false)
-    c.in_ok-behind.ensures
+    c.in_ok-found.found further c.in_ok-found.ensures (sym c.is_label.ensures ∙ c.if-is_label.false) is)
+    c.chosen_further.ensures

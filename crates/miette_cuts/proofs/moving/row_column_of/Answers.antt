@@ -1,4 +1,5 @@
 use Rattle.std.proofs.Common.{◌+◌, ◌≤◌, ◌∙◌, ap, refl, arith}
+use Rattle.std.proofs.lemmas.Result.{IfOk-weaker}
 use Rattle.miette_cuts.specs.steps.Moving.{IsPlace}
 use Rattle.miette_cuts.proofs.PassedStretches.{place_end, place_found, place_here, place_more}
 use Rattle.miette_cuts.proofs.moving.row_column_of.Goals as goal
@@ -20,12 +21,13 @@ loop-place-preserved c = record {
 
 pub returns-then-left-columns-clause-column : goal.returns-then-left-columns-clause-column
 returns-then-left-columns-clause-column c =
-    place_here c.args.dots c.args.cut.now c.loop-place.place c.args.column c.column_within.result
-    c.in_ok-inside.inside _
+    IfOk-weaker c.sum-2.result _ _ (λ inside is.
+    place_here c.args.dots c.args.cut.now c.loop-place.place c.args.column c.column_within.result inside _
     c.loop-place-test.true c.loop-place.invariant.before c.if-left-columns.true c.column_within.ensures
-    c.in_ok-inside.ensures c.loop-place.invariant.place
+    is c.loop-place.invariant.place) c.sum-2.ensures
 
 pub returns-clause-column : goal.returns-clause-column
 returns-clause-column c =
-    place_end c.args.dots c.args.cut.now c.loop-place.place c.args.column c.in_ok-behind.behind c.loop-place-test.false
-    c.loop-place.invariant.before c.in_ok-behind.ensures c.loop-place.invariant.place
+    IfOk-weaker c.sum.result _ _ (λ after is.
+    place_end c.args.dots c.args.cut.now c.loop-place.place c.args.column after c.loop-place-test.false
+    c.loop-place.invariant.before is c.loop-place.invariant.place) c.sum.ensures

@@ -6,6 +6,6 @@ use Rattle.miette_frames.specs.views.LineContexts.{settings}
 
 pub returns : goal.returns
 returns g c =
-    on_ok_weaker c.push_line.result (λ h. start_put (settings c.args.context.now) c.in-Some.columns
+    on_ok_weaker c.push_line.result (λ h. start_put (settings c.args.context.now) c.in_ok-columns.columns
     (c.args.context.now.frame.number_width + 2) c.args.page.now c.push_blank.new.self c.push_line.new.self
     (search rules) c.in_ok-push_blank.ensures h) c.push_line.ensures

@@ -15,7 +15,7 @@ returns-then-is_empty c =
 pub returns : goal.returns
 returns c =
     let some : 0 < length c.self.inside.rest.now = search rules in
-    let until : c.in-Some.until ≡ c.self.inside.column + c.width_there-width.result = search rules in
+    let until : c.in_ok-until.until ≡ c.self.inside.column + c.width_there-width.result = search rules in
     let left : take (length c.self.inside.rest.now - c.measured-code.result.1)
     (drop c.measured-code.result.1 c.self.inside.rest.now)
     ≡ drop c.measured-code.result.1 c.self.inside.rest.now = grind (arith, common_steps) in
@@ -23,6 +23,6 @@ returns c =
     c.self.inside.offset c.self.inside.column c.self.inside.rest.now
     (take (length c.self.inside.rest.now - c.measured-code.result.1)
     (drop c.measured-code.result.1 c.self.inside.rest.now))
-    c.measured-code.result.0 c.measured-code.result.1 c.width_there-width.result c.in-Some.until some left
+    c.measured-code.result.0 c.measured-code.result.1 c.width_there-width.result c.in_ok-until.until some left
     c.measured-code.ensures.code c.measured-code.ensures.size c.width_there-width.ensures until
     c.hides_later-self-inside.ensures

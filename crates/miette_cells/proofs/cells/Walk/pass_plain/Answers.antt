@@ -16,7 +16,7 @@ returns-clause-passed c =
     let offset : ℕ = c.self.inside.offset in
     let column : ℕ = c.self.inside.column in
     let many : ℕ = c.plain_len-many.result in
-    let column_is : c.in-Some.behind ≡ column + many = search rules in
+    let column_is : c.in_ok-after.after ≡ column + many = search rules in
     let within : many ≤ length rest = omega (
       arith,
       c.plain_len-many.ensures.within,
@@ -36,5 +36,5 @@ returns-clause-passed c =
           ∙ printable_then tab offset column many rest within plain
           ∙ ap (λ hidden. behind hidden (column + many) (drop many rest)) (sym c.if-self.false)
           ∙ ap (λ at. behind c.self.inside.hidden at (drop many rest)) (sym column_is)
-          ∙ ap (behind c.self.inside.hidden c.in-Some.behind) (sym (take_rest rest many));
+          ∙ ap (behind c.self.inside.hidden c.in_ok-after.after) (sym (take_rest rest many));
     }
