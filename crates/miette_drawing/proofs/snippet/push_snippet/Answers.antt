@@ -37,7 +37,8 @@ returns-clause-rows g c =
 
 pub returns-clause-at : goal.returns-clause-at
 returns-clause-at g c =
-    let e : c.args.snippet.now.contents.now.span.offset + length c.args.snippet.now.contents.now.bytes ≡ c.in_ok-end.end =
+    let e : c.args.snippet.now.contents.now.span.offset + length c.args.snippet.now.contents.now.bytes
+    ≡ c.in_ok-end.end =
     sym (c.in_ok-end.ensures ∙ ap (λ n. n + length c.data.result.now)
     (c.offset-start.ensures ∙ ap (λ s. s.offset) c.span.ensures)
     ∙ ap (λ b. c.args.snippet.now.contents.now.span.offset + length b) c.data.ensures) in
