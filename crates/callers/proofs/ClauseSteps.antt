@@ -13,7 +13,7 @@ use Rattle.miette_style.specs.declared.theme.GraphicalTheme.{GraphicalTheme}
 use Rattle.miette_picture_rules.specs.rules.Answers.{unlisted}
 use Rattle.miette_picture_rules.specs.rules.PossibleAnswers.{Appends, IsTextOf}
 use Rattle.miette_printed_laws.specs.laws.Clean.{AreCleanSettings, IsCleanTree}
-use Rattle.miette_printed_laws.specs.laws.Colourless.{ArePlain, restyled}
+use Rattle.miette_printed_laws.specs.laws.PlainTexts.{ArePlain, restyled}
 use Rattle.miette_printed_laws.specs.laws.Headline.{LinesAreShown, MarksAreApart, TextsHang}
 use Rattle.miette_printed_laws.specs.laws.CharacterSets.{AreNarrow}
 use Rattle.miette_picture_rules.specs.rules.PrintedDiagnostics.{HoldsOfPrinted, all_read, diagnostics_of}

@@ -11,8 +11,8 @@ use Rattle.miette_snippet_rules.specs.rules.Highlighting.{AreCallsOn, follows}
 use Rattle.miette_runs.specs.rules.Sequences.{erase}
 use Rattle.miette_wrap_rules.specs.rules.ColouredTexts.{AppendsErasing}
 use Rattle.miette_printed_laws.specs.laws.Clean.{AreCleanSettings, IsCleanTree}
-use Rattle.miette_printed_laws.specs.laws.Colourless.{IsColouredText, IsRestyledText, colourless}
-use Rattle.miette_printed_laws.specs.laws.Colourless.{unhighlighted_answers}
+use Rattle.miette_printed_laws.specs.laws.PlainTexts.{IsColouredText, IsRestyledText, plain_settings}
+use Rattle.miette_printed_laws.specs.laws.PlainTexts.{unhighlighted_answers}
 use Rattle.miette_picture_rules.specs.rules.Answers.{unlisted}
 use Rattle.miette_picture_rules.specs.rules.ByLine.{answers_by}
 use Rattle.miette_picture_rules.specs.rules.Calls.{report_calls}
@@ -44,13 +44,13 @@ read s t u p q r = ap₂ (λ v w. all_read (diagnostics_of v w)) p q ∙ r
 pub bare_text : (s : Settings) (t : Tree) (old new : List ℕ) → s ≡ in_colours → t ≡ warning_tree → old ≡ []
     → AreCleanSettings in_colours
     → (all_read (diagnostics_of s t) ≡ true → AreCleanSettings s → IsCleanTree t
-    → AppendsErasing old new (encode_utf8_all (report_text whole_drawing (colourless s) t unlisted)))
+    → AppendsErasing old new (encode_utf8_all (report_text whole_drawing (plain_settings s) t unlisted)))
     → erase new ≡ encode_utf8_all (report_text whole_drawing plain warning_tree unlisted)
 bare_text s t old new p q none tame law =
     let own = law (read s t in_colours p q refl) (subst AreCleanSettings (sym p) tame)
     (subst IsCleanTree (sym q) clean) in
     ap erase (own.1 ∙ ap (λ o. o ++ own.0) none) ∙ own.2
-    ∙ ap₂ (λ v w. encode_utf8_all (report_text whole_drawing (colourless v) w unlisted)) p q
+    ∙ ap₂ (λ v w. encode_utf8_all (report_text whole_drawing (plain_settings v) w unlisted)) p q
 
 pub may_be_printed : (s : Settings) (blank : Bool) (t : Tree) (old new : List ℕ) → s ≡ in_colours → t ≡ warning_tree
     → old ≡ [] → AreCleanSettings in_colours

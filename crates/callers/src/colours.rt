@@ -1,7 +1,7 @@
 //! What the clauses of a picture on colours and highlighters give a caller.
 
 ghost use Rattle.std.specs.Prelude.{◌≡◌, IfOk, true, encode_utf8_all, string_bytes};
-ghost use Rattle.miette_printed_laws.specs.laws.Colourless.{colourless};
+ghost use Rattle.miette_printed_laws.specs.laws.PlainTexts.{plain_settings};
 ghost use Rattle.miette_picture_rules.specs.rules.Answers.{unlisted};
 ghost use Rattle.miette_picture_rules.specs.rules.ByLine.{answers_by};
 ghost use Rattle.miette_picture_rules.specs.rules.PossibleAnswers.{IsTextOf};

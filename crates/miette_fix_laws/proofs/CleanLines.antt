@@ -22,7 +22,7 @@ use Rattle.miette_row_laws.specs.laws.Clean.{IsClean, IsCleanCode}
 use Rattle.miette_row_laws.proofs.CleanTexts.{clean_append, clean_cons, clean_drop, clean_first, clean_range}
 use Rattle.miette_row_laws.proofs.CleanTexts.{clean_rest}
 use Rattle.miette_row_laws.proofs.CleanTexts.{clean_take}
-use Rattle.miette_row_laws.proofs.Paling.{all_append}
+use Rattle.miette_row_laws.proofs.PlainRows.{all_append}
 
 abbrev pub AreClean : List (List ℕ) → Type 0
 AreClean lines = AllByRecursion IsClean lines

@@ -1,3 +1,3 @@
 pub mod CleanLines
-pub mod PaleFixes
+pub mod PlainFixes
 pub mod ShownContext

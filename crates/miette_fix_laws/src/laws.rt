@@ -11,12 +11,12 @@ ghost use Rattle.miette_fixes.specs.rules.Edits.{Replacement};
 ghost use Rattle.miette_page.specs.rules.Rows.{glyphs_of};
 ghost use Rattle.miette_protocol.specs.rules.Reading.{Source};
 ghost use Rattle.miette_row_laws.specs.laws.Clean.{AreCleanDrawings, IsClean, IsCleanRow, IsCleanSource};
-ghost use Rattle.miette_row_laws.specs.laws.Fading.{ArePlain, IsPlainRow, restyled};
+ghost use Rattle.miette_row_laws.specs.laws.PlainStyles.{ArePlain, IsPlainRow, restyled};
 ghost use Rattle.miette_snippet_rules.specs.rules.Settings.{SnippetSettings};
 ghost use Rattle.miette_style.specs.rules.Themes.{Styles};
 
 /// In plain styles a fix has the same characters in the same rows (`same`), and each run is plain (`plain`).
-pub fn fix_rows_fade()
+pub fn fix_rows_turn_plain()
     ensures same { (s : SnippetSettings) (styles : Styles) (source : Source) (fails : Bool)
         (edits : List Replacement) → ArePlain styles →
         map glyphs_of (fix_rows (restyled s styles) source fails edits)

@@ -8,8 +8,8 @@ use Rattle.miette_picture_rules.specs.rules.Settings.{Settings}
 use Rattle.miette_picture_rules.specs.rules.Snippets.{whole_drawing}
 use Rattle.miette_picture_rules.specs.rules.Text.{report_text}
 use Rattle.miette_printed_laws.specs.laws.Clean.{AreCleanSettings, IsCleanTree}
-use Rattle.miette_printed_laws.specs.laws.Colourless.{IsColouredText, IsRestyledText, colourless, restyled}
-use Rattle.miette_row_laws.specs.laws.Fading.{ArePlain}
+use Rattle.miette_printed_laws.specs.laws.PlainTexts.{IsColouredText, IsRestyledText, plain_settings, restyled}
+use Rattle.miette_row_laws.specs.laws.PlainStyles.{ArePlain}
 use Rattle.miette_style.specs.rules.Themes.{Styles}
 use Rattle.miette_printed_laws.specs.laws.Holding.{IsHoldingText}
 use Rattle.miette_runs.specs.rules.Sequences.{erase}
@@ -64,10 +64,10 @@ rendered-colours (Ok x) s blank t old new law ok = λ settings tree.
 pub rendered-colourless : {A E : Type 0} (r : Result A E) (s : Settings) (blank : Bool) (t : Tree) (old new : List ℕ)
     → ((s : Settings) (blank : Bool) (t : Tree) (bytes : List ℕ) → AreCleanSettings s → IsCleanTree t
     → IsTextOf whole_drawing s blank t bytes → all_read (diagnostics_of s t) ≡ true
-    → erase bytes ≡ encode_utf8_all (report_text whole_drawing (colourless s) t unlisted))
+    → erase bytes ≡ encode_utf8_all (report_text whole_drawing (plain_settings s) t unlisted))
     → OnOk r (Appends whole_drawing s blank t old new)
     → OnOk r (all_read (diagnostics_of s t) ≡ true → AreCleanSettings s → IsCleanTree t
-    → AppendsErasing old new (encode_utf8_all (report_text whole_drawing (colourless s) t unlisted)))
+    → AppendsErasing old new (encode_utf8_all (report_text whole_drawing (plain_settings s) t unlisted)))
 rendered-colourless (Err e) s blank t old new law ok = tt
 rendered-colourless (Ok x) s blank t old new law ok = λ reads settings tree.
     (ok.text, ok.appended, law s blank t ok.text settings tree ok.is_given reads)
@@ -81,8 +81,8 @@ pub rendered-plain : {A E : Type 0} (r : Result A E) (s : Settings) (blank : Boo
     → ArePlain styles
     → AppendsErasing old new (encode_utf8_all (report_text whole_drawing (restyled s styles) t unlisted)))
 rendered-plain (Err e) s blank t old new law ok = tt
-rendered-plain (Ok x) s blank t old new law ok = λ reads settings tree styles bare.
-    (ok.text, ok.appended, law s styles blank t ok.text settings tree bare ok.is_given reads)
+rendered-plain (Ok x) s blank t old new law ok = λ reads settings tree styles are_plain.
+    (ok.text, ok.appended, law s styles blank t ok.text settings tree are_plain ok.is_given reads)
 
 pub rendered-themes : {A E : Type 0} (r : Result A E) (s : Settings) (blank : Bool) (t : Tree) (old new : List ℕ)
     → ((s : Settings) (blank : Bool) (t : Tree) (bytes others : List ℕ) → AreCleanSettings s → IsCleanTree t

@@ -7,7 +7,7 @@ pub use Rattle.miette_picture_rules.specs.rules.Indents
 pub use Rattle.miette_picture_rules.specs.rules.DiagnosticText
 pub use Rattle.miette_picture_rules.specs.rules.Text
 pub use Rattle.miette_printed_laws.specs.laws.Clean
-pub use Rattle.miette_printed_laws.specs.laws.Colourless
+pub use Rattle.miette_printed_laws.specs.laws.PlainTexts
 pub use Rattle.miette_picture_rules.specs.rules.PrintedDiagnostics
 pub use Rattle.miette_printed_laws.specs.laws.Paths
 pub use Rattle.miette_printed_laws.specs.laws.Alike

@@ -7,5 +7,6 @@ pub use miette_range_laws::laws::{
 pub use miette_row_laws::laws::{
     cut_lines_are_parted, cut_rows_are_narrow, ends_are_drawn, lines_are_cut_by_reach,
     lines_that_fit_stay, marks_are_apart, marks_stand_on_their_characters,
-    marks_stand_under_their_labels, rows_fade, rows_hold_no_escape, texts_hang, wide_lines_are_cut,
+    marks_stand_under_their_labels, rows_hold_no_escape, rows_turn_plain, texts_hang,
+    wide_lines_are_cut,
 };

@@ -27,7 +27,7 @@ use Rattle.miette_picture_laws.specs.laws.NumberRows.{padded}
 use Rattle.miette_picture_laws.specs.laws.NumberRows.{printed_line}
 use Rattle.miette_picture_rules.specs.rules.Indents.{spaces}
 use Rattle.miette_picture_rules.specs.rules.Snippets.{runs_of_row}
-use Rattle.miette_printed_laws.proofs.SnippetsFading.{plain_row}
+use Rattle.miette_printed_laws.proofs.PlainSnippets.{plain_row}
 use Rattle.miette_picture_rules.proofs.RowTexts.{codes_of}
 
 -- ---- what is printed

@@ -6,8 +6,8 @@ ghost use Rattle.miette_picture_rules.specs.rules.PossibleAnswers.{IsAskedText, 
 ghost use Rattle.miette_picture_rules.specs.rules.Answers.{Answer, Answers, unlisted};
 ghost use Rattle.miette_printed_laws.specs.laws.Clean.{AreCleanCharacters, AreCleanSettings, IsCleanTree};
 ghost use Rattle.miette_printed_laws.specs.laws.Alike.{AreAnsweredAlike, AreDrawnAlike};
-ghost use Rattle.miette_printed_laws.specs.laws.Colourless.{AreDrawings};
-ghost use Rattle.miette_printed_laws.specs.laws.Colourless.{ArePlain, unhighlighted_answers};
+ghost use Rattle.miette_printed_laws.specs.laws.PlainTexts.{AreDrawings};
+ghost use Rattle.miette_printed_laws.specs.laws.PlainTexts.{ArePlain, unhighlighted_answers};
 ghost use Rattle.std.specs.List.{AllByRecursion, Contains};
 ghost use Rattle.miette_picture_rules.specs.rules.DiagnosticText.{Drawing, rows_text};
 ghost use Rattle.miette_printed_laws.specs.laws.Headline.{ShowsRanges};

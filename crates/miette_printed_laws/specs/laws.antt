@@ -1,6 +1,6 @@
 -- What holds of the rules.
 pub mod Clean
-pub mod Colourless
+pub mod PlainTexts
 pub mod Paths
 pub mod Alike
 pub mod CharacterSets

@@ -5,8 +5,8 @@ ghost use Rattle.std.specs.Prelude.{◌≡◌, ℕ, Bool, List, encode_utf8_all,
 ghost use Rattle.miette_picture_rules.specs.rules.PossibleAnswers.{IsTextOf};
 ghost use Rattle.miette_picture_rules.specs.rules.Answers.{Answers, unlisted};
 ghost use Rattle.miette_printed_laws.specs.laws.Clean.{AreCleanSettings, IsCleanTree};
-ghost use Rattle.miette_printed_laws.specs.laws.Colourless.{AreDrawings, IsColouredText, IsRestyledText};
-ghost use Rattle.miette_printed_laws.specs.laws.Colourless.{ArePlain, colourless, restyled, unhighlighted_answers};
+ghost use Rattle.miette_printed_laws.specs.laws.PlainTexts.{AreDrawings, IsColouredText, IsRestyledText};
+ghost use Rattle.miette_printed_laws.specs.laws.PlainTexts.{ArePlain, plain_settings, restyled, unhighlighted_answers};
 ghost use Rattle.std.specs.List.{AllByRecursion};
 ghost use Rattle.miette_printed_laws.specs.laws.FixPictures.{FixesAreTold};
 ghost use Rattle.miette_printed_laws.specs.laws.Headline.{EndsAreDrawn, LabelsAreFolded, LinesAreShown, MarksAreApart};
@@ -27,31 +27,33 @@ ghost use Rattle.miette_wrap_rules.specs.laws.Tame.{IsTame};
 use miette_diff_laws::laws::{
     a_diff_has_the_applied_text, a_diff_has_the_source, changes_are_trimmed, frames_stand_in_a_diff,
 };
-use miette_fix_laws::laws::{fix_rows_fade, fix_rows_hold_no_escape, frames_show_the_context};
+use miette_fix_laws::laws::{
+    fix_rows_hold_no_escape, fix_rows_turn_plain, frames_show_the_context,
+};
 use miette_layout::laws::{
     cut_lines_are_parted, cut_rows_are_narrow, ends_are_drawn, groups_are_ranges,
     left_out_lines_are_inside, lines_are_cut_by_reach, lines_that_fit_stay, marks_are_apart,
-    marks_stand_on_their_characters, ranges_are_maximal, ranges_end_kept, rows_fade,
-    rows_hold_no_escape, short_labels_stay, snippets_draw_ranges, texts_hang, wide_lines_are_cut,
+    marks_stand_on_their_characters, ranges_are_maximal, ranges_end_kept, rows_hold_no_escape,
+    rows_turn_plain, short_labels_stay, snippets_draw_ranges, texts_hang, wide_lines_are_cut,
 };
 use miette_wrap_laws::laws::{
     columns_law, cutting_law, encoding_law, joining_law, printing_law, wrapping_law,
 };
 
-/// For all rows of snippets and of fixes that fade, where no text, url, source, name, setting or theme character holds
-/// an escape: a report's text without its colours is the text of the same tree in plain styles under the same reads,
-/// and can be wrapped again in another one.
+/// For all rows of snippets and of fixes that turn plain in plain styles, where no text, url, source, name, setting or
+/// theme character holds an escape: a report's text without its colours is the text of the same tree in plain styles
+/// under the same reads, and can be wrapped again in another one.
 pub fn colours_law()
     ensures erase { (drawing : Drawing) (s : Settings) (t : Tree) (a : Answers) → AreDrawings drawing →
         AreCleanSettings s → IsCleanTree t →
-        erase (report_text drawing s t a) ≡ report_text drawing (colourless s) t (unhighlighted_answers a) }
+        erase (report_text drawing s t a) ≡ report_text drawing (plain_settings s) t (unhighlighted_answers a) }
     ensures tame { (drawing : Drawing) (s : Settings) (t : Tree) (a : Answers) → AreDrawings drawing →
         AreCleanSettings s → IsCleanTree t →
         IsTame (report_text drawing s t a) }
     // Settings that differ in styles alone give the same text but for colours.
     ensures alike { (drawing : Drawing) (s u : Settings) (t : Tree) (a b : Answers) → AreDrawings drawing →
         AreCleanSettings s → AreCleanSettings u → IsCleanTree t →
-        colourless s ≡ colourless u → unhighlighted_answers a ≡ unhighlighted_answers b →
+        plain_settings s ≡ plain_settings u → unhighlighted_answers a ≡ unhighlighted_answers b →
         erase (report_text drawing s t a) ≡ erase (report_text drawing u t b) }
     // The text without its colours is that of any plain styles, with however many highlights.
     ensures plain { (drawing : Drawing) (s : Settings) (styles : Styles) (t : Tree) (a : Answers) →
@@ -65,13 +67,13 @@ pub fn colours_law()
     columns_law();
 }
 
-/// The rows of snippets and of fixes, as they are drawn, fade and hold no escape.
+/// The rows of snippets and of fixes, as they are drawn, turn plain and hold no escape.
 pub fn drawn_rows_law()
     ensures { AreDrawings whole_drawing }
 {
-    rows_fade();
+    rows_turn_plain();
     rows_hold_no_escape();
-    fix_rows_fade();
+    fix_rows_turn_plain();
     fix_rows_hold_no_escape();
 }
 
@@ -83,10 +85,10 @@ pub fn erasing_law()
     ensures text { (s : Settings) (blank : Bool) (t : Tree) (bytes : List ℕ) → AreCleanSettings s → IsCleanTree t →
         IsTextOf whole_drawing s blank t bytes → IsColouredText whole_drawing s blank t bytes }
     ensures possible { (s : Settings) (blank : Bool) (t : Tree) (bytes : List ℕ) → AreCleanSettings s → IsCleanTree t →
-        IsTextOf whole_drawing s blank t bytes → IsTextOf whole_drawing (colourless s) true t (erase bytes) }
+        IsTextOf whole_drawing s blank t bytes → IsTextOf whole_drawing (plain_settings s) true t (erase bytes) }
     ensures only { (s : Settings) (blank : Bool) (t : Tree) (bytes : List ℕ) → AreCleanSettings s → IsCleanTree t →
         IsTextOf whole_drawing s blank t bytes → all_read (diagnostics_of s t) ≡ true →
-        erase bytes ≡ encode_utf8_all (report_text whole_drawing (colourless s) t unlisted) }
+        erase bytes ≡ encode_utf8_all (report_text whole_drawing (plain_settings s) t unlisted) }
     ensures plain { (s : Settings) (styles : Styles) (blank : Bool) (t : Tree) (bytes : List ℕ) →
         AreCleanSettings s → IsCleanTree t → ArePlain styles →
         IsTextOf whole_drawing s blank t bytes → all_read (diagnostics_of s t) ≡ true →
@@ -98,7 +100,7 @@ pub fn erasing_law()
     colours_law();
     drawn_rows_law();
     encoding_law();
-    rows_fade();
+    rows_turn_plain();
 }
 
 /// The snippets of each printed diagnostic show the lines in the context of its labels, its marks are apart, each line

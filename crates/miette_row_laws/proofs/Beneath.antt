@@ -25,10 +25,10 @@ use Rattle.miette_basics.proofs.Cases.{by_cases}
 use Rattle.miette_row_laws.proofs.Apart.{marks_apart}
 use Rattle.miette_snippet_rules.proofs.CutColumns.{AreColumns, shown_apart}
 use Rattle.miette_row_laws.proofs.Columns.{columns_of-append, code_at-append}
-use Rattle.miette_row_laws.proofs.UnstyledRows.{mark_row, plain_below}
-use Rattle.miette_row_laws.proofs.HungTexts.{mark_row-at, mark_row-columns, plain_hang, all_beside, all_more}
+use Rattle.miette_row_laws.proofs.GlyphRows.{mark_row, glyph_rows_below}
+use Rattle.miette_row_laws.proofs.HungTexts.{mark_row-at, mark_row-columns, glyph_rows_hang, all_beside, all_more}
 use Rattle.miette_row_laws.proofs.Numerals.{AreDigits, are_digits}
-use Rattle.miette_row_laws.proofs.Flat.{glyphs_of-append, before_pieces, flat_marks, flat_below}
+use Rattle.miette_row_laws.proofs.GlyphsOfRows.{glyphs_of-append, before_pieces, glyphs_of-marks, glyphs_of-below}
 use Rattle.miette_snippet_rules.specs.rules.SnippetLayout.{snippet_context}
 use Rattle.miette_snippet_rules.specs.rules.Settings.{SnippetSettings}
 
@@ -98,22 +98,22 @@ marked : (s : SnippetSettings) (n : IsNarrow s.width s.theme.characters) (prefix
 marked s n prefix more ms apart =
     let start : ℕ = columns_of (glyphs_of prefix) in
     let z : marks_end 0 ms - 0 ≡ marks_end 0 ms = omega arith in
-    let flat : glyphs_of (mark_runs s 0 ms) ≡ mark_row s ms = flat_marks s 0 ms apart
+    let own : glyphs_of (mark_runs s 0 ms) ≡ mark_row s ms = glyphs_of-marks s 0 ms apart
     ∙ ap (λ k. map (mark_at s ms) (range_with_len 0 k)) z in
-    let below : List (List Glyph) = map (λ row. glyphs_of prefix ++ row) (plain_below s [] ms) in
+    let below : List (List Glyph) = map (λ row. glyphs_of prefix ++ row) (glyph_rows_below s [] ms) in
     let under : map glyphs_of (before_each prefix (rows_below s [] ms) ++ more) ≡ below ++ map glyphs_of more =
     map-append glyphs_of (before_each prefix (rows_below s [] ms)) more
     ∙ ap (λ r. r ++ map glyphs_of more) (before_pieces prefix (rows_below s [] ms)
-    ∙ ap (map (λ row. glyphs_of prefix ++ row)) (flat_below s [] ms apart)) in (
+    ∙ ap (map (λ row. glyphs_of prefix ++ row)) (glyphs_of-below s [] ms apart)) in (
       λ column lt. ap (λ r. code_at r (start + column)) (glyphs_of-append prefix (mark_runs s 0 ms))
           ∙ code_at-append (glyphs_of prefix) (glyphs_of (mark_runs s 0 ms)) column
-          ∙ ap (λ r. code_at r column) flat ∙ mark_row-at s n ms column lt,
-      ap columns_of (glyphs_of-append prefix (mark_runs s 0 ms) ∙ ap (λ r. glyphs_of prefix ++ r) flat)
+          ∙ ap (λ r. code_at r column) own ∙ mark_row-at s n ms column lt,
+      ap columns_of (glyphs_of-append prefix (mark_runs s 0 ms) ∙ ap (λ r. glyphs_of prefix ++ r) own)
           ∙ columns_of-append (glyphs_of prefix) (mark_row s ms)
           ∙ ap (λ k. start + k) (mark_row-columns s n ms),
       subst (λ (rows : List (List Glyph)). AllByRecursion (Hangs s rows start) ms) (sym under)
           (all_more s start below (map glyphs_of more) ms
-          (all_beside s (glyphs_of prefix) (plain_below s [] ms) ms (plain_hang s ms n apart))),
+          (all_beside s (glyphs_of prefix) (glyph_rows_below s [] ms) ms (glyph_rows_hang s ms n apart))),
     )
 
 shown : (s : SnippetSettings) (n : IsNarrow s.width s.theme.characters) (prefix : Row) (number : Row) (more : List Row)

@@ -14,7 +14,7 @@ use Rattle.miette_snippet_rules.specs.rules.PrintedCells.{line_runs, printed_cel
 use Rattle.miette_row_laws.specs.laws.Cuts.{AreStretches, IsCutBy, IsWithin, by_kept, by_nearness, by_stretch}
 use Rattle.miette_row_laws.specs.laws.Cuts.{pieces_shown}
 use Rattle.miette_row_laws.proofs.CleanTexts.{line_same}
-use Rattle.miette_row_laws.proofs.Flat.{glyphs_of-append}
+use Rattle.miette_row_laws.proofs.GlyphsOfRows.{glyphs_of-append}
 
 pub agree-same : (a b : Bool) → agree a b ≡ true → b ≡ a
 agree-same true b h = h

@@ -8,8 +8,8 @@ use Rattle.miette_label_rules.specs.rules.Labels.{is_empty}
 use Rattle.miette_snippet_rules.specs.rules.Marks.{Mark, AreApart}
 use Rattle.miette_snippet_rules.specs.rules.Drawing.{IsNarrow, code_with_parts, mark_code}
 use Rattle.miette_row_laws.specs.laws.Pictures.{mark_at, marks_end, HangsFrom, PartHangs, Hangs}
-use Rattle.miette_row_laws.proofs.UnstyledRows.{mark_row, lead_at, lead, corner_pieces, beside_pieces, plain_parts}
-use Rattle.miette_row_laws.proofs.UnstyledRows.{plain_below}
+use Rattle.miette_row_laws.proofs.GlyphRows.{mark_row, lead_at, lead, corner_pieces, beside_pieces, glyph_rows_of_parts}
+use Rattle.miette_row_laws.proofs.GlyphRows.{glyph_rows_below}
 use Rattle.miette_basics.proofs.Cases.{by_cases}
 use Rattle.miette_row_laws.proofs.Columns.{code_at-here, code_at-front, code_at-behind, columns_of-map}
 use Rattle.miette_row_laws.proofs.Columns.{columns_of-append, code_at-append}
@@ -95,7 +95,7 @@ bars_of_rest s n earlier mark column (part ∷ parts) lt h = (
 bars_of_parts : (s : SnippetSettings) (n : IsNarrow s.width s.theme.characters) (earlier : List Mark) (mark : Mark)
     (column : ℕ)
     (parts : List (List ℕ)) → column < mark.anchor → has_anchor column earlier ≡ true →
-    AllByRecursion (HasBar s.theme.characters column) (plain_parts s earlier mark parts)
+    AllByRecursion (HasBar s.theme.characters column) (glyph_rows_of_parts s earlier mark parts)
 bars_of_parts s n earlier mark column [] lt h = tt
 bars_of_parts s n earlier mark column (part ∷ []) lt h =
     (led s n earlier mark column (corner_pieces s s.theme.characters.hbar ++ map (glyph_of s.width) part) lt h, tt)
@@ -122,11 +122,11 @@ any_last p (x ∷ xs) y h = or_right (p x) (list_any p (xs ++ y ∷ [])) (any_la
 bars_below : (s : SnippetSettings) (n : IsNarrow s.width s.theme.characters) (earlier ms : List Mark)
     (reached column : ℕ)
     → AreApart reached ms → column < reached → has_anchor column earlier ≡ true →
-    AllByRecursion (HasBar s.theme.characters column) (plain_below s earlier ms)
+    AllByRecursion (HasBar s.theme.characters column) (glyph_rows_below s earlier ms)
 bars_below s n earlier [] reached column h lt has = tt
 bars_below s n earlier (m ∷ ms) reached column h lt has =
-    all_append (HasBar s.theme.characters column) (plain_below s (earlier ++ m ∷ []) ms)
-    (plain_parts s earlier m m.label.parts)
+    all_append (HasBar s.theme.characters column) (glyph_rows_below s (earlier ++ m ∷ []) ms)
+    (glyph_rows_of_parts s earlier m m.label.parts)
     (bars_below s n (earlier ++ m ∷ []) ms m.until column h.2 (omega (arith, h.0, h.1.0, h.1.1))
     (any_append_left (λ k. eqb column k.anchor) earlier (m ∷ []) has))
     (bars_of_parts s n earlier m column m.label.parts (omega (arith, h.0, h.1.0)) has)
@@ -169,7 +169,8 @@ cornered v n earlier mark p q r s part is a b c d = (
 own_rows : (s : SnippetSettings) (n : IsNarrow s.width s.theme.characters) (earlier : List Mark) (mark : Mark)
     (part : List ℕ)
     (parts : List (List ℕ)) →
-    HangsFrom s.theme.characters mark.anchor (map (glyph_of s.width) part) (plain_parts s earlier mark (part ∷ parts))
+    HangsFrom s.theme.characters mark.anchor (map (glyph_of s.width) part)
+    (glyph_rows_of_parts s earlier mark (part ∷ parts))
 own_rows s n earlier mark part [] =
     inl (cornered s n earlier mark (glyph_of s.width s.theme.characters.lbot) (glyph_of s.width s.theme.characters.hbar)
     (glyph_of s.width s.theme.characters.hbar)
@@ -182,12 +183,12 @@ own_rows s n earlier mark part (next ∷ parts) =
 hangs_at_top : (s : SnippetSettings) (n : IsNarrow s.width s.theme.characters) (earlier : List Mark) (mark : Mark)
     (above : List (List Glyph)) (parts : List (List ℕ)) →
     AllByRecursion (HasBar s.theme.characters mark.anchor) above
-    → PartHangs s (above ++ plain_parts s earlier mark parts)
+    → PartHangs s (above ++ glyph_rows_of_parts s earlier mark parts)
     mark.anchor parts
 hangs_at_top s n earlier mark above [] bars = tt
 hangs_at_top s n earlier mark above (part ∷ parts) bars =
     hang_under s.theme.characters mark.anchor (map (glyph_of s.width) part) above
-    (plain_parts s earlier mark (part ∷ parts)) bars
+    (glyph_rows_of_parts s earlier mark (part ∷ parts)) bars
     (own_rows s n earlier mark part parts)
 
 part_more : (s : SnippetSettings) (rows more : List (List Glyph)) (column : ℕ) (parts : List (List ℕ))
@@ -209,21 +210,21 @@ part_at : (s : SnippetSettings) (rows : List (List Glyph)) (a b : ℕ) (parts : 
 part_at s rows a b parts e h = rw (← e) h
 
 hang_from : (s : SnippetSettings) (n : IsNarrow s.width s.theme.characters) (earlier ms : List Mark) (reached : ℕ)
-    → AreApart reached ms → AllByRecursion (Hangs s (plain_below s earlier ms) 0) ms
+    → AreApart reached ms → AllByRecursion (Hangs s (glyph_rows_below s earlier ms) 0) ms
 hang_from s n earlier [] reached h = tt
 hang_from s n earlier (m ∷ ms) reached h = (
-  part_at s (plain_below s earlier (m ∷ ms)) m.anchor (0 + m.anchor) m.label.parts (omega arith)
-      (hangs_at_top s n earlier m (plain_below s (earlier ++ m ∷ []) ms) m.label.parts
+  part_at s (glyph_rows_below s earlier (m ∷ ms)) m.anchor (0 + m.anchor) m.label.parts (omega arith)
+      (hangs_at_top s n earlier m (glyph_rows_below s (earlier ++ m ∷ []) ms) m.label.parts
       (bars_below s n (earlier ++ m ∷ []) ms m.until m.anchor h.2 h.1.1
       (any_last (λ k. eqb m.anchor k.anchor) earlier m (eq-eqb m.anchor m.anchor refl)))),
-  all_more s 0 (plain_below s (earlier ++ m ∷ []) ms) (plain_parts s earlier m m.label.parts) ms
+  all_more s 0 (glyph_rows_below s (earlier ++ m ∷ []) ms) (glyph_rows_of_parts s earlier m m.label.parts) ms
       (hang_from s n (earlier ++ m ∷ []) ms m.until h.2),
 )
 
 -- each text hangs from its own mark's anchor
-pub plain_hang : (s : SnippetSettings) (ms : List Mark) → IsNarrow s.width s.theme.characters → AreApart 0 ms
-    → AllByRecursion (Hangs s (plain_below s [] ms) 0) ms
-plain_hang s ms n h = hang_from s n [] ms 0 h
+pub glyph_rows_hang : (s : SnippetSettings) (ms : List Mark) → IsNarrow s.width s.theme.characters → AreApart 0 ms
+    → AllByRecursion (Hangs s (glyph_rows_below s [] ms) 0) ms
+glyph_rows_hang s ms n h = hang_from s n [] ms 0 h
 
 -- a text hangs as well where the same gutter stands before each row
 pub hang_beside : (t : Characters) (gutter : List Glyph) (column : ℕ) (part : List Glyph) (rows : List (List Glyph))

@@ -1,10 +1,8 @@
 pub mod Apart
 pub mod Beneath
-pub mod Bleaching
 pub mod CleanTexts
 mod Columns
 pub mod CutEnds
-pub mod CutFading
 pub mod CutLaws
 pub mod CutLetters
 pub mod CutMarks
@@ -12,14 +10,16 @@ pub mod CutShows
 pub mod CutWidth
 pub mod EndColumns
 pub mod EndLabels
-pub mod Flat
+pub mod GlyphRows
+pub mod GlyphsOfRows
 pub mod HungTexts
 pub mod LabelMarks
 pub mod Numerals
-pub mod PlainStyles
-pub mod PaleSnippets
+pub mod PlainCuts
+pub mod PlainFrames
+pub mod PlainLabels
+pub mod PlainRows
 pub mod PlainSnippets
-pub mod Paling
+pub mod PlainStyles
 pub mod RowCounts
-pub mod UnstyledRows
 pub mod Whole

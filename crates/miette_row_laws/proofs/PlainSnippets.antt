@@ -14,60 +14,60 @@ use Rattle.miette_snippet_rules.specs.rules.Frames.{refused_row}
 use Rattle.miette_snippet_rules.specs.rules.Settings.{SnippetSettings}
 use Rattle.miette_snippet_rules.specs.rules.SnippetLayout.{settings_around, rows_unless, snippet_rows}
 use Rattle.miette_row_laws.specs.laws.Clean.{AreCleanDrawings, IsCleanLabel, IsCleanRow, IsCleanSource}
-use Rattle.miette_row_laws.specs.laws.Fading.{AreAllPlain, ArePlain, IsPlainRow, restyled, unhighlighted_answer}
-use Rattle.miette_row_laws.proofs.Bleaching.{ordered_clean}
-use Rattle.miette_row_laws.proofs.Paling.{PaleRows, rows_nil, rows_cons}
-use Rattle.miette_row_laws.proofs.PaleSnippets.{IsCleanRefusal, faded, pale_all, pale_refused, refusal_clean}
-use Rattle.miette_row_laws.proofs.PlainStyles.{are_faded}
+use Rattle.miette_row_laws.specs.laws.PlainStyles.{AreAllPlain, ArePlain, IsPlainRow, restyled, unhighlighted_answer}
+use Rattle.miette_row_laws.proofs.PlainLabels.{ordered_clean}
+use Rattle.miette_row_laws.proofs.PlainRows.{PlainRows, rows_nil, rows_cons}
+use Rattle.miette_row_laws.proofs.PlainFrames.{IsCleanRefusal, plain_with, plain_all, plain_refused, refusal_clean}
+use Rattle.miette_row_laws.proofs.PlainStyles.{are_plain_styles}
 
 -- rows for rows, and none for none
-pub record PaleGiven (P : Type 0) (x y : Option (List Row)) : Type 0 where
+pub record PlainGiven (P : Type 0) (x y : Option (List Row)) : Type 0 where
   pub same : option_map (map glyphs_of) x ≡ option_map (map glyphs_of) y
   pub plain : IfSome x (AllByRecursion IsPlainRow)
   pub clean : P → IfSome y (AllByRecursion IsCleanRow)
 
-given : {P : Type 0} {xs ys : List Row} → PaleRows P xs ys → PaleGiven P (Some xs) (Some ys)
+given : {P : Type 0} {xs ys : List Row} → PlainRows P xs ys → PlainGiven P (Some xs) (Some ys)
 given h = record { same = ap Some h.same; plain = h.plain; clean = h.clean }
 
-given_unless : {P : Type 0} (b : Bool) {xs ys : List Row} → PaleRows P xs ys
-    → PaleGiven P (if b then None else Some xs) (if b then None else Some ys)
+given_unless : {P : Type 0} (b : Bool) {xs ys : List Row} → PlainRows P xs ys
+    → PlainGiven P (if b then None else Some xs) (if b then None else Some ys)
 given_unless true h = record { same = refl; plain = tt; clean = λ p. tt }
 given_unless false h = given h
 
 -- the rows of groups, with the lines of context with which they are read
-module _ (P : Type 0) (s : SnippetSettings) (hs : List Style) (bare : AreAllPlain hs)
+module _ (P : Type 0) (s : SnippetSettings) (hs : List Style) (are_plain : AreAllPlain hs)
     (clean : P → AreCleanDrawings s.theme.characters) where
-  pale_unless : (source : Source) (labels : List Label) (answers : Answers) (refused : Option Refusal) →
+  plain_unless : (source : Source) (labels : List Label) (answers : Answers) (refused : Option Refusal) →
       (P → IsCleanSource source) → (P → AllByRecursion IsCleanLabel labels) → (P → IfSome refused IsCleanRefusal) →
-      PaleGiven P (rows_unless (faded hs s) source labels (unhighlighted_answer answers)
-      (option_map (refused_row (faded hs s)) refused))
+      PlainGiven P (rows_unless (plain_with hs s) source labels (unhighlighted_answer answers)
+      (option_map (refused_row (plain_with hs s)) refused))
       (rows_unless s source labels answers (option_map (refused_row s) refused))
-  pale_unless source labels answers (Some refused) h k j =
-      given (rows_cons P (pale_refused P s hs bare clean refused j) (rows_nil P))
-  pale_unless source labels answers None h k j =
+  plain_unless source labels answers (Some refused) h k j =
+      given (rows_cons P (plain_refused P s hs are_plain clean refused j) (rows_nil P))
+  plain_unless source labels answers None h k j =
       let groups = groups_of s.layout.context_lines source answers.join_fails labels in
       given_unless (groups_fail s.layout.context_lines source answers.join_fails labels
       || some_fails answers.place_fails groups)
-      (pale_all P (settings_around s labels) hs bare clean
+      (plain_all P (settings_around s labels) hs are_plain clean
       (spreads_of s.layout.label_lines s.layout.context_lines source labels) source labels answers.pieces groups h k)
 
-  pale_snippets : (source : Source) (labels : List Label) (answers : Answers) → (P → IsCleanSource source)
+  plain_snippets_with : (source : Source) (labels : List Label) (answers : Answers) → (P → IsCleanSource source)
       → (P → AllByRecursion IsCleanLabel labels) →
-      PaleGiven P (snippet_rows (faded hs s) source labels (unhighlighted_answer answers))
+      PlainGiven P (snippet_rows (plain_with hs s) source labels (unhighlighted_answer answers))
       (snippet_rows s source labels answers)
-  pale_snippets source labels answers h k =
-      pale_unless source (in_order labels) answers (refusal source.bytes answers.label_fails (in_order labels)) h
+  plain_snippets_with source labels answers h k =
+      plain_unless source (in_order labels) answers (refusal source.bytes answers.label_fails (in_order labels)) h
       (λ p. ordered_clean labels (k p))
-      (λ p. refusal_clean P s hs bare clean source.bytes answers.label_fails (in_order labels)
+      (λ p. refusal_clean P s hs are_plain clean source.bytes answers.label_fails (in_order labels)
       (ordered_clean labels (k p)))
 
 -- the same in any plain styles
 pub plain_snippets : (P : Type 0) (s : SnippetSettings) (styles : Styles) → ArePlain styles
     → (P → AreCleanDrawings s.theme.characters) → (source : Source) (labels : List Label) (answers : Answers)
     → (P → IsCleanSource source) → (P → AllByRecursion IsCleanLabel labels)
-    → PaleGiven P (snippet_rows (restyled s styles) source labels (unhighlighted_answer answers))
+    → PlainGiven P (snippet_rows (restyled s styles) source labels (unhighlighted_answer answers))
     (snippet_rows s source labels answers)
-plain_snippets P s styles bare clean source labels answers h k =
-    subst (λ u. PaleGiven P (snippet_rows (restyled s u) source labels (unhighlighted_answer answers))
-    (snippet_rows s source labels answers)) (sym (are_faded styles bare))
-    (pale_snippets P s styles.highlights bare.highlights clean source labels answers h k)
+plain_snippets P s styles are_plain clean source labels answers h k =
+    subst (λ u. PlainGiven P (snippet_rows (restyled s u) source labels (unhighlighted_answer answers))
+    (snippet_rows s source labels answers)) (sym (are_plain_styles styles are_plain))
+    (plain_snippets_with P s styles.highlights are_plain.highlights clean source labels answers h k)

@@ -5,21 +5,21 @@ use Rattle.miette_label_rules.specs.rules.Labels.{style_at}
 use Rattle.miette_style.specs.declared.style.Style.{Style}
 use Rattle.miette_style.specs.rules.Styles.{plain}
 use Rattle.miette_style.specs.rules.Themes.{Styles, no_styles}
-use Rattle.miette_row_laws.specs.laws.Fading.{AreAllPlain, ArePlain}
+use Rattle.miette_row_laws.specs.laws.PlainStyles.{AreAllPlain, ArePlain}
 
 -- of which the labels take these highlights in turn
-abbrev pub faded_styles : List Style → Styles
-faded_styles highlights = record no_styles { highlights = highlights }
+abbrev pub plain_styles : List Style → Styles
+plain_styles highlights = record no_styles { highlights = highlights }
 
-pub are_faded : (s : Styles) → ArePlain s → s ≡ faded_styles s.highlights
-are_faded s h =
+pub are_plain_styles : (s : Styles) → ArePlain s → s ≡ plain_styles s.highlights
+are_plain_styles s h =
     ap₂ (λ (x y : Style). record s { error = x; warning = y }) h.error h.warning
-    ∙ ap₂ (λ (x y : Style). record (faded_styles s.highlights) { advice = x; help = y; link = s.link; linum = s.linum })
+    ∙ ap₂ (λ (x y : Style). record (plain_styles s.highlights) { advice = x; help = y; link = s.link; linum = s.linum })
     h.advice h.help
-    ∙ ap₂ (λ (x y : Style). record (faded_styles s.highlights) { link = x; linum = y }) h.link h.linum
+    ∙ ap₂ (λ (x y : Style). record (plain_styles s.highlights) { link = x; linum = y }) h.link h.linum
 
-pub faded_are_plain : (hs : List Style) → AreAllPlain hs → ArePlain (faded_styles hs)
-faded_are_plain hs h = record {
+pub plain_styles_are_plain : (hs : List Style) → AreAllPlain hs → ArePlain (plain_styles hs)
+plain_styles_are_plain hs h = record {
   error = refl;
   warning = refl;
   advice = refl;
@@ -30,7 +30,7 @@ faded_are_plain hs h = record {
 }
 
 pub none_are_plain : ArePlain no_styles
-none_are_plain = faded_are_plain (plain ∷ []) (refl, tt)
+none_are_plain = plain_styles_are_plain (plain ∷ []) (refl, tt)
 
 index_plain : (hs : List Style) (k : ℕ) → AreAllPlain hs → slice_index_or hs k plain ≡ plain
 index_plain [] k h = refl

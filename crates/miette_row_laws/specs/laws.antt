@@ -3,6 +3,6 @@ pub mod Clean
 pub mod CutLetters
 pub mod Cuts
 pub mod Ends
-pub mod Fading
 pub mod LabelMarks
 pub mod Pictures
+pub mod PlainStyles

@@ -12,7 +12,7 @@ ghost use Rattle.miette_row_laws.specs.laws.Ends.{with_ends};
 ghost use Rattle.miette_row_laws.specs.laws.Cuts.{AreAsWide, AreMoved, Fits, GroupsFit, IsCutBy, IsCutByReach};
 ghost use Rattle.miette_row_laws.specs.laws.Cuts.{IsSameAt, IsWithin, most_columns, pieces_shown, without_limit};
 ghost use Rattle.miette_row_laws.specs.laws.LabelMarks.{StandAtColumns, StandPast, StandUnder};
-ghost use Rattle.miette_row_laws.specs.laws.Fading.{ArePlain, IsPlainRow, restyled, unhighlighted_answer};
+ghost use Rattle.miette_row_laws.specs.laws.PlainStyles.{ArePlain, IsPlainRow, restyled, unhighlighted_answer};
 ghost use Rattle.miette_style.specs.rules.Themes.{Styles, Theme};
 ghost use Rattle.miette_page.specs.rules.Rows.{Run, columns_of, glyphs_of};
 ghost use Rattle.miette_label_rules.specs.rules.Answers.{Answers, Highlight};
@@ -184,7 +184,7 @@ pub fn texts_hang()
 
 /// In plain styles, with any number of highlights, and without a highlighter's pieces the snippets have the same rows
 /// of the same characters in the same columns, and all of them are plain.
-pub fn rows_fade()
+pub fn rows_turn_plain()
     ensures same { (s : SnippetSettings) (styles : Styles) (source : Source) (labels : List Label)
         (answers : Answers) → ArePlain styles →
         option_map (map glyphs_of) (snippet_rows (restyled s styles) source labels (unhighlighted_answer answers))

@@ -4,8 +4,8 @@ ghost use Rattle.std.specs.Prelude.{◌≡◌, ◌++◌, ℕ, List, [], OnErr, O
 ghost use Rattle.std.specs.Prelude.{encode_utf8_all, option_map};
 ghost use Rattle.std.specs.List.{AllByRecursion};
 ghost use Rattle.miette_printed_laws.specs.laws.Clean.{AreCleanSettings, IsCleanTree};
-ghost use Rattle.miette_printed_laws.specs.laws.Colourless.{ArePlain, IsColouredText, IsRestyledText, colourless};
-ghost use Rattle.miette_printed_laws.specs.laws.Colourless.{restyled};
+ghost use Rattle.miette_printed_laws.specs.laws.PlainTexts.{ArePlain, IsColouredText, IsRestyledText, plain_settings};
+ghost use Rattle.miette_printed_laws.specs.laws.PlainTexts.{restyled};
 ghost use Rattle.miette_printed_laws.specs.laws.Headline.{CutsAreExact, LinesThatFitStay, MarksAreApart, TextsHang};
 ghost use Rattle.miette_printed_laws.specs.laws.Headline.{EndsAreDrawn, LabelsAreFolded, LinesAreShown};
 ghost use Rattle.miette_printed_laws.specs.laws.FixPictures.{FixesAreTold};
@@ -105,7 +105,7 @@ impl<H: Highlighter> GraphicalReportHandler<H> {
             OnOk result (all_read (diagnostics_of self.old.settings tree) ≡ true → AreCleanSettings self.old.settings →
             IsCleanTree tree →
             AppendsErasing (string_bytes out.old) (string_bytes out.new)
-            (encode_utf8_all (report_text whole_drawing (colourless self.old.settings) tree unlisted))) }
+            (encode_utf8_all (report_text whole_drawing (plain_settings self.old.settings) tree unlisted))) }
         // that in the same characters and any plain styles,
         ensures plain { let tree = tree_of D.meaning S.source report.now in
             OnOk result (all_read (diagnostics_of self.old.settings tree) ≡ true → AreCleanSettings self.old.settings →

@@ -59,6 +59,7 @@ pub record AreEndsShown (s : SnippetSettings) : Type 0 where
   pub ends : letters_shown (cut_to_columns unicode_characters 8 s) (label_over 3 21 ([] ∷ []) ∷ []) ≡ codes "…d…m…u…"
   pub wide : letters_shown (cut_to_columns ascii_characters 8 s) (label_over 3 21 ([] ∷ []) ∷ [])
       ≡ codes "abcd...m...u..."
+  -- bare: the label has no text
   pub bare : letters_shown (cut_to_columns unicode_characters 8 s) (label_over 3 21 [] ∷ []) ≡ codes "…d…u…"
   pub begin : letters_shown (cut_to_columns unicode_characters 12 s) (label_over 20 53 [] ∷ []) ≡ codes "…pqrstuvwxyz"
   pub end : lower_shown (cut_to_columns unicode_characters 12 s) (label_over 0 17 [] ∷ []) ≡ codes "…klmnopqrs…"

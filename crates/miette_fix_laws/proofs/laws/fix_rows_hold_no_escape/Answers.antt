@@ -1,6 +1,6 @@
 use Rattle.miette_row_laws.proofs.PlainStyles.{none_are_plain}
 use Rattle.miette_style.specs.rules.Themes.{no_styles}
-use Rattle.miette_fix_laws.proofs.PaleFixes.{plain_fix}
+use Rattle.miette_fix_laws.proofs.PlainFixes.{plain_fix}
 use Rattle.miette_fix_laws.proofs.laws.fix_rows_hold_no_escape.Goals as goal
 
 pub returns : goal.returns

@@ -1,7 +1,7 @@
 use Rattle.std.proofs.Common.{sym, ap₂, ◌∙◌}
 use Rattle.miette_picture_rules.specs.rules.Text.{report_text}
 use Rattle.miette_printed_laws.proofs.TextLaws.{TextLaws}
-use Rattle.miette_printed_laws.proofs.ReportFading.{fades-plain}
+use Rattle.miette_printed_laws.proofs.ErasedReport.{erases-plain}
 use Rattle.miette_row_laws.proofs.PlainStyles.{none_are_plain}
 use Rattle.miette_style.specs.rules.Themes.{no_styles}
 use Rattle.miette_printed_laws.proofs.laws.colours_law.Goals as goal
@@ -21,11 +21,11 @@ returns c =
       print-erase = c.printing_law.ensures.erase;
       erase-columns = c.columns_law.ensures;
     } in record {
-      erase = λ drawing s t a law h k. (fades-plain laws drawing law s no_styles t a h k none_are_plain).same;
-      tame = λ drawing s t a law h k. (fades-plain laws drawing law s no_styles t a h k none_are_plain).tame;
+      erase = λ drawing s t a law h k. (erases-plain laws drawing law s no_styles t a h k none_are_plain).same;
+      tame = λ drawing s t a law h k. (erases-plain laws drawing law s no_styles t a h k none_are_plain).tame;
       alike = λ drawing s u t a b law h j k e d.
-          (fades-plain laws drawing law s no_styles t a h k none_are_plain).same
+          (erases-plain laws drawing law s no_styles t a h k none_are_plain).same
           ∙ ap₂ (λ v o. report_text drawing v t o) e d
-          ∙ sym (fades-plain laws drawing law u no_styles t b j k none_are_plain).same;
-      plain = λ drawing s styles t a law h k bare. (fades-plain laws drawing law s styles t a h k bare).same;
+          ∙ sym (erases-plain laws drawing law u no_styles t b j k none_are_plain).same;
+      plain = λ drawing s styles t a law h k are_plain. (erases-plain laws drawing law s styles t a h k are_plain).same;
     }

@@ -1,4 +1,4 @@
--- Rows of runs are rows by columns.
+-- Rows of runs are rows by columns: what their glyphs are.
 use Rattle.std.proofs.Common.{ℕ, zero, suc, ◌+◌, ◌-◌, ◌<◌, ◌≤◌, ◌≡◌, true, false, ltb, leb, eqb, List, [], ◌∷◌, ◌++◌}
 use Rattle.std.proofs.Common.{map, replicate, refl, sym, ap, ap₂, subst, ◌∙◌, ◌&&◌, append_assoc, append-nil, arith}
 use Rattle.std.proofs.lemmas.Bool.{lt-ltb, le-ltb, le-leb, lt-leb, and_right, ne_eqb, eq-eqb}
@@ -11,8 +11,8 @@ use Rattle.miette_snippet_rules.specs.rules.Drawing.{corner_of_several, beside, 
 use Rattle.miette_snippet_rules.specs.rules.SnippetLayout.{before_each}
 use Rattle.miette_row_laws.specs.laws.Pictures.{mark_at, marks_end}
 use Rattle.miette_basics.proofs.Ranges.{range_with_len-append}
-use Rattle.miette_row_laws.proofs.UnstyledRows.{lead_at, lead, corner_pieces, beside_pieces, plain_parts}
-use Rattle.miette_row_laws.proofs.UnstyledRows.{plain_below}
+use Rattle.miette_row_laws.proofs.GlyphRows.{lead_at, lead, corner_pieces, beside_pieces, glyph_rows_of_parts}
+use Rattle.miette_row_laws.proofs.GlyphRows.{glyph_rows_below}
 use Rattle.miette_snippet_rules.specs.rules.Settings.{SnippetSettings}
 
 pub glyphs_of-append : (a b : Row) → glyphs_of (a ++ b) ≡ glyphs_of a ++ glyphs_of b
@@ -59,11 +59,11 @@ pub marks_end-ge : (reached : ℕ) (ms : List Mark) → AreApart reached ms → 
 marks_end-ge reached [] h = omega arith
 marks_end-ge reached (m ∷ ms) h = omega (arith, h.0, h.1.0, h.1.1, marks_end-ge m.until ms h.2)
 
-pub flat_marks : (s : SnippetSettings) (reached : ℕ) (ms : List Mark) → AreApart reached ms →
+pub glyphs_of-marks : (s : SnippetSettings) (reached : ℕ) (ms : List Mark) → AreApart reached ms →
     glyphs_of (mark_runs s reached ms) ≡ map (mark_at s ms)
     (range_with_len reached (marks_end reached ms - reached))
-flat_marks s reached [] h = let z : reached - reached ≡ 0 = omega arith in rw z refl
-flat_marks s reached (m ∷ ms) h =
+glyphs_of-marks s reached [] h = let z : reached - reached ≡ 0 = omega arith in rw z refl
+glyphs_of-marks s reached (m ∷ ms) h =
     let f : ℕ → Glyph = mark_at s (m ∷ ms) in
     let own : ℕ → Glyph = λ column. glyph_of s.width (mark_code s.theme.characters m column) in
     let end : ℕ = marks_end m.until ms in
@@ -93,7 +93,7 @@ flat_marks s reached (m ∷ ms) h =
     ∙ ap (λ r. r ++ (map f (range_with_len m.from b) ++ map f (range_with_len m.until c))) gap
     ∙ ap (λ r. replicate a (glyph_of s.width 32) ++ (r ++ map f (range_with_len m.until c))) mine
     ∙ ap (λ r. replicate a (glyph_of s.width 32) ++ (map own (range_with_len m.from b) ++ r))
-    (rest ∙ sym (flat_marks s m.until ms h.2)))
+    (rest ∙ sym (glyphs_of-marks s m.until ms h.2)))
 
 -- anchors one after the other, before a column
 abbrev pub AreAnchored : ℕ → List Mark → ℕ → Type 0
@@ -111,13 +111,13 @@ lead-before s reached column k (m ∷ ms) h lt =
     let no : eqb k m.anchor ≡ false = ne_eqb k m.anchor (λ e. omega (arith, h.0, e)) in
     rw no (lead-before s (m.anchor + 1) column k ms h.1 (omega (arith, h.0)))
 
-pub flat_lead : (s : SnippetSettings) (reached column : ℕ) (ms : List Mark) → AreAnchored reached ms column →
+pub glyphs_of-lead : (s : SnippetSettings) (reached column : ℕ) (ms : List Mark) → AreAnchored reached ms column →
     glyphs_of (lead_runs s reached ms column) ≡ map (lead_at s ms)
     (range_with_len reached (column - reached))
-flat_lead s reached column [] h =
+glyphs_of-lead s reached column [] h =
     append-nil (replicate (column - reached) (glyph_of s.width 32))
     ∙ sym (map-one (lead_at s []) (glyph_of s.width 32) reached (column - reached) (λ k l u. refl))
-flat_lead s reached column (m ∷ ms) h =
+glyphs_of-lead s reached column (m ∷ ms) h =
     let f : ℕ → Glyph = lead_at s (m ∷ ms) in
     let at : ℕ = m.anchor in
     let ge : at + 1 ≤ column = anchored-ge (at + 1) column ms h.1 in
@@ -140,7 +140,7 @@ flat_lead s reached column (m ∷ ms) h =
     ∙ ap (λ r. r ++ (map f (range_with_len at 1) ++ map f (range_with_len (at + 1) c))) gap
     ∙ ap (λ p. replicate a (glyph_of s.width 32) ++ ((p ∷ []) ++ map f (range_with_len (at + 1) c))) mine
     ∙ ap (λ r. replicate a (glyph_of s.width 32) ++ (glyph_of s.width s.theme.characters.vbar ∷ r))
-    (rest ∙ sym (flat_lead s (at + 1) column ms h.1)))
+    (rest ∙ sym (glyphs_of-lead s (at + 1) column ms h.1)))
 
 -- marks that are apart have anchors one after the other
 apart-weaker : (a b : ℕ) (ms : List Mark) → b ≤ a → AreApart a ms → AreApart b ms
@@ -156,47 +156,48 @@ anchored reached (e ∷ earlier) m later h = (
       (omega (arith, h.1.1)) h.2),
 )
 
-flat_text : (s : SnippetSettings) (earlier : List Mark) (mark : Mark) (front part : List ℕ)
+glyphs_of-text : (s : SnippetSettings) (earlier : List Mark) (mark : Mark) (front part : List ℕ)
     → AreAnchored 0 earlier mark.anchor →
     glyphs_of (text_row s earlier mark front part) ≡ lead s earlier mark
     ++ map (glyph_of s.width) (front ++ part)
-flat_text s earlier mark front part h =
+glyphs_of-text s earlier mark front part h =
     let z : mark.anchor - 0 ≡ mark.anchor = omega arith in
     glyphs_of-append (lead_runs s 0 earlier mark.anchor) (styled_run s.width mark.label.style (front ++ part) ∷ [])
     ∙ ap (λ r. glyphs_of (lead_runs s 0 earlier mark.anchor) ++ r)
     (append-nil (map (glyph_of s.width) (front ++ part)))
     ∙ ap (λ r. r ++ map (glyph_of s.width) (front ++ part))
-    (flat_lead s 0 mark.anchor earlier h ∙ ap (λ n. map (lead_at s earlier) (range_with_len 0 n)) z)
+    (glyphs_of-lead s 0 mark.anchor earlier h ∙ ap (λ n. map (lead_at s earlier) (range_with_len 0 n)) z)
 
-flat_rest : (s : SnippetSettings) (earlier : List Mark) (mark : Mark) (parts : List (List ℕ))
+glyphs_of-rest : (s : SnippetSettings) (earlier : List Mark) (mark : Mark) (parts : List (List ℕ))
     → AreAnchored 0 earlier mark.anchor →
     map glyphs_of (map (text_row s earlier mark (beside s.theme.characters)) parts)
     ≡ map (λ p. lead s earlier mark ++ (beside_pieces s ++ map (glyph_of s.width) p)) parts
-flat_rest s earlier mark [] h = refl
-flat_rest s earlier mark (part ∷ parts) h = ap (λ r. r
+glyphs_of-rest s earlier mark [] h = refl
+glyphs_of-rest s earlier mark (part ∷ parts) h = ap (λ r. r
     ∷ map glyphs_of (map (text_row s earlier mark (beside s.theme.characters)) parts))
-    (flat_text s earlier mark (beside s.theme.characters) part h) ∙ ap (λ r.
+    (glyphs_of-text s earlier mark (beside s.theme.characters) part h) ∙ ap (λ r.
     (lead s earlier mark ++ (beside_pieces s ++ map (glyph_of s.width) part)) ∷ r)
-    (flat_rest s earlier mark parts h)
+    (glyphs_of-rest s earlier mark parts h)
 
-flat_parts : (s : SnippetSettings) (earlier : List Mark) (mark : Mark) (parts : List (List ℕ))
+glyphs_of-parts : (s : SnippetSettings) (earlier : List Mark) (mark : Mark) (parts : List (List ℕ))
     → AreAnchored 0 earlier mark.anchor →
-    map glyphs_of (rows_of_parts s earlier mark parts) ≡ plain_parts s earlier mark parts
-flat_parts s earlier mark [] h = refl
-flat_parts s earlier mark (part ∷ []) h = ap (λ r. r ∷ []) (flat_text s earlier mark (corner s.theme.characters) part h)
-flat_parts s earlier mark (part ∷ next ∷ parts) h =
+    map glyphs_of (rows_of_parts s earlier mark parts) ≡ glyph_rows_of_parts s earlier mark parts
+glyphs_of-parts s earlier mark [] h = refl
+glyphs_of-parts s earlier mark (part ∷ []) h =
+    ap (λ r. r ∷ []) (glyphs_of-text s earlier mark (corner s.theme.characters) part h)
+glyphs_of-parts s earlier mark (part ∷ next ∷ parts) h =
     ap (λ r. r ∷ map glyphs_of (map (text_row s earlier mark (beside s.theme.characters)) (next ∷ parts)))
-    (flat_text s earlier mark (corner_of_several s.theme.characters) part h)
+    (glyphs_of-text s earlier mark (corner_of_several s.theme.characters) part h)
     ∙ ap (λ r. (lead s earlier mark ++ (corner_pieces s s.theme.characters.rcross ++ map (glyph_of s.width) part)) ∷ r)
-    (flat_rest s earlier mark (next ∷ parts) h)
+    (glyphs_of-rest s earlier mark (next ∷ parts) h)
 
-pub flat_below : (s : SnippetSettings) (earlier ms : List Mark) → AreApart 0 (earlier ++ ms)
-    → map glyphs_of (rows_below s earlier ms) ≡ plain_below s earlier ms
-flat_below s earlier [] h = refl
-flat_below s earlier (m ∷ ms) h =
+pub glyphs_of-below : (s : SnippetSettings) (earlier ms : List Mark) → AreApart 0 (earlier ++ ms)
+    → map glyphs_of (rows_below s earlier ms) ≡ glyph_rows_below s earlier ms
+glyphs_of-below s earlier [] h = refl
+glyphs_of-below s earlier (m ∷ ms) h =
     map-append glyphs_of (rows_below s (earlier ++ m ∷ []) ms) (rows_of_parts s earlier m m.label.parts)
     ∙ ap (λ r. r ++ map glyphs_of (rows_of_parts s earlier m m.label.parts))
-    (flat_below s (earlier ++ m ∷ []) ms (subst (λ (xs : List Mark). AreApart 0 xs)
+    (glyphs_of-below s (earlier ++ m ∷ []) ms (subst (λ (xs : List Mark). AreApart 0 xs)
     (sym (append_assoc earlier (m ∷ []) ms)) h))
-    ∙ ap (λ r. plain_below s (earlier ++ m ∷ []) ms ++ r)
-    (flat_parts s earlier m m.label.parts (anchored 0 earlier m ms h))
+    ∙ ap (λ r. glyph_rows_below s (earlier ++ m ∷ []) ms ++ r)
+    (glyphs_of-parts s earlier m m.label.parts (anchored 0 earlier m ms h))

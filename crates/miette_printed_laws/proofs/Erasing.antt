@@ -12,64 +12,65 @@ use Rattle.miette_printed_laws.proofs.TextLaws.{TextLaws, plain-tame, plain-eras
 use Rattle.miette_picture_rules.specs.rules.Settings.{Settings}
 use Rattle.miette_row_laws.specs.laws.Clean.{IsClean}
 use Rattle.miette_printed_laws.specs.laws.Clean.{HaveNoEscapes}
-use Rattle.miette_printed_laws.specs.laws.Colourless.{restyled}
+use Rattle.miette_printed_laws.specs.laws.PlainTexts.{restyled}
 use Rattle.miette_style.specs.rules.Themes.{Styles}
 use Rattle.miette_picture_rules.specs.rules.Indents.{wrapped_under}
 use Rattle.miette_picture_rules.specs.rules.DiagnosticText.{rows_text, line_feed}
 use Rattle.miette_picture_rules.specs.rules.Text.{only_if}
 
 -- The first text is tame, and the second is what it is without its colours.
-pub record Fades (x y : List ℕ) : Type 0 where
+pub record ErasesTo (x y : List ℕ) : Type 0 where
   pub tame : IsTame x
   pub same : erase x ≡ y
 
 -- The first runs hold no escape, and the second are the same in plain styles.
-pub record Pales (xs ys : List Fragment) : Type 0 where
+pub record AreInPlain (xs ys : List Fragment) : Type 0 where
   pub clean : HaveNoEscape xs
   pub same : map plain_run xs ≡ ys
 
-pub fades-to : {x y z : List ℕ} → Fades x y → y ≡ z → Fades x z
-fades-to h e = record { tame = h.tame; same = h.same ∙ e }
+pub erases-to : {x y z : List ℕ} → ErasesTo x y → y ≡ z → ErasesTo x z
+erases-to h e = record { tame = h.tame; same = h.same ∙ e }
 
 module _ (laws : TextLaws) where
-  pub fades-append : (x y u v : List ℕ) → Fades x y → Fades u v → Fades (x ++ u) (y ++ v)
-  fades-append x y u v h k = record {
+  pub erases-append : (x y u v : List ℕ) → ErasesTo x y → ErasesTo u v → ErasesTo (x ++ u) (y ++ v)
+  erases-append x y u v h k = record {
     tame = laws.append-tame x u h.tame k.tame;
     same =
         laws.erase-append x u h.tame k.tame ∙ ap₂ (λ a b. a ++ b) h.same k.same;
   }
 
-  pub fades-clean : (x : List ℕ) → IsClean x → Fades x x
-  fades-clean x h = record { tame = plain-tame laws x h; same = plain-erase laws x h }
+  pub erases-clean : (x : List ℕ) → IsClean x → ErasesTo x x
+  erases-clean x h = record { tame = plain-tame laws x h; same = plain-erase laws x h }
 
-  pub fades-print : (xs ys : List Fragment) → Pales xs ys → Fades (print xs) (print ys)
-  fades-print xs ys h = record {
+  pub erases-print : (xs ys : List Fragment) → AreInPlain xs ys → ErasesTo (print xs) (print ys)
+  erases-print xs ys h = record {
     tame = laws.print-tame xs h.clean;
     same = laws.print-erase xs h.clean
         ∙ ap print h.same;
   }
 
-  pub fades-leading : (x y : List ℕ) → Fades x y → Fades (without_leading x) (without_leading y)
-  fades-leading x y h = record {
+  pub erases-leading : (x y : List ℕ) → ErasesTo x y → ErasesTo (without_leading x) (without_leading y)
+  erases-leading x y h = record {
     tame = laws.leading-tame x h.tame;
     same = laws.leading-erase x h.tame
         ∙ ap without_leading h.same;
   }
 
-  pub fades-trailing : (x y : List ℕ) → Fades x y → Fades (without_trailing x) (without_trailing y)
-  fades-trailing x y h = record {
+  pub erases-trailing : (x y : List ℕ) → ErasesTo x y → ErasesTo (without_trailing x) (without_trailing y)
+  erases-trailing x y h = record {
     tame = laws.trailing-tame x h.tame;
     same = laws.trailing-erase x h.tame
         ∙ ap without_trailing h.same;
   }
 
-  pub fades-if : (b : Bool) (x y u v : List ℕ) → Fades x y → Fades u v → Fades (if b then x else u) (if b then y else v)
-  fades-if true x y u v h k = h
-  fades-if false x y u v h k = k
+  pub erases-if : (b : Bool) (x y u v : List ℕ) → ErasesTo x y → ErasesTo u v
+      → ErasesTo (if b then x else u) (if b then y else v)
+  erases-if true x y u v h k = h
+  erases-if false x y u v h k = k
 
-  pub fades-only_if : (b : Bool) (x y : List ℕ) → Fades x y → Fades (only_if b x) (only_if b y)
-  fades-only_if true x y h = h
-  fades-only_if false x y h = fades-clean [] refl
+  pub erases-only_if : (b : Bool) (x y : List ℕ) → ErasesTo x y → ErasesTo (only_if b x) (only_if b y)
+  erases-only_if true x y h = h
+  erases-only_if false x y h = erases-clean [] refl
 
   abbrev plan : Settings → List ℕ → List ℕ → Plan (List ℕ)
   plan s first further = record {
@@ -83,11 +84,11 @@ module _ (laws : TextLaws) where
     hyphens = cuts_hyphens s.wrapping.word_splitter;
   }
 
-  pub fades-under : (s : Settings) (styles : Styles) (f f2 g g2 : List Fragment) (x y : List ℕ) → Pales f f2 →
-      Pales g g2 → Fades x y → Fades (wrapped_under s f g x) (wrapped_under (restyled s styles) f2 g2 y)
-  fades-under s styles f f2 g g2 x y a b h =
-      let p = fades-print f f2 a in
-      let q = fades-print g g2 b in
+  pub erases-under : (s : Settings) (styles : Styles) (f f2 g g2 : List Fragment) (x y : List ℕ) → AreInPlain f f2 →
+      AreInPlain g g2 → ErasesTo x y → ErasesTo (wrapped_under s f g x) (wrapped_under (restyled s styles) f2 g2 y)
+  erases-under s styles f f2 g g2 x y a b h =
+      let p = erases-print f f2 a in
+      let q = erases-print g g2 b in
       let all : AllTame (plan s (print f) (print g)) x = record { first = p.tame; further = q.tame; inner = h.tame } in
       record {
         tame = laws.wrapped-tame (plan s (print f) (print g)) x all;
@@ -99,21 +100,21 @@ module _ (laws : TextLaws) where
       }
 
   -- Colours have no columns.
-  pub columns-pale : (xs ys : List Fragment) → Pales xs ys → columns_of (tokens (print ys))
+  pub columns-plain : (xs ys : List Fragment) → AreInPlain xs ys → columns_of (tokens (print ys))
       ≡ columns_of (tokens (print xs))
-  columns-pale xs ys h =
-      let p = fades-print xs ys h in
+  columns-plain xs ys h =
+      let p = erases-print xs ys h in
       ap (λ t. columns_of (tokens t)) (sym p.same) ∙ laws.erase-columns (print xs) p.tame
 
-  pub fades-feed : Fades line_feed line_feed
-  fades-feed = fades-clean line_feed refl
+  pub erases-feed : ErasesTo line_feed line_feed
+  erases-feed = erases-clean line_feed refl
 
-  pub fades-rows : (rs : List (List Fragment)) → HaveNoEscapes rs
-      → Fades (rows_text rs) (rows_text (map (map plain_run) rs))
-  fades-rows [] h = fades-clean [] refl
-  fades-rows (r ∷ rs) h =
-      fades-append (print r ++ line_feed) (print (map plain_run r) ++ line_feed) (rows_text rs)
+  pub erases-rows : (rs : List (List Fragment)) → HaveNoEscapes rs
+      → ErasesTo (rows_text rs) (rows_text (map (map plain_run) rs))
+  erases-rows [] h = erases-clean [] refl
+  erases-rows (r ∷ rs) h =
+      erases-append (print r ++ line_feed) (print (map plain_run r) ++ line_feed) (rows_text rs)
       (rows_text (map (map plain_run) rs))
-      (fades-append (print r) (print (map plain_run r)) line_feed line_feed
-      (fades-print r (map plain_run r) (record { clean = h.0; same = refl })) fades-feed)
-      (fades-rows rs h.1)
+      (erases-append (print r) (print (map plain_run r)) line_feed line_feed
+      (erases-print r (map plain_run r) (record { clean = h.0; same = refl })) erases-feed)
+      (erases-rows rs h.1)

@@ -1,4 +1,4 @@
--- The rows of snippets fade, and hold no escape: from what the layer of snippets promises of them.
+-- The rows of snippets turn plain, and hold no escape: from what the layer of snippets promises of them.
 use Rattle.std.proofs.Common.{◌≡◌, ℕ, zero, suc, ◌+◌, ◌-◌, ◌%◌, List, [], ◌∷◌, ◌++◌, map, refl, sym}
 use Rattle.std.proofs.Common.{ap, ap₂, ◌∙◌, Option, Some, None, IfSome, option_map, unwrap_or, drop, length, take}
 use Rattle.std.specs.List.{AllByRecursion}
@@ -10,9 +10,9 @@ use Rattle.miette_style.specs.rules.Styles.{plain}
 use Rattle.miette_style.specs.rules.Escapes.{no_escape}
 use Rattle.miette_label_rules.specs.rules.Answers as snippet_answers
 use Rattle.miette_row_laws.specs.laws.Clean.{IsCleanLabel, IsCleanRow, IsCleanSource, AreCleanDrawings}
-use Rattle.miette_row_laws.specs.laws.Fading as fading
-use Rattle.miette_row_laws.specs.laws.Fading.{AreAllPlain, ArePlain, IsPlainRow, unhighlighted_answer}
-use Rattle.miette_row_laws.proofs.Paling.{all_append}
+use Rattle.miette_row_laws.specs.laws.PlainStyles as row_laws
+use Rattle.miette_row_laws.specs.laws.PlainStyles.{AreAllPlain, ArePlain, IsPlainRow, unhighlighted_answer}
+use Rattle.miette_row_laws.proofs.PlainRows.{all_append}
 use Rattle.miette_style.specs.declared.style.Style.{Style}
 use Rattle.miette_tree.specs.rules.Diagnosis.{Diagnosis, Section}
 use Rattle.miette_tree.specs.rules.DiagnosticParts.{given_labels}
@@ -23,25 +23,25 @@ use Rattle.miette_page.specs.rules.Rows.{Glyph, Row, glyphs_of}
 use Rattle.miette_picture_rules.specs.rules.Answers.{Answer, SourceAnswer, SourceAnswers, first_source}
 use Rattle.miette_printed_laws.specs.laws.Clean.{AreCleanLabels, AreCleanSettings, HaveNoEscapes, IsCleanMeaning}
 use Rattle.miette_printed_laws.specs.laws.Clean.{IsCleanSection}
-use Rattle.miette_printed_laws.specs.laws.Colourless.{AreSnippets, restyled, unhighlighted}
+use Rattle.miette_printed_laws.specs.laws.PlainTexts.{AreSnippets, restyled, unhighlighted}
 use Rattle.miette_picture_rules.specs.rules.DiagnosticText.{line_feed, rows_text}
 use Rattle.miette_picture_rules.specs.rules.Settings.{Settings}
 use Rattle.miette_picture_rules.specs.rules.Snippets.{drawn_rows, rows_over, snippet_settings, run_text, runs_of_row}
 use Rattle.miette_picture_rules.specs.rules.Snippets.{shown_rows, source_rows}
 use Rattle.miette_picture_rules.specs.rules.Sources.{LabelledSource, after_labels, drawn_with, further_sources}
 use Rattle.miette_picture_rules.specs.rules.Sources.{sources_of, styles_after, turned}
-use Rattle.miette_printed_laws.proofs.Bare.{first-bare-source, later-bare-sources}
+use Rattle.miette_printed_laws.proofs.Unhighlighted.{first-unhighlighted-source, later-unhighlighted-sources}
 use Rattle.miette_picture_rules.proofs.RowTexts.{codes_of, rows-appended, run_codes}
 
 -- the clauses of the laws of that layer
 pub record LayoutLaws : Type 0 where
   pub same : (s : snippets.SnippetSettings) (styles : Styles) (source : Source) (labels : List Label)
       (answers : snippet_answers.Answers) → ArePlain styles →
-      option_map (map glyphs_of) (snippet_rows (fading.restyled s styles) source labels
-      (fading.unhighlighted_answer answers)) ≡ option_map (map glyphs_of) (snippet_rows s source labels answers)
+      option_map (map glyphs_of) (snippet_rows (row_laws.restyled s styles) source labels
+      (row_laws.unhighlighted_answer answers)) ≡ option_map (map glyphs_of) (snippet_rows s source labels answers)
   pub plain : (s : snippets.SnippetSettings) (styles : Styles) (source : Source) (labels : List Label)
       (answers : snippet_answers.Answers) → ArePlain styles →
-      IfSome (snippet_rows (fading.restyled s styles) source labels (fading.unhighlighted_answer answers))
+      IfSome (snippet_rows (row_laws.restyled s styles) source labels (row_laws.unhighlighted_answer answers))
       (AllByRecursion IsPlainRow)
   pub clean : (s : snippets.SnippetSettings) (source : Source) (labels : List Label) (answers : snippet_answers.Answers)
       →
@@ -55,9 +55,9 @@ plain_print [] = refl
 plain_print (c ∷ text) = refl
 
 -- in plain, a row prints its characters
-bare_row : (row : Row) → print (map plain_run (runs_of_row row)) ≡ codes_of (glyphs_of row)
-bare_row [] = refl
-bare_row (run ∷ row) = ap₂ (λ x y. x ++ y) (plain_print (run_text run) ∙ run_codes run) (bare_row row)
+row_in_plain : (row : Row) → print (map plain_run (runs_of_row row)) ≡ codes_of (glyphs_of row)
+row_in_plain [] = refl
+row_in_plain (run ∷ row) = ap₂ (λ x y. x ++ y) (plain_print (run_text run) ∙ run_codes run) (row_in_plain row)
     ∙ sym (map-append (λ p. p.code) run.glyphs (glyphs_of row))
 
 pub plain_row : (row : Row) → IsPlainRow row → print (runs_of_row row) ≡ codes_of (glyphs_of row)
@@ -72,10 +72,10 @@ abbrev pub text_of : List (List Glyph) → List ℕ
 text_of [] = []
 text_of (pieces ∷ more) = codes_of pieces ++ line_feed ++ text_of more
 
-pub bare_rows : (rows : List Row) → rows_text (map (map plain_run) (map runs_of_row rows)) ≡ text_of
+pub rows_in_plain : (rows : List Row) → rows_text (map (map plain_run) (map runs_of_row rows)) ≡ text_of
     (map glyphs_of rows)
-bare_rows [] = refl
-bare_rows (row ∷ rows) = ap₂ (λ x y. x ++ line_feed ++ y) (bare_row row) (bare_rows rows)
+rows_in_plain [] = refl
+rows_in_plain (row ∷ rows) = ap₂ (λ x y. x ++ line_feed ++ y) (row_in_plain row) (rows_in_plain rows)
 
 pub plain_rows : (rows : List Row) → AllByRecursion IsPlainRow rows → rows_text (map runs_of_row rows)
     ≡ text_of (map glyphs_of rows)
@@ -85,10 +85,10 @@ plain_rows (row ∷ rows) h = ap₂ (λ x y. x ++ line_feed ++ y) (plain_row row
 abbrev shown_text : Option (List (List Glyph)) → List ℕ
 shown_text rows = text_of (unwrap_or rows [])
 
-bare_shown : (rows : Option (List Row)) → rows_text (map (map plain_run) (shown_rows rows))
+shown_in_plain : (rows : Option (List Row)) → rows_text (map (map plain_run) (shown_rows rows))
     ≡ shown_text (option_map (map glyphs_of) rows)
-bare_shown None = refl
-bare_shown (Some rows) = bare_rows rows
+shown_in_plain None = refl
+shown_in_plain (Some rows) = rows_in_plain rows
 
 plain_shown : (rows : Option (List Row)) → IfSome rows (AllByRecursion IsPlainRow) → rows_text (shown_rows rows)
     ≡ shown_text (option_map (map glyphs_of) rows)
@@ -170,37 +170,38 @@ escapes-appended (x ∷ xs) ys h k = (h.0, escapes-appended xs ys h.1 k)
 
 -- ---- the rows over one source, and over several
 
-source_fade : LayoutLaws → (s : Settings) (styles : Styles) (source : Option Source) (labels : List Label)
+source_plain : LayoutLaws → (s : Settings) (styles : Styles) (source : Option Source) (labels : List Label)
     (a : SourceAnswer) → ArePlain styles
     → rows_text (source_rows (restyled s styles) source labels (unhighlighted_answer a))
     ≡ rows_text (map (map plain_run) (source_rows s source labels a))
-source_fade laws s styles None labels a bare = refl
-source_fade laws s styles (Some source) labels a bare =
+source_plain laws s styles None labels a are_plain = refl
+source_plain laws s styles (Some source) labels a are_plain =
     let l = end_settings (snippet_settings s) a.end_fails source labels in
-    plain_shown (snippet_rows (fading.restyled l styles) source labels (fading.unhighlighted_answer a))
-    (laws.plain l styles source labels a bare)
-    ∙ ap shown_text (laws.same l styles source labels a bare) ∙ sym (bare_shown (snippet_rows l source labels a))
+    plain_shown (snippet_rows (row_laws.restyled l styles) source labels (row_laws.unhighlighted_answer a))
+    (laws.plain l styles source labels a are_plain)
+    ∙ ap shown_text (laws.same l styles source labels a are_plain)
+    ∙ sym (shown_in_plain (snippet_rows l source labels a))
 
 source_clean : LayoutLaws → (s : Settings) (it : LabelledSource) (a : SourceAnswer) → AreCleanSettings s
     → IsCleanOver it → HaveNoEscapes (source_rows s it.source it.labels a)
 source_clean laws s it a h k = clean_over laws s it.source it.labels a h k.0 k.1
 
-over_fade : LayoutLaws → (s : Settings) (styles : Styles) (sources : List LabelledSource) (a : SourceAnswers)
+over_plain : LayoutLaws → (s : Settings) (styles : Styles) (sources : List LabelledSource) (a : SourceAnswers)
     → ArePlain styles → rows_text (rows_over (restyled s styles) sources (map unhighlighted_answer a))
     ≡ rows_text (map (map plain_run) (rows_over s sources a))
-over_fade laws s styles [] a bare = refl
-over_fade laws s styles (it ∷ more) a bare =
+over_plain laws s styles [] a are_plain = refl
+over_plain laws s styles (it ∷ more) a are_plain =
     let n = length it.labels in
     let own = source_rows s it.source it.labels (first_source a) in
     let rest = rows_over (after_labels n s) more (drop 1 a) in
     rows-appended (source_rows (restyled s styles) it.source it.labels (first_source (map unhighlighted_answer a)))
     (rows_over (restyled (after_labels n s) (styles_after n styles)) more (drop 1 (map unhighlighted_answer a)))
     ∙ ap₂ (λ x y. x ++ y)
-    (ap (λ b. rows_text (source_rows (restyled s styles) it.source it.labels b)) (sym (first-bare-source a))
-    ∙ source_fade laws s styles it.source it.labels (first_source a) bare)
+    (ap (λ b. rows_text (source_rows (restyled s styles) it.source it.labels b)) (sym (first-unhighlighted-source a))
+    ∙ source_plain laws s styles it.source it.labels (first_source a) are_plain)
     (ap (λ b. rows_text (rows_over (restyled (after_labels n s) (styles_after n styles)) more b))
-    (sym (later-bare-sources a))
-    ∙ over_fade laws (after_labels n s) (styles_after n styles) more (drop 1 a) (plain_after n styles bare))
+    (sym (later-unhighlighted-sources a))
+    ∙ over_plain laws (after_labels n s) (styles_after n styles) more (drop 1 a) (plain_after n styles are_plain))
     ∙ sym (rows-appended (map (map plain_run) own) (map (map plain_run) rest))
     ∙ ap rows_text (sym (map-append (map plain_run) own rest))
 
@@ -215,12 +216,12 @@ over_clean laws s (it ∷ more) a h k =
 
 -- ---- a diagnostic's
 
-drawn_fade : LayoutLaws → (s : Settings) (styles : Styles) (source : Option Source) (m : Diagnosis) (a : Answer)
+drawn_plain : LayoutLaws → (s : Settings) (styles : Styles) (source : Option Source) (m : Diagnosis) (a : Answer)
     → ArePlain styles → rows_text (drawn_rows (restyled s styles) source m (unhighlighted a))
     ≡ rows_text (map (map plain_run) (drawn_rows s source m a))
-drawn_fade laws s styles source m a bare = over_fade laws (drawn_with m.snippets s) styles (sources_of source m)
+drawn_plain laws s styles source m a are_plain = over_plain laws (drawn_with m.snippets s) styles (sources_of source m)
     a.sources
-    bare
+    are_plain
 
 drawn_clean : LayoutLaws → (s : Settings) (source : Option Source) (m : Diagnosis) (a : Answer) →
     AreCleanSettings s → IfSome source IsCleanSource → IsCleanMeaning m → HaveNoEscapes (drawn_rows s source m a)
@@ -228,4 +229,4 @@ drawn_clean laws s source m a h k j = over_clean laws (drawn_with m.snippets s) 
     ((k, labels-clean m.labels j.labels), further-clean m.snippets j.snippets)
 
 pub drawn_snippets : LayoutLaws → AreSnippets drawn_rows
-drawn_snippets laws = record { fade = drawn_fade laws; clean = drawn_clean laws }
+drawn_snippets laws = record { plain = drawn_plain laws; clean = drawn_clean laws }

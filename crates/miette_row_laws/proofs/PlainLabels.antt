@@ -7,7 +7,7 @@ use Rattle.miette_protocol.specs.views.Meaning.{Label}
 use Rattle.miette_style.specs.declared.style.Style.{Style}
 use Rattle.std.specs.Prelude.{nat_le}
 use Rattle.miette_row_laws.specs.laws.Clean.{IsClean, IsCleanText, IsCleanLabel}
-use Rattle.miette_row_laws.specs.laws.Fading.{AreAllPlain}
+use Rattle.miette_row_laws.specs.laws.PlainStyles.{AreAllPlain}
 use Rattle.miette_snippet_rules.specs.rules.Gutters.{most_labels, gutter_columns}
 use Rattle.miette_label_rules.specs.rules.Labels.{DrawnLabel, parts_of, drawn_label, drawn_from, multi_line}
 use Rattle.miette_label_rules.specs.rules.Labels.{is_multi_line}
@@ -16,17 +16,17 @@ use Rattle.miette_label_rules.specs.rules.Groups.{put_label, in_order}
 use Rattle.miette_row_laws.proofs.CleanTexts.{clean_parts}
 use Rattle.miette_basics.proofs.Cases.{by_cases}
 use Rattle.miette_row_laws.proofs.PlainStyles.{plain_at}
-use Rattle.miette_row_laws.proofs.Paling.{bleached, bleached_mark, HasCleanParts, IsCleanMark}
+use Rattle.miette_row_laws.proofs.PlainRows.{plain_label, plain_mark, HasCleanParts, IsCleanMark}
 
 -- a filter that styles don't matter to
-pub filter_bleached : (p : DrawnLabel → Bool) → ((label : DrawnLabel) → p (bleached label) ≡ p label)
-    → (labels : List DrawnLabel) → filter p (map bleached labels) ≡ map bleached (filter p labels)
-filter_bleached p same [] = refl
-filter_bleached p same (label ∷ labels) =
-    by_cases {C = filter p (map bleached (label ∷ labels)) ≡ map bleached (filter p (label ∷ labels))} (p label)
-    (λ t. let u : p (bleached label) ≡ true = same label ∙ t in
-    rw (u, t) (ap (λ r. bleached label ∷ r) (filter_bleached p same labels)))
-    (λ g. let u : p (bleached label) ≡ false = same label ∙ g in rw (u, g) (filter_bleached p same labels))
+pub filter_plain : (p : DrawnLabel → Bool) → ((label : DrawnLabel) → p (plain_label label) ≡ p label)
+    → (labels : List DrawnLabel) → filter p (map plain_label labels) ≡ map plain_label (filter p labels)
+filter_plain p same [] = refl
+filter_plain p same (label ∷ labels) =
+    by_cases {C = filter p (map plain_label (label ∷ labels)) ≡ map plain_label (filter p (label ∷ labels))} (p label)
+    (λ t. let u : p (plain_label label) ≡ true = same label ∙ t in
+    rw (u, t) (ap (λ r. plain_label label ∷ r) (filter_plain p same labels)))
+    (λ g. let u : p (plain_label label) ≡ false = same label ∙ g in rw (u, g) (filter_plain p same labels))
 
 all_if : {A : Type 0} (Q : A → Type 0) (b : Bool) (xs ys : List A) → AllByRecursion Q xs → AllByRecursion Q ys
     → AllByRecursion Q (if b then xs else ys)
@@ -41,10 +41,10 @@ all_filter Q p (x ∷ xs) h = all_if Q (p x) (x ∷ filter p xs) (filter p xs) (
 
 -- ---- marks
 
-marks_from-bleached : (text : Text) (reached : ℕ) (labels : List DrawnLabel)
-    → marks_from text reached (map bleached labels) ≡ map bleached_mark (marks_from text reached labels)
-marks_from-bleached text reached [] = refl
-marks_from-bleached text reached (label ∷ labels) =
+marks_from-plain : (text : Text) (reached : ℕ) (labels : List DrawnLabel)
+    → marks_from text reached (map plain_label labels) ≡ map plain_mark (marks_from text reached labels)
+marks_from-plain text reached [] = refl
+marks_from-plain text reached (label ∷ labels) =
     let mark : Mark = record {
       from = mark_from text reached label;
       until = mark_until text reached label;
@@ -52,11 +52,11 @@ marks_from-bleached text reached (label ∷ labels) =
           mark_anchor text reached label;
       label = label;
     } in
-    ap (λ r. bleached_mark mark ∷ r) (marks_from-bleached text (mark_until text reached label) labels)
+    ap (λ r. plain_mark mark ∷ r) (marks_from-plain text (mark_until text reached label) labels)
 
-pub marks_bleached : (text : Text) (labels : List DrawnLabel) → marks text (map bleached labels)
-    ≡ map bleached_mark (marks text labels)
-marks_bleached text labels = marks_from-bleached text 0 labels
+pub marks_plain : (text : Text) (labels : List DrawnLabel) → marks text (map plain_label labels)
+    ≡ map plain_mark (marks text labels)
+marks_plain text labels = marks_from-plain text 0 labels
 
 marks_from-clean : (text : Text) (reached : ℕ) (labels : List DrawnLabel) → AllByRecursion HasCleanParts labels
     → AllByRecursion IsCleanMark (marks_from text reached labels)
@@ -72,29 +72,30 @@ marks_clean text labels h = marks_from-clean text 0 labels h
 
 -- ---- gutters
 
-length_bleached : (labels : List DrawnLabel) → length (map bleached labels) ≡ length labels
-length_bleached [] = refl
-length_bleached (label ∷ labels) = ap suc (length_bleached labels)
+length_plain : (labels : List DrawnLabel) → length (map plain_label labels) ≡ length labels
+length_plain [] = refl
+length_plain (label ∷ labels) = ap suc (length_plain labels)
 
-most_bleached : (labels : List DrawnLabel) (lines : List Line) → most_labels (map bleached labels) lines
+most_plain : (labels : List DrawnLabel) (lines : List Line) → most_labels (map plain_label labels) lines
     ≡ most_labels labels lines
-most_bleached labels [] = refl
-most_bleached labels (line ∷ lines) =
-    ap₂ max (ap length (filter_bleached (is_multi_line line) (λ label. refl) labels)
-    ∙ length_bleached (multi_line line labels)) (most_bleached labels lines)
+most_plain labels [] = refl
+most_plain labels (line ∷ lines) =
+    ap₂ max (ap length (filter_plain (is_multi_line line) (λ label. refl) labels)
+    ∙ length_plain (multi_line line labels)) (most_plain labels lines)
 
-pub gutter_bleached : (labels : List DrawnLabel) (lines : List Line) → gutter_columns (map bleached labels) lines
+pub gutter_plain : (labels : List DrawnLabel) (lines : List Line) → gutter_columns (map plain_label labels) lines
     ≡ gutter_columns labels lines
-gutter_bleached labels lines = ap (λ most. if most == 0 then 0 else most + 3) (most_bleached labels lines)
+gutter_plain labels lines = ap (λ most. if most == 0 then 0 else most + 3) (most_plain labels lines)
 
 -- ---- labels as they are drawn
 
-pub drawn_bleached : (hs : List Style) → AreAllPlain hs → (ends : Bool) (styles : List Style) (n i : ℕ)
-    (labels : List Label) → drawn_from ends hs n i labels ≡ map bleached (drawn_from ends styles n i labels)
-drawn_bleached hs bare ends styles n i [] = refl
-drawn_bleached hs bare ends styles n i (label ∷ labels) =
-    ap₂ (λ (style : Style) r. record (drawn_label ends styles n i label) { style = style } ∷ r) (plain_at hs i bare)
-    (drawn_bleached hs bare ends styles n (i + 1) labels)
+pub drawn_plain : (hs : List Style) → AreAllPlain hs → (ends : Bool) (styles : List Style) (n i : ℕ)
+    (labels : List Label) → drawn_from ends hs n i labels ≡ map plain_label (drawn_from ends styles n i labels)
+drawn_plain hs are_plain ends styles n i [] = refl
+drawn_plain hs are_plain ends styles n i (label ∷ labels) =
+    ap₂ (λ (style : Style) r. record (drawn_label ends styles n i label) { style = style } ∷ r)
+    (plain_at hs i are_plain)
+    (drawn_plain hs are_plain ends styles n (i + 1) labels)
 
 text_clean : (text : Option (List ℕ)) → IfSome text IsCleanText → AllByRecursion IsClean (parts_of text)
 text_clean None h = tt

@@ -14,8 +14,8 @@ use Rattle.miette_picture_rules.specs.rules.PossibleAnswers.{AreAnswers, IsTextO
 use Rattle.miette_picture_rules.specs.rules.DiagnosticText.{Drawing, ShownFix, SnippetRows, rows_text}
 use Rattle.miette_picture_rules.specs.rules.Text.{report_text}
 use Rattle.miette_tree.specs.rules.Tree.{Tree}
-use Rattle.miette_row_laws.specs.laws.Fading.{unhighlighted_answer}
-pub use Rattle.miette_row_laws.specs.laws.Fading.{ArePlain}
+use Rattle.miette_row_laws.specs.laws.PlainStyles.{unhighlighted_answer}
+pub use Rattle.miette_row_laws.specs.laws.PlainStyles.{ArePlain}
 use Rattle.miette_row_laws.specs.laws.Clean.{IsCleanSource, IsCleanText}
 use Rattle.miette_printed_laws.specs.laws.Clean.{AreCleanSettings, HaveNoEscapes, IsCleanMeaning}
 
@@ -23,8 +23,8 @@ use Rattle.miette_printed_laws.specs.laws.Clean.{AreCleanSettings, HaveNoEscapes
 abbrev pub restyled : Settings → Styles → Settings
 restyled s styles = record s { theme = record s.theme { styles = styles } }
 
-abbrev pub colourless : Settings → Settings
-colourless s = restyled s no_styles
+abbrev pub plain_settings : Settings → Settings
+plain_settings s = restyled s no_styles
 
 abbrev pub unhighlighted : Answer → Answer
 unhighlighted a = record a { sources = map unhighlighted_answer a.sources }
@@ -48,7 +48,7 @@ IsRestyledText drawing s t bytes =
 -- What a diagnostic's snippet rows have to be: in plain styles and without pieces they print the same rows with each
 -- style made plain; and they hold no escape where nothing that they are made of does.
 pub record AreSnippets (rows : SnippetRows) : Type 0 where
-  pub fade : (s : Settings) (styles : Styles) (source : Option Source) (m : Diagnosis) (a : Answer) →
+  pub plain : (s : Settings) (styles : Styles) (source : Option Source) (m : Diagnosis) (a : Answer) →
       ArePlain styles → rows_text (rows (restyled s styles) source m (unhighlighted a))
       ≡ rows_text (map (map plain_run) (rows s source m a))
   pub clean : (s : Settings) (source : Option Source) (m : Diagnosis) (a : Answer) →
@@ -56,15 +56,15 @@ pub record AreSnippets (rows : SnippetRows) : Type 0 where
       HaveNoEscapes (rows s source m a)
 
 -- The same of a fix: it prints the same rows as another one with each style made plain.
-pub record IsFaded (faded fix : ShownFix) : Type 0 where
-  pub message : faded.message ≡ fix.message
-  pub rows : rows_text faded.rows ≡ rows_text (map (map plain_run) fix.rows)
+pub record IsPlainFix (plain fix : ShownFix) : Type 0 where
+  pub message : plain.message ≡ fix.message
+  pub rows : rows_text plain.rows ≡ rows_text (map (map plain_run) fix.rows)
 
-abbrev pub AreFaded : List ShownFix → List ShownFix → Type 0
-AreFaded [] [] = Unit {0}
-AreFaded [] (fix ∷ fixes) = ⊥
-AreFaded (faded ∷ more) [] = ⊥
-AreFaded (faded ∷ more) (fix ∷ fixes) = IsFaded faded fix × AreFaded more fixes
+abbrev pub ArePlainFixes : List ShownFix → List ShownFix → Type 0
+ArePlainFixes [] [] = Unit {0}
+ArePlainFixes [] (fix ∷ fixes) = ⊥
+ArePlainFixes (plain ∷ more) [] = ⊥
+ArePlainFixes (plain ∷ more) (fix ∷ fixes) = IsPlainFix plain fix × ArePlainFixes more fixes
 
 -- neither its message nor its rows hold an escape
 pub record IsCleanShown (fix : ShownFix) : Type 0 where
@@ -74,8 +74,8 @@ pub record IsCleanShown (fix : ShownFix) : Type 0 where
 -- What a diagnostic's snippets and fixes have to be.
 pub record AreDrawings (drawing : Drawing) : Type 0 where
   pub snippets : AreSnippets drawing.rows
-  pub fade : (s : Settings) (styles : Styles) (source : Option Source) (m : Diagnosis) (a : Answer) →
-      ArePlain styles → AreFaded (drawing.fixes (restyled s styles) source m (unhighlighted a))
+  pub plain : (s : Settings) (styles : Styles) (source : Option Source) (m : Diagnosis) (a : Answer) →
+      ArePlain styles → ArePlainFixes (drawing.fixes (restyled s styles) source m (unhighlighted a))
       (drawing.fixes s source m a)
   pub clean : (s : Settings) (source : Option Source) (m : Diagnosis) (a : Answer) →
       AreCleanSettings s → IfSome source IsCleanSource → IsCleanMeaning m →
@@ -85,10 +85,10 @@ pub record AreDrawings (drawing : Drawing) : Type 0 where
 
 -- The bytes of a report's text under some answers, which without their colours are those of its text in plain styles
 -- and without a highlighter, under the same reads. Those answers are possible there too, so that every snippet has rows
--- in plain styles: what is left is a text that the colourless handler may give.
+-- in plain styles: what is left is a text that the handler in plain settings may give.
 pub record IsColouredText (drawing : Drawing) (s : Settings) (blank : Bool) (t : Tree) (bytes : List ℕ) : Type 0 where
   pub answers : Answers
   pub are : AreAnswers s blank t answers
   pub text : bytes ≡ encode_utf8_all (report_text drawing s t answers)
-  pub possible : AreAnswers (colourless s) true t (unhighlighted_answers answers)
-  pub erased : erase bytes ≡ encode_utf8_all (report_text drawing (colourless s) t (unhighlighted_answers answers))
+  pub possible : AreAnswers (plain_settings s) true t (unhighlighted_answers answers)
+  pub erased : erase bytes ≡ encode_utf8_all (report_text drawing (plain_settings s) t (unhighlighted_answers answers))

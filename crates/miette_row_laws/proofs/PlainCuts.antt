@@ -23,33 +23,33 @@ use Rattle.miette_snippet_rules.specs.rules.PrintedCells.{printed_cells}
 use Rattle.miette_row_laws.specs.laws.Clean.{IsClean}
 use Rattle.miette_row_laws.proofs.CleanTexts.{AreCleanCells, AreCleanPieces, clean_append, clean_first, clean_rest}
 use Rattle.miette_row_laws.proofs.CleanTexts.{clean_cons, clean_line, line_same}
-use Rattle.miette_row_laws.proofs.Paling.{bleached, bleached_mark, IsCleanMark, PaleRow, PaleRun, pale_nil, pale_cons}
-use Rattle.miette_row_laws.proofs.Paling.{pale_append, pale_if}
+use Rattle.miette_row_laws.proofs.PlainRows.{plain_label, plain_mark, IsCleanMark, PlainRow, PlainRun, plain_nil}
+use Rattle.miette_row_laws.proofs.PlainRows.{plain_cons, plain_append, plain_if}
 
 -- ---- the same ends, the same stretches, the same columns
 
-pub ends_bleached : (ms : List Mark) → mark_ends (map bleached_mark ms) ≡ mark_ends ms
-ends_bleached [] = refl
-ends_bleached (m ∷ ms) =
-    ap (λ es. m.from ∷ hung_at m.label.parts m.anchor ++ (m.until - 1) ∷ es) (ends_bleached ms)
+pub ends_plain : (ms : List Mark) → mark_ends (map plain_mark ms) ≡ mark_ends ms
+ends_plain [] = refl
+ends_plain (m ∷ ms) =
+    ap (λ es. m.from ∷ hung_at m.label.parts m.anchor ++ (m.until - 1) ∷ es) (ends_plain ms)
 
-pub spreads_bleached : (line : Line) (text : Text) (labels : List DrawnLabel)
-    → spread_ends line text (map bleached labels) ≡ spread_ends line text labels
-spreads_bleached line text [] = refl
-spreads_bleached line text (label ∷ labels) =
+pub spreads_plain : (line : Line) (text : Text) (labels : List DrawnLabel)
+    → spread_ends line text (map plain_label labels) ≡ spread_ends line text labels
+spreads_plain line text [] = refl
+spreads_plain line text (label ∷ labels) =
     ap (λ more. (if starts_on line label then first_column text.cells text.text_end text.width label.start ∷ []
     else if ends_on line label then (last_column text.cells text.text_end text.width label.after - 1) ∷ []
-    else []) ++ more) (spreads_bleached line text labels)
+    else []) ++ more) (spreads_plain line text labels)
 
-moved_bleached : (many : ℕ) (cut : List Stretch) (ms : List Mark) → map (row_mark many cut) (map bleached_mark ms)
-    ≡ map bleached_mark (map (row_mark many cut) ms)
-moved_bleached many cut [] = refl
-moved_bleached many cut (m ∷ ms) = ap (λ r. bleached_mark (row_mark many cut m) ∷ r) (moved_bleached many cut ms)
+moved_plain : (many : ℕ) (cut : List Stretch) (ms : List Mark) → map (row_mark many cut) (map plain_mark ms)
+    ≡ map plain_mark (map (row_mark many cut) ms)
+moved_plain many cut [] = refl
+moved_plain many cut (m ∷ ms) = ap (λ r. plain_mark (row_mark many cut m) ∷ r) (moved_plain many cut ms)
 
-pub shown_bleached : (many : ℕ) (cut : Option (List Stretch)) (ms : List Mark)
-    → shown_marks many cut (map bleached_mark ms) ≡ map bleached_mark (shown_marks many cut ms)
-shown_bleached many None ms = refl
-shown_bleached many (Some cut) ms = moved_bleached many cut ms
+pub shown_marks_plain : (many : ℕ) (cut : Option (List Stretch)) (ms : List Mark)
+    → shown_marks many cut (map plain_mark ms) ≡ map plain_mark (shown_marks many cut ms)
+shown_marks_plain many None ms = refl
+shown_marks_plain many (Some cut) ms = moved_plain many cut ms
 
 moved_clean : (many : ℕ) (cut : List Stretch) (ms : List Mark) → AllByRecursion IsCleanMark ms
     → AllByRecursion IsCleanMark (map (row_mark many cut) ms)
@@ -136,33 +136,34 @@ dots_clean t =
     by_cases {C = AreCleanPieces (dots t).glyphs} (ltb t.characters.vbar 0x80) (λ y. rw y refl) (λ n. rw n refl)
 
 module _ (P : Type 0) where
-  pale_line : (pieces : List Highlight) (cells : List Cell) → (P → AreCleanCells cells)
-      → PaleRow P (line_runs [] cells) (line_runs pieces cells)
-  pale_line pieces cells h = record {
+  plain_line : (pieces : List Highlight) (cells : List Cell) → (P → AreCleanCells cells)
+      → PlainRow P (line_runs [] cells) (line_runs pieces cells)
+  plain_line pieces cells h = record {
     plain = (refl, tt);
     same = append-nil (printed_cells cells)
         ∙ sym (line_same pieces cells);
     clean = λ p. clean_line pieces cells (h p);
   }
 
-  pub pale_dots : (t : Theme) (styles : Styles) → styles.linum ≡ plain
-      → PaleRun P (dots (record t { styles = styles })) (dots t)
-  pale_dots t styles h = record { plain = h; same = refl; clean = λ p. dots_clean t }
+  pub plain_dots : (t : Theme) (styles : Styles) → styles.linum ≡ plain
+      → PlainRun P (dots (record t { styles = styles })) (dots t)
+  plain_dots t styles h = record { plain = h; same = refl; clean = λ p. dots_clean t }
 
-  pale_cut : (pale run : Run) (pieces : List Highlight) (before : ℕ) (cut : List Stretch) → PaleRun P pale run
-      → (P → AllByRecursion IsCleanStretch cut)
-      → PaleRow P (cut_runs pale [] before cut) (cut_runs run pieces before cut)
-  pale_cut pale run pieces before [] d h = pale_nil P
-  pale_cut pale run pieces before (s ∷ later) d h =
+  plain_cut : (run_in_plain run : Run) (pieces : List Highlight) (before : ℕ) (cut : List Stretch)
+      → PlainRun P run_in_plain run → (P → AllByRecursion IsCleanStretch cut)
+      → PlainRow P (cut_runs run_in_plain [] before cut) (cut_runs run pieces before cut)
+  plain_cut run_in_plain run pieces before [] d h = plain_nil P
+  plain_cut run_in_plain run pieces before (s ∷ later) d h =
       let own : List Highlight = pieces_within before (bytes_in s.cells) pieces in
-      pale_append P (if s.shown then line_runs [] s.cells else pale ∷ [])
+      plain_append P (if s.shown then line_runs [] s.cells else run_in_plain ∷ [])
       (if s.shown then line_runs own s.cells else run ∷ [])
-      (cut_runs pale [] (before + bytes_in s.cells) later) (cut_runs run pieces (before + bytes_in s.cells) later)
-      (pale_if P s.shown (pale_line own s.cells (λ p. (h p).0)) (pale_cons P d (pale_nil P)))
-      (pale_cut pale run pieces (before + bytes_in s.cells) later d (λ p. (h p).1))
+      (cut_runs run_in_plain [] (before + bytes_in s.cells) later)
+      (cut_runs run pieces (before + bytes_in s.cells) later)
+      (plain_if P s.shown (plain_line own s.cells (λ p. (h p).0)) (plain_cons P d (plain_nil P)))
+      (plain_cut run_in_plain run pieces (before + bytes_in s.cells) later d (λ p. (h p).1))
 
-  pub pale_shown : (pale run : Run) (cut : Option (List Stretch)) (pieces : List Highlight) (cells : List Cell)
-      → PaleRun P pale run → (P → AreCleanCells cells) → (P → IfSome cut (AllByRecursion IsCleanStretch)) →
-      PaleRow P (shown_runs pale cut [] cells) (shown_runs run cut pieces cells)
-  pale_shown pale run None pieces cells d h k = pale_line pieces cells h
-  pale_shown pale run (Some cut) pieces cells d h k = pale_cut pale run pieces 0 cut d k
+  pub plain_shown : (run_in_plain run : Run) (cut : Option (List Stretch)) (pieces : List Highlight) (cells : List Cell)
+      → PlainRun P run_in_plain run → (P → AreCleanCells cells) → (P → IfSome cut (AllByRecursion IsCleanStretch)) →
+      PlainRow P (shown_runs run_in_plain cut [] cells) (shown_runs run cut pieces cells)
+  plain_shown run_in_plain run None pieces cells d h k = plain_line pieces cells h
+  plain_shown run_in_plain run (Some cut) pieces cells d h k = plain_cut run_in_plain run pieces 0 cut d k

@@ -1,4 +1,4 @@
--- The settings of snippets and answers without colours, and rows that are plain.
+-- Settings of snippets in plain styles, answers without a highlighter, and rows that are plain.
 use Rattle.std.specs.Prelude.{◌≡◌, List, []}
 use Rattle.std.specs.List.{AllByRecursion}
 use Rattle.miette_label_rules.specs.rules.Answers.{Answers}
@@ -26,8 +26,8 @@ abbrev pub restyled : SnippetSettings → Styles → SnippetSettings
 restyled s styles = record s { theme = record s.theme { styles = styles } }
 
 -- the same settings with every style plain, as in the shipped themes without colours
-abbrev pub colourless : SnippetSettings → SnippetSettings
-colourless s = restyled s no_styles
+abbrev pub plain_settings : SnippetSettings → SnippetSettings
+plain_settings s = restyled s no_styles
 
 -- the same reads without a highlighter
 abbrev pub unhighlighted_answer : Answers → Answers

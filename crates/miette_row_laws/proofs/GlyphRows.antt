@@ -1,4 +1,4 @@
--- The rows under a line by columns, without styles.
+-- The rows under a line by columns: their glyphs, which have no styles.
 use Rattle.std.proofs.Common.{ℕ, List, [], ◌∷◌, ◌++◌, map, cond, eqb}
 use Rattle.std.specs.List.{range_with_len}
 use Rattle.miette_page.specs.rules.Rows.{Glyph, glyph_of}
@@ -26,15 +26,15 @@ abbrev pub beside_pieces : SnippetSettings → List Glyph
 beside_pieces s = glyph_of s.width 32 ∷ glyph_of s.width 32 ∷ glyph_of s.width s.theme.characters.vbar
     ∷ glyph_of s.width 32 ∷ []
 
-abbrev pub plain_parts : SnippetSettings → List Mark → Mark → List (List ℕ) → List (List Glyph)
-plain_parts s earlier mark [] = []
-plain_parts s earlier mark (part ∷ []) = (lead s earlier mark
+abbrev pub glyph_rows_of_parts : SnippetSettings → List Mark → Mark → List (List ℕ) → List (List Glyph)
+glyph_rows_of_parts s earlier mark [] = []
+glyph_rows_of_parts s earlier mark (part ∷ []) = (lead s earlier mark
     ++ (corner_pieces s s.theme.characters.hbar ++ map (glyph_of s.width) part)) ∷ []
-plain_parts s earlier mark (part ∷ next ∷ parts) =
+glyph_rows_of_parts s earlier mark (part ∷ next ∷ parts) =
     (lead s earlier mark ++ (corner_pieces s s.theme.characters.rcross ++ map (glyph_of s.width) part))
     ∷ map (λ p. lead s earlier mark ++ (beside_pieces s ++ map (glyph_of s.width) p)) (next ∷ parts)
 
-abbrev pub plain_below : SnippetSettings → List Mark → List Mark → List (List Glyph)
-plain_below s earlier [] = []
-plain_below s earlier (mark ∷ marks) = plain_below s (earlier ++ mark ∷ []) marks
-    ++ plain_parts s earlier mark mark.label.parts
+abbrev pub glyph_rows_below : SnippetSettings → List Mark → List Mark → List (List Glyph)
+glyph_rows_below s earlier [] = []
+glyph_rows_below s earlier (mark ∷ marks) = glyph_rows_below s (earlier ++ mark ∷ []) marks
+    ++ glyph_rows_of_parts s earlier mark mark.label.parts

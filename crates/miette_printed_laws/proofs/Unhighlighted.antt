@@ -4,7 +4,7 @@ use Rattle.std.proofs.Common.{◌≡◌, ℕ, zero, suc, Bool, true, List, [], �
 use Rattle.std.proofs.Common.{subst}
 use Rattle.miette_tree.specs.rules.Tree.{Tree, tree}
 use Rattle.miette_style.specs.rules.Themes.{Styles}
-use Rattle.miette_row_laws.specs.laws.Fading.{unhighlighted_answer}
+use Rattle.miette_row_laws.specs.laws.PlainStyles.{unhighlighted_answer}
 use Rattle.miette_picture_rules.specs.rules.Settings.{Settings}
 use Rattle.miette_picture_rules.specs.rules.Snippets.{whole_drawing, snippet_settings}
 use Rattle.miette_picture_rules.specs.rules.Sources.{LabelledSource, snippets_after, snippets_with, sources_of}
@@ -20,8 +20,8 @@ use Rattle.miette_picture_rules.specs.rules.PossibleAnswers.{AreAnswers, AreAnsw
 use Rattle.miette_picture_rules.specs.rules.PrintedDiagnostics.{all_read, diagnostics_of, reads_labels}
 use Rattle.miette_picture_rules.specs.rules.Text.{report_text}
 use Rattle.miette_printed_laws.specs.laws.Alike.{answer_at, numbered_answers}
-use Rattle.miette_printed_laws.specs.laws.Colourless.{restyled, unhighlighted, unhighlighted_answers}
-use Rattle.miette_printed_laws.specs.laws.Colourless.{unhighlighted_related_answers}
+use Rattle.miette_printed_laws.specs.laws.PlainTexts.{restyled, unhighlighted, unhighlighted_answers}
+use Rattle.miette_printed_laws.specs.laws.PlainTexts.{unhighlighted_related_answers}
 use Rattle.miette_printed_laws.specs.laws.Paths.{Step, to_cause, to_related, printed_at}
 use Rattle.miette_printed_laws.proofs.Only.{nothing_at}
 use Rattle.miette_printed_laws.proofs.PrintedAnswers.{Agree, AgreeAlong, AgreeOver, agreed_alike, answer_there}
@@ -29,54 +29,57 @@ use Rattle.miette_printed_laws.proofs.PrintedAnswers.{reads_there}
 
 -- ---- the parts of such answers
 
-pub first-bare-source : (a : SourceAnswers) → unhighlighted_answer (first_source a) ≡ first_source
+pub first-unhighlighted-source : (a : SourceAnswers) → unhighlighted_answer (first_source a) ≡ first_source
     (map unhighlighted_answer a)
-first-bare-source [] = refl
-first-bare-source (own ∷ more) = refl
+first-unhighlighted-source [] = refl
+first-unhighlighted-source (own ∷ more) = refl
 
-pub later-bare-sources : (a : SourceAnswers) → map unhighlighted_answer (drop 1 a) ≡ drop 1 (map unhighlighted_answer a)
-later-bare-sources [] = refl
-later-bare-sources (own ∷ more) = refl
+pub later-unhighlighted-sources : (a : SourceAnswers)
+    → map unhighlighted_answer (drop 1 a) ≡ drop 1 (map unhighlighted_answer a)
+later-unhighlighted-sources [] = refl
+later-unhighlighted-sources (own ∷ more) = refl
 
-pub own-bare : (a : Answers) → unhighlighted (own_answer a) ≡ own_answer (unhighlighted_answers a)
-own-bare unlisted = refl
-own-bare (listed own cause related) = refl
+pub own-unhighlighted : (a : Answers) → unhighlighted (own_answer a) ≡ own_answer (unhighlighted_answers a)
+own-unhighlighted unlisted = refl
+own-unhighlighted (listed own cause related) = refl
 
-pub cause-bare : (a : Answers) → unhighlighted_answers (cause_answers a) ≡ cause_answers (unhighlighted_answers a)
-cause-bare unlisted = refl
-cause-bare (listed own cause related) = refl
+pub cause-unhighlighted : (a : Answers)
+    → unhighlighted_answers (cause_answers a) ≡ cause_answers (unhighlighted_answers a)
+cause-unhighlighted unlisted = refl
+cause-unhighlighted (listed own cause related) = refl
 
-pub related-bare : (a : Answers) → unhighlighted_related_answers (related_answers a)
+pub related-unhighlighted : (a : Answers) → unhighlighted_related_answers (related_answers a)
     ≡ related_answers (unhighlighted_answers a)
-related-bare unlisted = refl
-related-bare (listed own cause related) = refl
+related-unhighlighted unlisted = refl
+related-unhighlighted (listed own cause related) = refl
 
-pub first-bare : (more : RelatedAnswers) → unhighlighted_answers (first_answers more)
+pub first-unhighlighted : (more : RelatedAnswers) → unhighlighted_answers (first_answers more)
     ≡ first_answers (unhighlighted_related_answers more)
-first-bare no_more = refl
-first-bare (and_more first more) = refl
+first-unhighlighted no_more = refl
+first-unhighlighted (and_more first more) = refl
 
-pub later-bare : (more : RelatedAnswers) → unhighlighted_related_answers (later_answers more)
+pub later-unhighlighted : (more : RelatedAnswers) → unhighlighted_related_answers (later_answers more)
     ≡ later_answers (unhighlighted_related_answers more)
-later-bare no_more = refl
-later-bare (and_more first more) = refl
+later-unhighlighted no_more = refl
+later-unhighlighted (and_more first more) = refl
 
 -- ---- such answers at a path
 
-numbered_bare : (more : RelatedAnswers) (k : ℕ) → numbered_answers (unhighlighted_related_answers more) k
+numbered_unhighlighted : (more : RelatedAnswers) (k : ℕ) → numbered_answers (unhighlighted_related_answers more) k
     ≡ unhighlighted_answers (numbered_answers more k)
-numbered_bare more zero = sym (first-bare more)
-numbered_bare more (suc k) = ap (λ later. numbered_answers later k) (sym (later-bare more))
-    ∙ numbered_bare (later_answers more) k
+numbered_unhighlighted more zero = sym (first-unhighlighted more)
+numbered_unhighlighted more (suc k) = ap (λ later. numbered_answers later k) (sym (later-unhighlighted more))
+    ∙ numbered_unhighlighted (later_answers more) k
 
-pub bare_at : (a : Answers) (path : List Step) → answer_at (unhighlighted_answers a) path
+pub unhighlighted_at : (a : Answers) (path : List Step) → answer_at (unhighlighted_answers a) path
     ≡ unhighlighted (answer_at a path)
-bare_at a [] = sym (own-bare a)
-bare_at a (to_cause ∷ path) = ap (λ b. answer_at b path) (sym (cause-bare a)) ∙ bare_at (cause_answers a) path
-bare_at a (to_related k ∷ path) =
-    ap (λ more. answer_at (numbered_answers more k) path) (sym (related-bare a))
-    ∙ ap (λ b. answer_at b path) (numbered_bare (related_answers a) k)
-    ∙ bare_at (numbered_answers (related_answers a) k) path
+unhighlighted_at a [] = sym (own-unhighlighted a)
+unhighlighted_at a (to_cause ∷ path) =
+    ap (λ b. answer_at b path) (sym (cause-unhighlighted a)) ∙ unhighlighted_at (cause_answers a) path
+unhighlighted_at a (to_related k ∷ path) =
+    ap (λ more. answer_at (numbered_answers more k) path) (sym (related-unhighlighted a))
+    ∙ ap (λ b. answer_at b path) (numbered_unhighlighted (related_answers a) k)
+    ∙ unhighlighted_at (numbered_answers (related_answers a) k) path
 
 -- ---- texts
 
@@ -98,8 +101,8 @@ nothing_over : (l : snippets.SnippetSettings) (blank : Bool) (sources : List Lab
 nothing_over l blank [] a h e = tt
 nothing_over l blank (it ∷ more) a h e =
     let p = and_parts (always_reads it.source it.labels) (sources_read more) e in (
-      sym (first-bare-source a) ∙ ap unhighlighted_answer (h.0.read p.0),
-      subst (λ later. AgreeOver more later []) (later-bare-sources a)
+      sym (first-unhighlighted-source a) ∙ ap unhighlighted_answer (h.0.read p.0),
+      subst (λ later. AgreeOver more later []) (later-unhighlighted-sources a)
           (nothing_over (snippets_after (length it.labels) l) blank more (drop 1 a) h.1 p.1),
     )
 
@@ -110,16 +113,16 @@ nothing_alike s styles blank t a h reads = λ path p shown.
     let found = sym (restyled_at s styles t path) ∙ shown in
     let there = answer_there s blank t a path p h found in
     let all = and_parts (reads_labels p) (reads_for p.source p.meaning.fixes) (reads_there s t path p reads found) in
-    subst (λ b. Agree p b (answer_at unlisted path)) (sym (bare_at a path))
+    subst (λ b. Agree p b (answer_at unlisted path)) (sym (unhighlighted_at a path))
     (subst (λ b. Agree p (unhighlighted (answer_at a path)) b) (sym (nothing_at path)) (
       nothing_over (snippets_with p.meaning.snippets (snippet_settings s)) blank (sources_of p.source p.meaning)
           (answer_at a path).sources there.sources all.0,
       there.fixes all.1,
     ))
 
-pub bare-report : (s : Settings) (styles : Styles) (blank : Bool) (t : Tree) (a : Answers)
+pub unhighlighted-report : (s : Settings) (styles : Styles) (blank : Bool) (t : Tree) (a : Answers)
     → AreAnswers s blank t a → all_read (diagnostics_of s t) ≡ true →
     report_text whole_drawing (restyled s styles) t (unhighlighted_answers a)
     ≡ report_text whole_drawing (restyled s styles) t unlisted
-bare-report s styles blank t a h reads =
+unhighlighted-report s styles blank t a h reads =
     agreed_alike (restyled s styles) t (unhighlighted_answers a) unlisted (nothing_alike s styles blank t a h reads)

@@ -1,4 +1,4 @@
--- The rows of fixes fade, and hold no escape: from what is known of the rows of a fix.
+-- The rows of fixes turn plain, and hold no escape: from what is known of the rows of a fix.
 use Rattle.std.proofs.Common.{◌≡◌, Bool, List, [], ◌∷◌, map, refl, sym, ap, ◌∙◌, Option, Some, None, IfSome}
 use Rattle.std.specs.List.{AllByRecursion}
 use Rattle.miette_fix_rows.specs.rules.DiffRows.{fix_rows}
@@ -6,57 +6,59 @@ use Rattle.miette_fixes.specs.rules.Edits.{Proposal, Replacement}
 use Rattle.miette_page.specs.rules.Rows.{glyphs_of}
 use Rattle.miette_protocol.specs.rules.Reading.{Source}
 use Rattle.miette_row_laws.specs.laws.Clean.{AreCleanDrawings, IsClean, IsCleanRow, IsCleanSource}
-use Rattle.miette_row_laws.specs.laws.Fading as fading
-use Rattle.miette_row_laws.specs.laws.Fading.{ArePlain, IsPlainRow}
+use Rattle.miette_row_laws.specs.laws.PlainStyles as row_laws
+use Rattle.miette_row_laws.specs.laws.PlainStyles.{ArePlain, IsPlainRow}
 use Rattle.miette_runs.specs.rules.Runs.{plain_run}
 use Rattle.miette_snippet_rules.specs.rules.Settings as snippets
 use Rattle.miette_style.specs.rules.Themes.{Styles}
 use Rattle.miette_tree.specs.rules.Diagnosis.{Diagnosis}
 use Rattle.miette_printed_laws.specs.laws.Clean.{AreCleanSettings, HaveNoEscapes, IsCleanFix, IsCleanMeaning}
-use Rattle.miette_printed_laws.specs.laws.Colourless.{AreFaded, IsCleanShown, restyled, unhighlighted}
+use Rattle.miette_printed_laws.specs.laws.PlainTexts.{ArePlainFixes, IsCleanShown, restyled, unhighlighted}
 use Rattle.miette_picture_rules.specs.rules.Answers.{Answer}
 use Rattle.miette_picture_rules.specs.rules.DiagnosticText.{rows_text}
 use Rattle.miette_picture_rules.specs.rules.Settings.{Settings}
 use Rattle.miette_picture_rules.specs.rules.Snippets.{drawn_fix, drawn_fixes, rows_of_fix, snippet_settings}
-use Rattle.miette_printed_laws.proofs.SnippetsFading.{bare_rows, clean_rows, plain_rows, text_of}
+use Rattle.miette_printed_laws.proofs.PlainSnippets.{rows_in_plain, clean_rows, plain_rows, text_of}
 
 -- the clauses of those laws
 pub record FixLaws : Type 0 where
   pub same : (s : snippets.SnippetSettings) (styles : Styles) (source : Source) (fails : Bool)
       (edits : List Replacement) → ArePlain styles →
-      map glyphs_of (fix_rows (fading.restyled s styles) source fails edits) ≡ map glyphs_of (fix_rows s source fails
+      map glyphs_of (fix_rows (row_laws.restyled s styles) source fails edits) ≡ map glyphs_of (fix_rows s source fails
       edits)
   pub plain : (s : snippets.SnippetSettings) (styles : Styles) (source : Source) (fails : Bool)
       (edits : List Replacement) → ArePlain styles →
-      AllByRecursion IsPlainRow (fix_rows (fading.restyled s styles) source fails edits)
+      AllByRecursion IsPlainRow (fix_rows (row_laws.restyled s styles) source fails edits)
   pub clean : (s : snippets.SnippetSettings) (source : Source) (fails : Bool) (edits : List Replacement) →
       AreCleanDrawings s.theme.characters → IsCleanSource source →
       AllByRecursion (λ (edit : Replacement). IsClean edit.text) edits
       → AllByRecursion IsCleanRow (fix_rows s source fails edits)
 
 module _ (laws : FixLaws) where
-  fix_fade : (s : Settings) (styles : Styles) (source : Option Source) (fails : Bool) (edits : List Replacement)
+  fix_plain : (s : Settings) (styles : Styles) (source : Option Source) (fails : Bool) (edits : List Replacement)
       → ArePlain styles → rows_text (rows_of_fix (restyled s styles) source fails edits)
       ≡ rows_text (map (map plain_run) (rows_of_fix s source fails edits))
-  fix_fade s styles None fails edits bare = refl
-  fix_fade s styles (Some source) fails edits bare =
+  fix_plain s styles None fails edits are_plain = refl
+  fix_plain s styles (Some source) fails edits are_plain =
       let l = snippet_settings s in
-      plain_rows (fix_rows (fading.restyled l styles) source fails edits) (laws.plain l styles source fails edits bare)
-      ∙ ap text_of (laws.same l styles source fails edits bare) ∙ sym (bare_rows (fix_rows l source fails edits))
+      plain_rows (fix_rows (row_laws.restyled l styles) source fails edits)
+      (laws.plain l styles source fails edits are_plain)
+      ∙ ap text_of (laws.same l styles source fails edits are_plain)
+      ∙ sym (rows_in_plain (fix_rows l source fails edits))
 
-  fixes_fade : (s : Settings) (styles : Styles) (source : Option Source) (fails : Bool) (fixes : List Proposal)
+  fixes_plain : (s : Settings) (styles : Styles) (source : Option Source) (fails : Bool) (fixes : List Proposal)
       → ArePlain styles
-      → AreFaded (map (drawn_fix (restyled s styles) source fails) fixes) (map (drawn_fix s source fails) fixes)
-  fixes_fade s styles source fails [] bare = tt
-  fixes_fade s styles source fails (fix ∷ fixes) bare = (
-    record { message = refl; rows = fix_fade s styles source fails fix.edits bare },
-    fixes_fade s styles source fails fixes bare,
+      → ArePlainFixes (map (drawn_fix (restyled s styles) source fails) fixes) (map (drawn_fix s source fails) fixes)
+  fixes_plain s styles source fails [] are_plain = tt
+  fixes_plain s styles source fails (fix ∷ fixes) are_plain = (
+    record { message = refl; rows = fix_plain s styles source fails fix.edits are_plain },
+    fixes_plain s styles source fails fixes are_plain,
   )
 
-  pub drawn_fixes_fade : (s : Settings) (styles : Styles) (source : Option Source) (m : Diagnosis) (a : Answer)
+  pub drawn_fixes_plain : (s : Settings) (styles : Styles) (source : Option Source) (m : Diagnosis) (a : Answer)
       → ArePlain styles
-      → AreFaded (drawn_fixes (restyled s styles) source m (unhighlighted a)) (drawn_fixes s source m a)
-  drawn_fixes_fade s styles source m a bare = fixes_fade s styles source a.fixes_fail m.fixes bare
+      → ArePlainFixes (drawn_fixes (restyled s styles) source m (unhighlighted a)) (drawn_fixes s source m a)
+  drawn_fixes_plain s styles source m a are_plain = fixes_plain s styles source a.fixes_fail m.fixes are_plain
 
   fix_clean : (s : Settings) (source : Option Source) (fails : Bool) (edits : List Replacement) → AreCleanSettings s
       → IfSome source IsCleanSource → AllByRecursion (λ (edit : Replacement). IsClean edit.text) edits
