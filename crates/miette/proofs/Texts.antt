@@ -23,9 +23,9 @@ language_given (Some language) = refl
 abbrev pub most : ℕ
 most = 18446744073709551615
 
-pub whole : (source : Source) (lent : Contents) (bytes : List ℕ) → lent ≡ contents_of source nowhere 1 most
-    → bytes ≡ lent.bytes → length bytes < most → bytes ≡ source.bytes
-whole source lent bytes is at small = read_whole source nowhere lent bytes refl is at small
+pub whole : (source : Source) (contents : Contents) (bytes : List ℕ) → contents ≡ contents_of source nowhere 1 most
+    → bytes ≡ contents.bytes → length bytes < most → bytes ≡ source.bytes
+whole source contents bytes is at small = read_whole source nowhere contents bytes refl is at small
 
 -- its beginning can be read
 pub never_refused : (source : Source) (e : MietteError) → IsText source → Refuses source nowhere e → ⊥

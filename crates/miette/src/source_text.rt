@@ -98,7 +98,7 @@ fn text_in(source: &OwnedSource) -> &str
 {
     let begin = SourceSpan::new(SourceOffset::from(0), 0);
     match source.read_span(&begin, 1, usize::MAX) {
-        Ok(lent) => text_of(lent.data()),
+        Ok(contents) => text_of(contents.data()),
         Err(_) => "",
     }
 }

@@ -227,7 +227,7 @@ pub(crate) fn push_fixes<S: SourceCode>(
     };
     let begin = SourceSpan::new(SourceOffset::from(0), 0);
     match source.read_span(&begin, 1, usize::MAX) {
-        Ok(lent) => push_over(out, at, lent.name(), lent.data(), fixes),
+        Ok(contents) => push_over(out, at, contents.name(), contents.data(), fixes),
         Err(_) => push_each(out, at, FixSource::Unread, fixes),
     }
 }

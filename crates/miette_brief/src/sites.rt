@@ -57,9 +57,9 @@ fn span_site<'a, S: SourceCode>(
 {
     let begin = SourceSpan::new(SourceOffset::from(0), 0);
     match source.read_span(&begin, 1, usize::MAX) {
-        Ok(lent) => {
-            let region = whole_region(*span, lent.data());
-            Ok(site_in(lent.name(), region))
+        Ok(contents) => {
+            let region = whole_region(*span, contents.data());
+            Ok(site_in(contents.name(), region))
         }
         Err(_) => Err(RenderError::Refused),
     }

@@ -78,10 +78,10 @@ fn read_near<'a, S: SourceCode>(
     ensures known { AreKnown (Some (shown_source S.source source.entry)) known.new }
 {
     match source.read_span_near(*known, span, 0, 0) {
-        Ok(lent) => {
-            let begin = lent.known();
+        Ok(contents) => {
+            let begin = contents.known();
             *known = begin;
-            Ok(lent)
+            Ok(contents)
         }
         Err(error) => Err(error),
     }

@@ -37,10 +37,10 @@ fn whole_of<'a, S: SourceCode>(
 {
     let begin = SourceSpan::new(SourceOffset::from(0), 0);
     match source.read_span(&begin, 1, usize::MAX) {
-        Ok(lent) => {
-            let index = PositionIndex::new(alloc, lent.data(), PositionEncoding::Utf16)?;
+        Ok(contents) => {
+            let index = PositionIndex::new(alloc, contents.data(), PositionEncoding::Utf16)?;
             Ok(Whole::Read(WholeText {
-                name: lent.name(),
+                name: contents.name(),
                 index,
             }))
         }

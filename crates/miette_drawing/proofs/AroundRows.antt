@@ -14,7 +14,7 @@ use Rattle.miette_snippet_rules.specs.rules.Folds.{Spread, hides, is_around, is_
 use Rattle.miette_snippet_rules.specs.rules.Folds.{line_at, place_among}
 use Rattle.miette_snippet_rules.specs.rules.Settings.{SnippetSettings}
 use Rattle.miette_snippet_rules.specs.rules.SnippetLayout.{SnippetContext, left_out, line_or_break, rows_of_lines}
-use Rattle.miette_frames.specs.views.LentRows.{PutsRows}
+use Rattle.miette_frames.specs.views.ContentsRows.{PutsRows}
 use Rattle.miette_folds.specs.declared.folds.Spread.{Spread as MadeSpread}
 use Rattle.miette_folds.specs.views.Spreads.{spread_of}
 use Rattle.miette_folds.specs.views.Windows.{AreAround}

@@ -49,13 +49,13 @@ pub snippets_plain : (s : SnippetSettings) (spreads : List Spread) (source : Sou
     all_snippets s spreads source labels pieces groups ≡ all_snippets s spreads source labels [] groups
 snippets_plain s spreads source labels pieces [] h = refl
 snippets_plain s spreads source labels pieces (group ∷ groups) h =
-    let lent : Contents = contents s.layout.context_lines source group in
+    let held : Contents = contents s.layout.context_lines source group in
     let drawn : List DrawnLabel = drawn_labels s (length source.bytes) labels in
-    ap₂ (λ rows more. (top_row s lent (place_of source group labels) ∷ rows ++ bottom_row s (number_width lent) ∷ [])
+    ap₂ (λ rows more. (top_row s held (place_of source group labels) ∷ rows ++ bottom_row s (number_width held) ∷ [])
     ++ more)
-    (rows_plain (left_out s lent.line (lines_of_contents lent) spreads) false s (number_width lent)
-    (gutter_columns drawn (lines_of_contents lent)) drawn source.bytes (lent.line + 1) (first_of pieces)
-    (lines_of_contents lent) h.0)
+    (rows_plain (left_out s held.line (lines_of_contents held) spreads) false s (number_width held)
+    (gutter_columns drawn (lines_of_contents held)) drawn source.bytes (held.line + 1) (first_of pieces)
+    (lines_of_contents held) h.0)
     (snippets_plain s spreads source labels (drop 1 pieces) groups h.1)
 
 -- ---- calls

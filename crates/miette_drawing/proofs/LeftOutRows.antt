@@ -11,7 +11,7 @@ use Rattle.miette_snippet_rules.specs.rules.Folds.{Spread, leaves_out}
 use Rattle.miette_snippet_rules.specs.rules.Highlighting.{ArePieces, decoded_text, line_calls}
 use Rattle.miette_snippet_rules.specs.rules.SnippetLayout.{line_or_break, left_out}
 use Rattle.miette_folds.specs.declared.folds.LineStart.{LineStart}
-use Rattle.miette_frames.specs.views.LentRows.{cells_in, text_in, texts_in}
+use Rattle.miette_frames.specs.views.ContentsRows.{cells_in, text_in, texts_in}
 use Rattle.miette_drawing.proofs.ReadRows.{AreLinedBefore, AreLined}
 use Rattle.miette_folds.proofs.GapLines.{IsBetween}
 use Rattle.miette_folds.proofs.LeftOutGaps.{first_between}

@@ -34,7 +34,7 @@ use Rattle.miette_snippet_rules.specs.rules.SnippetLayout.{cells_of, line_or_bre
 use Rattle.miette_snippet_rules.specs.rules.SnippetLayout.{left_out, body_rows}
 use Rattle.miette_snippet_rules.specs.rules.Highlighting.{EachHasPieces, ArePieces, decoded_text, texts_of, line_calls}
 use Rattle.miette_snippet_rules.specs.rules.Highlighting.{piece_of}
-use Rattle.miette_frames.specs.views.LentRows.{cells_in, text_in, texts_in, lent_snippet, PutsRows}
+use Rattle.miette_frames.specs.views.ContentsRows.{cells_in, text_in, texts_in, contents_snippet, PutsRows}
 use Rattle.miette_frames.specs.views.Widths.{width_of_count, gutter_of}
 use Rattle.miette_labels.specs.views.Placing.{Placed, placed_of, placed_one, placed_from}
 use Rattle.miette_labels.specs.views.Placing.{end_drawn, is_told}
@@ -80,14 +80,14 @@ cut_inside low at n high (l ∷ ls) h le top = (
   cut_inside low l.end n high ls h.4 (omega (arith, h.3)) top,
 )
 
-lent_from : (out : ℕ → Line → Bool) (gap : Bool) (s : SnippetSettings) (w columns : ℕ) (drawn : List DrawnLabel)
+contents_from : (out : ℕ → Line → Bool) (gap : Bool) (s : SnippetSettings) (w columns : ℕ) (drawn : List DrawnLabel)
     (bytes : List ℕ) (from to number : ℕ) (pieces : List (List Highlight)) (ls : List Line)
     → AllByRecursion (Inside from (from + (to - from))) ls →
     rows_of_lines out gap (snippet_context s w columns drawn (cells_in s from (slice_range bytes from to))) number
     pieces ls
     ≡ rows_of_lines out gap (snippet_context s w columns drawn (cells_of s bytes)) number pieces ls
-lent_from out gap s w columns drawn bytes from to number pieces [] h = refl
-lent_from out gap s w columns drawn bytes from to number pieces (l ∷ ls) h =
+contents_from out gap s w columns drawn bytes from to number pieces [] h = refl
+contents_from out gap s w columns drawn bytes from to number pieces (l ∷ ls) h =
     ap (λ text. line_or_break gap (out number l) (snippet_context s w columns drawn
     (λ _. cells_from s.width s.layout.tab_width false l.start 0 (characters text))) l number (first_of pieces)
     ++ rows_of_lines out (out number l) (snippet_context s w columns drawn
@@ -95,7 +95,7 @@ lent_from out gap s w columns drawn bytes from to number pieces (l ∷ ls) h =
     (slices bytes from to l.start l.text_end h.0.0 h.0.1 h.0.2)
     ∙ ap (λ r. line_or_break gap (out number l) (snippet_context s w columns drawn (cells_of s bytes)) l number
     (first_of pieces) ++ r)
-    (lent_from out (out number l) s w columns drawn bytes from to (number + 1) (drop 1 pieces) ls h.1)
+    (contents_from out (out number l) s w columns drawn bytes from to (number + 1) (drop 1 pieces) ls h.1)
 
 texts_from : (bytes : List ℕ) (from to : ℕ) (ls : List Line) → AllByRecursion (Inside from (from + (to - from))) ls
     → texts_in from (slice_range bytes from to) ls ≡ texts_of bytes ls
@@ -114,29 +114,31 @@ lines_inside bytes from to =
     (omega (arith, length-take (to - from) (drop from bytes)))
 
 -- a snippet from its read's contents
-abbrev pub lent_lines : SnippetSettings → List Spread → List DrawnLabel → Contents → List (List Highlight) → List Row
-lent_lines s spreads drawn lent pieces = rows_of_lines (left_out s lent.line (lines_of_contents lent) spreads) false
-    (snippet_context s (number_width lent) (gutter_columns drawn (lines_of_contents lent)) drawn
-    (cells_in s lent.span.offset lent.bytes)) (lent.line + 1) pieces (lines_of_contents lent)
+abbrev pub contents_lines : SnippetSettings → List Spread → List DrawnLabel → Contents → List (List Highlight)
+    → List Row
+contents_lines s spreads drawn held pieces =
+    rows_of_lines (left_out s held.line (lines_of_contents held) spreads) false
+    (snippet_context s (number_width held) (gutter_columns drawn (lines_of_contents held)) drawn
+    (cells_in s held.span.offset held.bytes)) (held.line + 1) pieces (lines_of_contents held)
 
-pub lent_body : (s : SnippetSettings) (spreads : List Spread) (drawn : List DrawnLabel) (context : ℕ) (source : Source)
-    (span : Span) (pieces : List (List Highlight)) →
-    lent_lines s spreads drawn (contents context source span) pieces
+pub contents_body : (s : SnippetSettings) (spreads : List Spread) (drawn : List DrawnLabel) (context : ℕ)
+    (source : Source) (span : Span) (pieces : List (List Highlight)) →
+    contents_lines s spreads drawn (contents context source span) pieces
     ≡ body_rows s spreads drawn source.bytes (contents context source span) pieces
-lent_body s spreads drawn context source span pieces =
-    let lent : Contents = contents context source span in
-    lent_from (left_out s lent.line (lines_of_contents lent) spreads) false s (number_width lent)
-    (gutter_columns drawn (lines_of_contents lent)) drawn source.bytes (data_start source.bytes span context)
-    (data_end source.bytes span context) (lent.line + 1) pieces (lines_of_contents lent)
+contents_body s spreads drawn context source span pieces =
+    let held : Contents = contents context source span in
+    contents_from (left_out s held.line (lines_of_contents held) spreads) false s (number_width held)
+    (gutter_columns drawn (lines_of_contents held)) drawn source.bytes (data_start source.bytes span context)
+    (data_end source.bytes span context) (held.line + 1) pieces (lines_of_contents held)
     (lines_inside source.bytes (data_start source.bytes span context) (data_end source.bytes span context))
 
 -- the texts of its lines
-abbrev pub lent_texts : Contents → List (List ℕ)
-lent_texts lent = texts_in lent.span.offset lent.bytes (lines_of_contents lent)
+abbrev pub contents_texts : Contents → List (List ℕ)
+contents_texts held = texts_in held.span.offset held.bytes (lines_of_contents held)
 
-pub lent_texts_are : (context : ℕ) (source : Source) (span : Span) → lent_texts (contents context source span)
+pub contents_texts_are : (context : ℕ) (source : Source) (span : Span) → contents_texts (contents context source span)
     ≡ texts_of source.bytes (lines_of_contents (contents context source span))
-lent_texts_are context source span =
+contents_texts_are context source span =
     texts_from source.bytes (data_start source.bytes span context) (data_end source.bytes span context)
     (lines_of_contents (contents context source span))
     (lines_inside source.bytes (data_start source.bytes span context) (data_end source.bytes span context))
@@ -403,42 +405,42 @@ lines_all out gap s w columns drawn start bytes first blank begun now at number 
 
 -- the rows of a snippet whose lines are counted
 told_counted : (s : SnippetSettings) (spreads : List Spread) (placed : List PlacedLabel)
-    (lent : Contents) (place : Option Place) (pieces : List (List Highlight)) (w columns lines most : ℕ)
+    (held : Contents) (place : Option Place) (pieces : List (List Highlight)) (w columns lines most : ℕ)
     (p0 p1 p2 p3 : Printout) →
-    lines ≡ length (lines_of_contents lent) → most ≡ most_multi placed (lines_of_contents lent) → w
-    ≡ width_of_count lent.line lines → columns ≡ gutter_of most →
-    p1 ≡ p0 ⊕ rows_tokens (top_row_of s w lent.name (ltb 1 lines) place ∷ []) →
-    p2 ≡ p1 ⊕ rows_tokens (rows_of_lines (left_out s lent.line (lines_of_contents lent) spreads) false
-    (snippet_context s w columns (map drawn_of placed) (cells_in s lent.span.offset lent.bytes))
-    (lent.line + 1) pieces (lines_of_contents lent)) →
+    lines ≡ length (lines_of_contents held) → most ≡ most_multi placed (lines_of_contents held) → w
+    ≡ width_of_count held.line lines → columns ≡ gutter_of most →
+    p1 ≡ p0 ⊕ rows_tokens (top_row_of s w held.name (ltb 1 lines) place ∷ []) →
+    p2 ≡ p1 ⊕ rows_tokens (rows_of_lines (left_out s held.line (lines_of_contents held) spreads) false
+    (snippet_context s w columns (map drawn_of placed) (cells_in s held.span.offset held.bytes))
+    (held.line + 1) pieces (lines_of_contents held)) →
     p3 ≡ p2 ⊕ rows_tokens (bottom_row s w ∷ []) → p3 ≡ p0
-    ⊕ rows_tokens (lent_snippet s spreads (map drawn_of placed) lent place pieces)
-told_counted s spreads placed lent place pieces w columns lines most p0 p1 p2 p3 many widest width gutter a b c =
+    ⊕ rows_tokens (contents_snippet s spreads (map drawn_of placed) held place pieces)
+told_counted s spreads placed held place pieces w columns lines most p0 p1 p2 p3 many widest width gutter a b c =
     let drawn : List DrawnLabel = map drawn_of placed in
-    let real : List Line = lines_of_contents lent in
-    let out : ℕ → Line → Bool = left_out s lent.line real spreads in
-    let whole : w ≡ number_width lent = width ∙ ap (width_of_count lent.line) many ∙ sym (width_is lent.line real) in
+    let real : List Line = lines_of_contents held in
+    let out : ℕ → Line → Bool = left_out s held.line real spreads in
+    let whole : w ≡ number_width held = width ∙ ap (width_of_count held.line) many ∙ sym (width_is held.line real) in
     let room : columns ≡ gutter_columns drawn real = gutter ∙ ap gutter_of (widest ∙ most_is placed real) in
-    told_parts p0 p1 p2 p3 (top_row_of s w lent.name (ltb 1 lines) place) (bottom_row s w)
-    (rows_of_lines out false (snippet_context s w columns drawn (cells_in s lent.span.offset lent.bytes))
-    (lent.line + 1) pieces real) a b c
-    ∙ ap (λ n. p0 ⊕ rows_tokens (top_row_of s n lent.name (ltb 1 lines) place
-    ∷ rows_of_lines out false (snippet_context s n columns drawn (cells_in s lent.span.offset lent.bytes))
-    (lent.line + 1) pieces real
+    told_parts p0 p1 p2 p3 (top_row_of s w held.name (ltb 1 lines) place) (bottom_row s w)
+    (rows_of_lines out false (snippet_context s w columns drawn (cells_in s held.span.offset held.bytes))
+    (held.line + 1) pieces real) a b c
+    ∙ ap (λ n. p0 ⊕ rows_tokens (top_row_of s n held.name (ltb 1 lines) place
+    ∷ rows_of_lines out false (snippet_context s n columns drawn (cells_in s held.span.offset held.bytes))
+    (held.line + 1) pieces real
     ++ bottom_row s n ∷ [])) whole
-    ∙ ap (λ n. p0 ⊕ rows_tokens (top_row_of s (number_width lent) lent.name (ltb 1 n) place
-    ∷ rows_of_lines out false (snippet_context s (number_width lent) columns drawn
-    (cells_in s lent.span.offset lent.bytes)) (lent.line + 1) pieces real ++ bottom_row s (number_width lent) ∷ []))
+    ∙ ap (λ n. p0 ⊕ rows_tokens (top_row_of s (number_width held) held.name (ltb 1 n) place
+    ∷ rows_of_lines out false (snippet_context s (number_width held) columns drawn
+    (cells_in s held.span.offset held.bytes)) (held.line + 1) pieces real ++ bottom_row s (number_width held) ∷ []))
     many
-    ∙ ap (λ n. p0 ⊕ rows_tokens (top_row s lent place ∷ rows_of_lines out false
-    (snippet_context s (number_width lent) n drawn (cells_in s lent.span.offset lent.bytes)) (lent.line + 1)
-    pieces real ++ bottom_row s (number_width lent) ∷ [])) room
+    ∙ ap (λ n. p0 ⊕ rows_tokens (top_row s held place ∷ rows_of_lines out false
+    (snippet_context s (number_width held) n drawn (cells_in s held.span.offset held.bytes)) (held.line + 1)
+    pieces real ++ bottom_row s (number_width held) ∷ [])) room
 
 -- what the getters of a read gave stands for its parts
-pub told_lent : (s : SnippetSettings) (spreads : List Spread) (placed : List PlacedLabel)
-    (lent : Contents) (place : Option Place) (blank : Bool) (happen : List Call → Type 0)
+pub told_contents : (s : SnippetSettings) (spreads : List Spread) (placed : List PlacedLabel)
+    (held : Contents) (place : Option Place) (blank : Bool) (happen : List Call → Type 0)
     (w columns lines most line start : ℕ) (name : Option (List ℕ)) (bytes : List ℕ) (p0 p1 p2 p3 : Printout) →
-    line ≡ lent.line → start ≡ lent.span.offset → name ≡ lent.name → bytes ≡ lent.bytes →
+    line ≡ held.line → start ≡ held.span.offset → name ≡ held.name → bytes ≡ held.bytes →
     lines ≡ length (P.lines_from start bytes) → most ≡ most_multi placed (P.lines_from start bytes) → w
     ≡ width_of_count line lines → columns ≡ gutter_of most →
     p1 ≡ p0 ⊕ rows_tokens (top_row_of s w name (ltb 1 lines) place ∷ []) →
@@ -447,37 +449,37 @@ pub told_lent : (s : SnippetSettings) (spreads : List Spread) (placed : List Pla
     (snippet_context s w columns (map drawn_of placed) (cells_in s start bytes)) (line + 1) pieces
     (P.lines_from start bytes)) p1 p2 →
     p3 ≡ p2 ⊕ rows_tokens (bottom_row s w ∷ []) →
-    PutsRows blank happen (lent_texts lent) (lent_snippet s spreads (map drawn_of placed) lent place) p0 p3
-told_lent s spreads placed lent place blank happen w columns lines most line start name bytes p0 p1 p2 p3 la at
+    PutsRows blank happen (contents_texts held) (contents_snippet s spreads (map drawn_of placed) held place) p0 p3
+told_contents s spreads placed held place blank happen w columns lines most line start name bytes p0 p1 p2 p3 la at
     named data' many widest width gutter a b c =
     let drawn : List DrawnLabel = map drawn_of placed in
-    let same : P.lines_from start bytes ≡ lines_of_contents lent = ap (λ n. P.lines_from n bytes) at
-    ∙ ap (P.lines_from lent.span.offset) data' in
+    let same : P.lines_from start bytes ≡ lines_of_contents held = ap (λ n. P.lines_from n bytes) at
+    ∙ ap (P.lines_from held.span.offset) data' in
     record {
       pieces = b.pieces;
-      calls = subst (λ (ls : List Line). happen (line_calls (texts_in lent.span.offset lent.bytes ls) b.pieces)) same
-          (subst (λ (n : ℕ). happen (line_calls (texts_in n lent.bytes (P.lines_from start bytes)) b.pieces)) at
+      calls = subst (λ (ls : List Line). happen (line_calls (texts_in held.span.offset held.bytes ls) b.pieces)) same
+          (subst (λ (n : ℕ). happen (line_calls (texts_in n held.bytes (P.lines_from start bytes)) b.pieces)) at
           (subst (λ (bs : List ℕ). happen (line_calls (texts_in start bs (P.lines_from start bytes)) b.pieces))
           data' b.calls));
-      are = subst (λ (ls : List Line). EachHasPieces blank (texts_in lent.span.offset lent.bytes ls) b.pieces) same
-          (subst (λ (n : ℕ). EachHasPieces blank (texts_in n lent.bytes (P.lines_from start bytes)) b.pieces) at
+      are = subst (λ (ls : List Line). EachHasPieces blank (texts_in held.span.offset held.bytes ls) b.pieces) same
+          (subst (λ (n : ℕ). EachHasPieces blank (texts_in n held.bytes (P.lines_from start bytes)) b.pieces) at
           (subst (λ (bs : List ℕ). EachHasPieces blank (texts_in start bs (P.lines_from start bytes)) b.pieces)
           data' b.are));
-      is = told_counted s spreads placed lent place b.pieces w columns lines most p0 p1 p2 p3
+      is = told_counted s spreads placed held place b.pieces w columns lines most p0 p1 p2 p3
           (many ∙ ap length same) (widest ∙ ap (most_multi placed) same) (width ∙ ap (λ n. width_of_count n lines) la)
           gutter
           (a ∙ ap (λ n. p0 ⊕ rows_tokens (top_row_of s w n (ltb 1 lines) place ∷ [])) named)
           (b.is ∙ ap (λ ls. p1 ⊕ rows_tokens (rows_of_lines (left_out s line ls spreads) false
           (snippet_context s w columns drawn (cells_in s start bytes)) (line + 1) b.pieces ls)) same
-          ∙ ap (λ n. p1 ⊕ rows_tokens (rows_of_lines (left_out s line (lines_of_contents lent) spreads) false
-          (snippet_context s w columns drawn (cells_in s n bytes)) (line + 1) b.pieces (lines_of_contents lent)))
+          ∙ ap (λ n. p1 ⊕ rows_tokens (rows_of_lines (left_out s line (lines_of_contents held) spreads) false
+          (snippet_context s w columns drawn (cells_in s n bytes)) (line + 1) b.pieces (lines_of_contents held)))
           at
-          ∙ ap (λ n. p1 ⊕ rows_tokens (rows_of_lines (left_out s line (lines_of_contents lent) spreads) false
-          (snippet_context s w columns drawn (cells_in s lent.span.offset n)) (line + 1) b.pieces
-          (lines_of_contents lent))) data'
-          ∙ ap (λ n. p1 ⊕ rows_tokens (rows_of_lines (left_out s n (lines_of_contents lent) spreads) false
-          (snippet_context s w columns drawn (cells_in s lent.span.offset lent.bytes)) (n + 1) b.pieces
-          (lines_of_contents lent))) la)
+          ∙ ap (λ n. p1 ⊕ rows_tokens (rows_of_lines (left_out s line (lines_of_contents held) spreads) false
+          (snippet_context s w columns drawn (cells_in s held.span.offset n)) (line + 1) b.pieces
+          (lines_of_contents held))) data'
+          ∙ ap (λ n. p1 ⊕ rows_tokens (rows_of_lines (left_out s n (lines_of_contents held) spreads) false
+          (snippet_context s w columns drawn (cells_in s held.span.offset held.bytes)) (n + 1) b.pieces
+          (lines_of_contents held))) la)
           c;
     }
 

@@ -15,12 +15,15 @@ use miette_style::style::Style;
 use std::alloc::{AllocError, Global};
 
 /// Begins a new snippet, of its read's contents.
-pub(crate) fn restart<H: Highlighter>(highlighter: &mut Option<H>, lent: &MietteSpanContents<'_>)
-    ensures calls { AreCallsOn H.may_follow highlighter.old highlighter.new (restarted lent.now ∷ []) }
+pub(crate) fn restart<H: Highlighter>(
+    highlighter: &mut Option<H>,
+    contents: &MietteSpanContents<'_>,
+)
+    ensures calls { AreCallsOn H.may_follow highlighter.old highlighter.new (restarted contents.now ∷ []) }
     ensures stays { leaves_plain H.is_blank highlighter.new ≡ leaves_plain H.is_blank highlighter.old }
 {
     match highlighter {
-        Some(highlighter) => highlighter.restart(lent),
+        Some(highlighter) => highlighter.restart(contents),
         None => {}
     }
 }

@@ -30,7 +30,7 @@ ghost use Rattle.miette_snippet_rules.specs.views.Settings.{settings_of};
 ghost use Rattle.miette_snippet_rules.specs.rules.SnippetLayout.{left_out, rows_of_lines, snippet_context};
 ghost use Rattle.miette_labels.specs.views.Sweeping.{IsAt, AreSorted};
 ghost use Rattle.miette_frames.specs.views.Widths.{width_of_count, gutter_of};
-ghost use Rattle.miette_frames.specs.views.LentRows.{PutsRows, cells_in, texts_in};
+ghost use Rattle.miette_frames.specs.views.ContentsRows.{PutsRows, cells_in, texts_in};
 ghost use Rattle.miette_drawing.specs.views.SnippetRows.{PutsSnippet};
 ghost use Rattle.miette_source_lines.specs.rules.Lines.{lines_from};
 ghost use Rattle.miette_label_rules.specs.views.GivenLabels.{drawn_of};

@@ -42,7 +42,7 @@ fn told_line<S: SourceCode>(source: &S, offset: usize) -> Option<usize>
     ensures { IfSome result (λ line. line ≡ line_of (S.source source.now).bytes offset) }
 {
     match source.read_span(&SourceSpan::from(offset), 0, 0) {
-        Ok(lent) => Some(lent.line()),
+        Ok(contents) => Some(contents.line()),
         Err(_) => None,
     }
 }

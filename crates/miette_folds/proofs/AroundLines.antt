@@ -96,11 +96,11 @@ window_is start end all untils froms first later behind bounds few low many high
         ≤ get_or untils (first - 1) 0
     reach k d lt = bounds.until k (first - 1) d (omega (arith, lt)) (omega (arith, few, lt, bounds.untils))
 
-pub some_numbered : (lent : Contents) (all some : List MadeSpread) (first many : ℕ) → some ≡ take many (drop first all)
-    → All (IsNumbered lent) all → All (IsNumbered lent) some
-some_numbered lent all some first many is h =
-    subst (λ (xs : List MadeSpread). All (IsNumbered lent) xs) (sym is)
-    (All-take (IsNumbered lent) many (drop first all) (All-drop (IsNumbered lent) first all h))
+pub some_numbered : (contents : Contents) (all some : List MadeSpread) (first many : ℕ)
+    → some ≡ take many (drop first all) → All (IsNumbered contents) all → All (IsNumbered contents) some
+some_numbered contents all some first many is h =
+    subst (λ (xs : List MadeSpread). All (IsNumbered contents) xs) (sym is)
+    (All-take (IsNumbered contents) many (drop first all) (All-drop (IsNumbered contents) first all h))
 
 -- ---- the bounds, label by label
 

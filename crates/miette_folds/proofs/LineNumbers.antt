@@ -19,7 +19,7 @@ use Rattle.miette_label_rules.specs.rules.Around.{lines_around}
 use Rattle.miette_label_rules.specs.rules.Contexts.{end_of_span, contents, lines_of_contents}
 use Rattle.miette_label_rules.specs.views.GivenLabels.{label_at}
 use Rattle.miette_labels.specs.views.Placing.{end_drawn}
-use Rattle.miette_labels.specs.views.Reads.{IsRead, IsLent}
+use Rattle.miette_labels.specs.views.Reads.{IsRead, AreContents}
 use Rattle.miette_snippet_rules.specs.rules.Folds.{place_among}
 use Rattle.miette_folds.specs.declared.folds.Spread.{Spread as MadeSpread}
 use Rattle.miette_folds.specs.views.Spreads.{IsNumbered, AreNumbered}
@@ -81,14 +81,14 @@ ends_whole bytes span (suc c) =
 
 -- the contents are a part of the bytes that the span's offset lies in, part no CRLF at their end, and say which lines
 -- they have
-pub record IsPart (bytes : List ℕ) (span : Span) (lent : Contents) : Type 0 where
-  pub from : lent.span.offset ≤ span.offset
-  pub to : span.offset ≤ end_of_span lent.span
-  pub within : end_of_span lent.span ≤ length bytes
-  pub whole : IsWhole bytes (end_of_span lent.span)
-  pub data_are : lent.bytes ≡ slice_range bytes lent.span.offset (end_of_span lent.span)
-  pub line : lent.line ≡ line_of bytes lent.span.offset
-  pub count : lent.line_count + lent.line ≡ line_of bytes (end_of_span lent.span)
+pub record IsPart (bytes : List ℕ) (span : Span) (held : Contents) : Type 0 where
+  pub from : held.span.offset ≤ span.offset
+  pub to : span.offset ≤ end_of_span held.span
+  pub within : end_of_span held.span ≤ length bytes
+  pub whole : IsWhole bytes (end_of_span held.span)
+  pub data_are : held.bytes ≡ slice_range bytes held.span.offset (end_of_span held.span)
+  pub line : held.line ≡ line_of bytes held.span.offset
+  pub count : held.line_count + held.line ≡ line_of bytes (end_of_span held.span)
 
 part_of : (c : ℕ) (source : Source) (span : Span) → IsAccepted source.bytes span
     → IsPart source.bytes span (contents c source span)
@@ -114,43 +114,43 @@ part_of c source span ok =
       );
     }
 
-pub part_lent : (context : ℕ) (source : Source) (span : Span) (lent : Contents) → IsLent context source span lent
-    → IsPart source.bytes span lent
-part_lent context source span lent h = subst (λ (c : Contents). IsPart source.bytes span c) (sym h.is)
+pub part_contents : (context : ℕ) (source : Source) (span : Span) (held : Contents)
+    → AreContents context source span held → IsPart source.bytes span held
+part_contents context source span held h = subst (λ (c : Contents). IsPart source.bytes span c) (sym h.is)
     (part_of context source span h.accepted)
 
 -- ---- the line of an offset that a read reaches
 
 -- it stands so far into the read's contents
-reached : (bytes : List ℕ) (span : Span) (lent : Contents) (offset before : ℕ) → IsPart bytes span lent
-    → offset ≤ end_of_span lent.span → before ≡ min (offset - lent.span.offset) (length lent.bytes)
-    → before ≡ offset - lent.span.offset
-reached bytes span lent offset before p high b =
-    omega (arith, b, high, ap length p.data_are, part_length bytes lent.span.offset (end_of_span lent.span) p.within)
+reached : (bytes : List ℕ) (span : Span) (held : Contents) (offset before : ℕ) → IsPart bytes span held
+    → offset ≤ end_of_span held.span → before ≡ min (offset - held.span.offset) (length held.bytes)
+    → before ≡ offset - held.span.offset
+reached bytes span held offset before p high b =
+    omega (arith, b, high, ap length p.data_are, part_length bytes held.span.offset (end_of_span held.span) p.within)
 
-pub front_is : (lent : Contents) (offset before lines line : ℕ) → before
-    ≡ min (offset - lent.span.offset) (length lent.bytes) → lines ≡ line_of lent.bytes before → line ≡ lent.line + lines
-    → IsLineIn lent offset line
-front_is lent offset before lines line b l e = λ context source span h low high.
+pub front_is : (held : Contents) (offset before lines line : ℕ) → before
+    ≡ min (offset - held.span.offset) (length held.bytes) → lines ≡ line_of held.bytes before → line ≡ held.line + lines
+    → IsLineIn held offset line
+front_is held offset before lines line b l e = λ context source span h low high.
     let bytes : List ℕ = source.bytes in
-    let from : ℕ = lent.span.offset in
-    let to : ℕ = end_of_span lent.span in
-    let p : IsPart bytes span lent = part_lent context source span lent h in
-    let here : before ≡ offset - from = reached bytes span lent offset before p high b in
+    let from : ℕ = held.span.offset in
+    let to : ℕ = end_of_span held.span in
+    let p : IsPart bytes span held = part_contents context source span held h in
+    let here : before ≡ offset - from = reached bytes span held offset before p high b in
     let own : lines ≡ line_of (slice_range bytes from to) (offset - from) = l
     ∙ ap₂ (λ xs n. line_of xs n) p.data_are here in
     omega (arith, e, own, p.line, line_in_part bytes from to offset low high p.whole)
 
-pub back_is : (lent : Contents) (offset before ended lines line : ℕ) (held rest : List ℕ) → before
-    ≡ min (offset - lent.span.offset) (length lent.bytes) → held ≡ lent.bytes →
-    rest ≡ take (length held - before) (drop before held) → ended ≡ line_of rest (length rest) → lines ≡ lent.line_count
-    - ended → line ≡ lent.line + lines → IsLineIn lent offset line
-back_is lent offset before ended lines line held rest b d r l m e = λ context source span h low high.
+pub back_is : (held : Contents) (offset before ended lines line : ℕ) (all rest : List ℕ) → before
+    ≡ min (offset - held.span.offset) (length held.bytes) → all ≡ held.bytes →
+    rest ≡ take (length all - before) (drop before all) → ended ≡ line_of rest (length rest) → lines ≡ held.line_count
+    - ended → line ≡ held.line + lines → IsLineIn held offset line
+back_is held offset before ended lines line all rest b d r l m e = λ context source span h low high.
     let bytes : List ℕ = source.bytes in
-    let from : ℕ = lent.span.offset in
-    let to : ℕ = end_of_span lent.span in
-    let p : IsPart bytes span lent = part_lent context source span lent h in
-    let here : before ≡ offset - from = reached bytes span lent offset before p high b in
+    let from : ℕ = held.span.offset in
+    let to : ℕ = end_of_span held.span in
+    let p : IsPart bytes span held = part_contents context source span held h in
+    let here : before ≡ offset - from = reached bytes span held offset before p high b in
     let is : rest ≡ take (length (slice_range bytes from to) - before) (drop before (slice_range bytes from to)) =
     r ∙ ap (λ (xs : List ℕ). take (length xs - before) (drop before xs)) (d ∙ p.data_are) in
     let left : line_of rest (length rest) + line_of bytes offset ≡ line_of bytes to =
@@ -160,9 +160,10 @@ back_is lent offset before ended lines line held rest b d r l m e = λ context s
 -- ---- the numbers of a label's lines
 
 -- a label's read
-pub lent_read : (context : ℕ) (source : Source) (labels : List Label) (r : ReadLabel) → IsRead context source labels r
-    → IsLent (lines_around context labels (label_at labels r.index)) source r.span r.contents
-lent_read context source labels r h = record {
+pub read_contents : (context : ℕ) (source : Source) (labels : List Label) (r : ReadLabel)
+    → IsRead context source labels r
+    → AreContents (lines_around context labels (label_at labels r.index)) source r.span r.contents
+read_contents context source labels r h = record {
   accepted = h.accepted;
   is = h.contents_are ∙ ap (λ (s : Span). contents (lines_around context labels (label_at labels r.index)) source s)
       (sym h.span);
@@ -179,36 +180,36 @@ pub label_lines : (context : ℕ) (source : Source) (labels : List Label) (r : R
     ≡ r.contents.line → HasLines source.bytes label
 label_lines context source labels r label h f l b first last from =
     let c : ℕ = lines_around context labels (label_at labels r.index) in
-    let lent : IsLent c source r.span r.contents = lent_read context source labels r h in
-    let p : IsPart source.bytes r.span r.contents = part_lent c source r.span r.contents lent in
+    let contents_are : AreContents c source r.span r.contents = read_contents context source labels r h in
+    let p : IsPart source.bytes r.span r.contents = part_contents c source r.span r.contents contents_are in
     record {
-      first = first c source r.span lent (omega (arith, f, p.from)) (omega (arith, f, p.to));
-      last = last c source r.span lent (omega (arith, l, p.from))
+      first = first c source r.span contents_are (omega (arith, f, p.from)) (omega (arith, f, p.to));
+      last = last c source r.span contents_are (omega (arith, l, p.from))
           (last_within r.span.offset (end_of_span r.span) (end_of_span r.contents.span) label.last l p.to);
       from = from ∙ p.line ∙ ap (line_of source.bytes) (sym b);
     }
 
 -- ---- among the lines of a read's contents
 
-lent_place : (bytes : List ℕ) (span : Span) (lent : Contents) (o : ℕ) → IsPart bytes span lent →
-    place_among (lines_of_contents lent) o + lent.line ≡ line_of bytes
-    (max lent.span.offset (min o (end_of_span lent.span)))
-lent_place bytes span lent o p =
-    let from : ℕ = lent.span.offset in
-    let to : ℕ = end_of_span lent.span in
-    let a : place_among (lines_of_contents lent) o ≡ place_among (lines_from from (slice_range bytes from to)) o =
-    ap (λ (xs : List ℕ). place_among (lines_from lent.span.offset xs) o) p.data_are in
+contents_place : (bytes : List ℕ) (span : Span) (held : Contents) (o : ℕ) → IsPart bytes span held →
+    place_among (lines_of_contents held) o + held.line ≡ line_of bytes
+    (max held.span.offset (min o (end_of_span held.span)))
+contents_place bytes span held o p =
+    let from : ℕ = held.span.offset in
+    let to : ℕ = end_of_span held.span in
+    let a : place_among (lines_of_contents held) o ≡ place_among (lines_from from (slice_range bytes from to)) o =
+    ap (λ (xs : List ℕ). place_among (lines_from held.span.offset xs) o) p.data_are in
     omega (arith, a, p.line, part_place bytes from to o (omega (arith, p.from, p.to)) p.whole)
 
-pub lent_placed : (bytes : List ℕ) (span : Span) (lent : Contents) (o line : ℕ) → IsPart bytes span lent → line
+pub contents_placed : (bytes : List ℕ) (span : Span) (held : Contents) (o line : ℕ) → IsPart bytes span held → line
     ≡ line_of bytes o →
-    place_among (lines_of_contents lent) o ≡ min (line - lent.line) lent.line_count
-lent_placed bytes span lent o line p e =
-    let from : ℕ = lent.span.offset in
-    let to : ℕ = end_of_span lent.span in
+    place_among (lines_of_contents held) o ≡ min (line - held.line) held.line_count
+contents_placed bytes span held o line p e =
+    let from : ℕ = held.span.offset in
+    let to : ℕ = end_of_span held.span in
     let order : from ≤ to = omega (arith, p.from, p.to) in
-    let is : place_among (lines_of_contents lent) o + lent.line ≡ line_of bytes (max from (min o to)) =
-    lent_place bytes span lent o p in
+    let is : place_among (lines_of_contents held) o + held.line ≡ line_of bytes (max from (min o to)) =
+    contents_place bytes span held o p in
     omega (
       arith,
       is,
@@ -219,30 +220,30 @@ lent_placed bytes span lent o line p e =
       line_of_mono bytes from to order,
     )
 
-pub lent_counted : (bytes : List ℕ) (span : Span) (lent : Contents) → IsPart bytes span lent → lent.line_count
-    ≡ count_by is_terminated (lines_of_contents lent)
-lent_counted bytes span lent p =
-    let from : ℕ = lent.span.offset in
-    let to : ℕ = end_of_span lent.span in
-    let a : count_by is_terminated (lines_of_contents lent)
+pub contents_counted : (bytes : List ℕ) (span : Span) (held : Contents) → IsPart bytes span held → held.line_count
+    ≡ count_by is_terminated (lines_of_contents held)
+contents_counted bytes span held p =
+    let from : ℕ = held.span.offset in
+    let to : ℕ = end_of_span held.span in
+    let a : count_by is_terminated (lines_of_contents held)
     ≡ count_by is_terminated (lines_from from (slice_range bytes from to)) =
-    ap (λ (xs : List ℕ). count_by is_terminated (lines_from lent.span.offset xs)) p.data_are in
+    ap (λ (xs : List ℕ). count_by is_terminated (lines_from held.span.offset xs)) p.data_are in
     omega (arith, a, p.line, p.count, part_count bytes from to (omega (arith, p.from, p.to)) p.within p.whole)
 
-label_numbered : (bytes : List ℕ) (span : Span) (lent : Contents) (label : MadeSpread) → IsPart bytes span lent
-    → HasLines bytes label → IsNumbered lent label
-label_numbered bytes span lent label p h = record {
-  first = lent_placed bytes span lent label.first label.first_line p h.first;
-  last = lent_placed bytes span lent label.last label.last_line p h.last;
-  from = lent_placed bytes span lent label.from label.from_line p h.from;
+label_numbered : (bytes : List ℕ) (span : Span) (held : Contents) (label : MadeSpread) → IsPart bytes span held
+    → HasLines bytes label → IsNumbered held label
+label_numbered bytes span held label p h = record {
+  first = contents_placed bytes span held label.first label.first_line p h.first;
+  last = contents_placed bytes span held label.last label.last_line p h.last;
+  from = contents_placed bytes span held label.from label.from_line p h.from;
 }
 
 -- the labels' numbers are true among the lines of the contents of a group's read
-pub are_numbered : (context : ℕ) (source : Source) (span : Span) (lent : Contents) (labels : List MadeSpread)
-    → IsLent context source span lent → All (HasLines source.bytes) labels → AreNumbered lent labels
-are_numbered context source span lent labels h all =
-    let p : IsPart source.bytes span lent = part_lent context source span lent h in
+pub are_numbered : (context : ℕ) (source : Source) (span : Span) (held : Contents) (labels : List MadeSpread)
+    → AreContents context source span held → All (HasLines source.bytes) labels → AreNumbered held labels
+are_numbered context source span held labels h all =
+    let p : IsPart source.bytes span held = part_contents context source span held h in
     record {
-      counted = lent_counted source.bytes span lent p;
-      each = λ k d lt. label_numbered source.bytes span lent (get_or labels k d) p (all k d lt);
+      counted = contents_counted source.bytes span held p;
+      each = λ k d lt. label_numbered source.bytes span held (get_or labels k d) p (all k d lt);
     }

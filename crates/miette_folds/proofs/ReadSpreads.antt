@@ -60,14 +60,14 @@ one_is context source labels r h =
 ordered : (context : ℕ) (source : Source) (labels : List Label) (label : Label) → spread context source labels label
     ≡ spread context source (in_order labels) label
 ordered context source labels label =
-    ap (λ own. let c : ℕ = unwrap_or label.context (cond own (max 1 context) context) in let lent : Span =
+    ap (λ own. let c : ℕ = unwrap_or label.context (cond own (max 1 context) context) in let span : Span =
     (contents c source label.span).span in
     record {
       first = label.span.offset;
       last = last_byte source.bytes label.span;
-      from = lent.offset;
+      from = span.offset;
       until =
-          max (C.end_of_span lent) (lent.offset + 1);
+          max (C.end_of_span span) (span.offset + 1);
       around = c;
     }) (sym (own_ordered labels))
 

@@ -58,10 +58,11 @@ pub struct Fold {
 }
 
 // Which of the lines of a read's contents a line with this number is; after the last one, how many are terminated.
-fn place_in(lent: &MietteSpanContents<'_>, line: usize) -> usize
-    ensures { result ≡ place_in lent.now line }
+fn place_in(contents: &MietteSpanContents<'_>, line: usize) -> usize
+    ensures { result ≡ place_in contents.now line }
 {
-    line.saturating_sub(lent.line()).min(lent.line_count())
+    line.saturating_sub(contents.line())
+        .min(contents.line_count())
 }
 
 // Where the line begins that stands `lines` lines before the one that an offset lies on, by which line that is.
@@ -78,18 +79,18 @@ fn start_above(bytes: &[u8], start: usize, offset: usize, place: usize, lines: u
 }
 
 // A label among the lines of a read's contents.
-fn fold_in(lent: &MietteSpanContents<'_>, label: &Spread) -> Fold
-    requires small { lent.now.span.offset + length lent.now.bytes < 2 ^ 64 }
-    requires numbered { IsNumbered lent.now label.now }
-    ensures { result ≡ fold_in lent.now.span.offset lent.now.bytes label.now }
+fn fold_in(contents: &MietteSpanContents<'_>, label: &Spread) -> Fold
+    requires small { contents.now.span.offset + length contents.now.bytes < 2 ^ 64 }
+    requires numbered { IsNumbered contents.now label.now }
+    ensures { result ≡ fold_in contents.now.span.offset contents.now.bytes label.now }
 {
-    let bytes = lent.data();
-    let start = lent.span().offset();
-    let last = place_in(lent, label.last_line);
-    let from = place_in(lent, label.from_line);
+    let bytes = contents.data();
+    let start = contents.span().offset();
+    let last = place_in(contents, label.last_line);
+    let from = place_in(contents, label.from_line);
     Fold {
         label: *label,
-        first: place_in(lent, label.first_line),
+        first: place_in(contents, label.first_line),
         last,
         begun: start_above(bytes, start, label.from, from, 0),
         resumed: start_above(bytes, start, label.last, last, label.around),
@@ -99,16 +100,17 @@ fn fold_in(lent: &MietteSpanContents<'_>, label: &Spread) -> Fold
 /// Labels among the lines of a read's contents, one after the other. `AllocError` where memory is refused.
 pub fn fold_list(
     alloc: Global,
-    lent: &MietteSpanContents<'_>,
+    contents: &MietteSpanContents<'_>,
     labels: &[Spread],
 ) -> Result<Vec<Fold>, AllocError>
-    requires small { lent.now.span.offset + length lent.now.bytes < 2 ^ 64 }
-    requires numbered { AreNumbered lent.now labels.now }
-    ensures { IfOk result (λ folds. folds.items ≡ map (fold_in lent.now.span.offset lent.now.bytes) labels.now) }
+    requires small { contents.now.span.offset + length contents.now.bytes < 2 ^ 64 }
+    requires numbered { AreNumbered contents.now labels.now }
+    ensures { IfOk result (λ folds. folds.items
+        ≡ map (fold_in contents.now.span.offset contents.now.bytes) labels.now) }
 {
     let mut folds = Vec::with_capacity(alloc, labels.len())?;
     for label in labels {
-        folds.push(fold_in(lent, label))?;
+        folds.push(fold_in(contents, label))?;
     }
     Ok(folds)
 }

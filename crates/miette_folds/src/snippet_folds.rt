@@ -87,14 +87,14 @@ fn stop_behind(stops: &[LineStart], behind: usize) -> Option<LineStart>
 /// Labels among the lines of a read's contents. `AllocError` where memory is refused.
 pub fn folds_in(
     alloc: Global,
-    lent: &MietteSpanContents<'_>,
+    contents: &MietteSpanContents<'_>,
     labels: &[Spread],
 ) -> Result<Folds, AllocError>
-    requires small { lent.now.span.offset + length lent.now.bytes < 2 ^ 64 }
-    requires numbered { AreNumbered lent.now labels.now }
-    ensures { IfOk result (λ folds. folds ≡ map (fold_in lent.now.span.offset lent.now.bytes) labels.now) }
+    requires small { contents.now.span.offset + length contents.now.bytes < 2 ^ 64 }
+    requires numbered { AreNumbered contents.now labels.now }
+    ensures { IfOk result (λ folds. folds ≡ map (fold_in contents.now.span.offset contents.now.bytes) labels.now) }
 {
-    let all = fold_list(alloc, lent, labels)?;
+    let all = fold_list(alloc, contents, labels)?;
     let stops = stops_of(alloc, &all)?;
     let bounds = bounds_of(alloc, labels)?;
     Ok(Folds { all, stops, bounds })

@@ -62,37 +62,40 @@ fn line_of(bytes: &[u8], offset: usize) -> usize
 }
 
 // How many of the bytes of a read's contents stand before an offset of the source.
-fn bytes_before(lent: &MietteSpanContents<'_>, offset: usize) -> usize
-    ensures { result ≡ min (offset - lent.now.span.offset) (length lent.now.bytes) }
+fn bytes_before(contents: &MietteSpanContents<'_>, offset: usize) -> usize
+    ensures { result ≡ min (offset - contents.now.span.offset) (length contents.now.bytes) }
 {
     offset
-        .saturating_sub(lent.span().offset())
-        .min(lent.data().len())
+        .saturating_sub(contents.span().offset())
+        .min(contents.data().len())
 }
 
 // The number of the line that stands `lines` lines after the one where a read's bytes begin.
-fn line_behind(lent: &MietteSpanContents<'_>, lines: usize) -> Result<usize, AllocError>
-    ensures { IfOk result (λ line. line ≡ lent.now.line + lines) }
+fn line_behind(contents: &MietteSpanContents<'_>, lines: usize) -> Result<usize, AllocError>
+    ensures { IfOk result (λ line. line ≡ contents.now.line + lines) }
 {
-    sum(lent.line(), lines)
+    sum(contents.line(), lines)
 }
 
 // The number of the line of an offset that a read reaches, by the lines of its contents before the offset.
-fn line_from_front(lent: &MietteSpanContents<'_>, offset: usize) -> Result<usize, AllocError>
-    ensures { IfOk result (IsLineIn lent.now offset) }
+fn line_from_front(contents: &MietteSpanContents<'_>, offset: usize) -> Result<usize, AllocError>
+    ensures { IfOk result (IsLineIn contents.now offset) }
 {
-    line_behind(lent, line_of(lent.data(), bytes_before(lent, offset)))
+    line_behind(
+        contents,
+        line_of(contents.data(), bytes_before(contents, offset)),
+    )
 }
 
 // The number of the line of an offset that a read reaches, by the lines of its contents after the offset.
-fn line_from_back(lent: &MietteSpanContents<'_>, offset: usize) -> Result<usize, AllocError>
-    ensures { IfOk result (IsLineIn lent.now offset) }
+fn line_from_back(contents: &MietteSpanContents<'_>, offset: usize) -> Result<usize, AllocError>
+    ensures { IfOk result (IsLineIn contents.now offset) }
 {
-    let data = lent.data();
-    let at = bytes_before(lent, offset);
+    let data = contents.data();
+    let at = bytes_before(contents, offset);
     let rest = &data[at..];
     let ends = line_of(rest, rest.len());
-    line_behind(lent, lent.line_count().saturating_sub(ends))
+    line_behind(contents, contents.line_count().saturating_sub(ends))
 }
 
 // A label as it may be folded. Of its lines only those near its ends are looked at.
@@ -106,18 +109,18 @@ fn spread(
     ensures lines { IfOk result (λ label. (source : Source) → IsRead context source labels.now read.now →
         HasLines source.bytes label) }
 {
-    let lent = &read.contents;
+    let contents = &read.contents;
     let first = read.span.offset();
     let last = last_byte(read)?;
     Ok(Spread {
         first,
         last,
-        from: lent.span().offset(),
-        until: behind(lent.span())?,
+        from: contents.span().offset(),
+        until: behind(contents.span())?,
         around: lines_at(context, own, labels, read.index),
-        first_line: line_from_front(lent, first)?,
-        last_line: line_from_back(lent, last)?,
-        from_line: lent.line(),
+        first_line: line_from_front(contents, first)?,
+        last_line: line_from_back(contents, last)?,
+        from_line: contents.line(),
     })
 }
 

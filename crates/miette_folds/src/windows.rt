@@ -146,7 +146,8 @@ impl Spreads {
     /// Labels one after the other, before and after which none has a byte of its context from one offset up to another.
     pub fn around(&self, start: usize, end: usize) -> &[Spread]
         ensures around { AreAround start end self.now result.now }
-        ensures numbered { (lent : Contents) → All (IsNumbered lent) self.now → All (IsNumbered lent) result.now }
+        ensures numbered { (contents : Contents) → All (IsNumbered contents) self.now
+            → All (IsNumbered contents) result.now }
     {
         let near = touching(&self.bounds, start, end);
         &self.all[near.first..near.behind]

@@ -22,7 +22,7 @@ use Rattle.miette_label_rules.specs.rules.Groups.{in_order, spans_of, joined_spa
 use Rattle.miette_label_rules.specs.rules.Groups.{stretches_from, joined_stretches, own_groups, groups_answered}
 use Rattle.miette_label_rules.specs.rules.Groups.{groups_of}
 use Rattle.miette_label_rules.specs.rules.Groups.{some_fails}
-use Rattle.miette_labels.specs.views.Reads.{IsRead, IsLent, AreGroups, AreGrouped}
+use Rattle.miette_labels.specs.views.Reads.{IsRead, AreContents, AreGroups, AreGrouped}
 use Rattle.miette_basics.proofs.Cases.{by_cases}
 use Rattle.miette_labels.proofs.NoFailures.{none_unread}
 use Rattle.miette_labels.proofs.GroupsSoFar.{joined_accepted}
@@ -52,19 +52,19 @@ sort_begins xs ys up stable = sort_is (λ s. s.offset) xs ys up stable ∙ by_be
 
 pub record AreReadTo (source : Source) (spans : List Span) (i : ℕ) (groups : List Group) : Type 0 where
   pub are : map (λ group. group.span) groups ≡ take i spans
-  pub lent : All (λ group. IsLent 0 source group.span group.contents) groups
+  pub contents_are : All (λ group. AreContents 0 source group.span group.contents) groups
 
-pub read_more : (source : Source) (spans : List Span) (i : ℕ) (groups more : List Group) (span : Span) (lent : Contents)
+pub read_more : (source : Source) (spans : List Span) (i : ℕ) (groups more : List Group) (span : Span) (held : Contents)
     → AreReadTo source spans i groups → i < length spans → span ≡ get_or spans i span → IsAccepted source.bytes span →
-    lent ≡ contents 0 source span → more ≡ groups ++ record { span = span; contents = lent } ∷ []
+    held ≡ contents 0 source span → more ≡ groups ++ record { span = span; contents = held } ∷ []
     → AreReadTo source spans (i + 1) more
-read_more source spans i groups more span lent h lt is accepted e m =
-    let own : Group = record { span = span; contents = lent } in
+read_more source spans i groups more span held h lt is accepted e m =
+    let own : Group = record { span = span; contents = held } in
     subst (λ (gs : List Group). AreReadTo source spans (i + 1) gs) (sym m)
     (record {
       are = map-append (λ (g : Group). g.span) groups (own ∷ []) ∙ ap₂ (λ xs x. xs ++ x ∷ []) h.are is
           ∙ sym (take_more spans i span lt);
-      lent = All-push (λ (g : Group). IsLent 0 source g.span g.contents) groups own h.lent
+      contents_are = All-push (λ (g : Group). AreContents 0 source g.span g.contents) groups own h.contents_are
           (record { accepted = accepted; is = e });
     })
 
@@ -72,12 +72,12 @@ pub none_read : (source : Source) (spans : List Span) (groups : List Group) → 
     → AreReadTo source spans 0 groups
 none_read source spans groups e =
     subst (λ (gs : List Group). AreReadTo source spans 0 gs) (sym e)
-    (record { are = refl; lent = All-nil (λ (g : Group). IsLent 0 source g.span g.contents) })
+    (record { are = refl; contents_are = All-nil (λ (g : Group). AreContents 0 source g.span g.contents) })
 
 pub all_read : (source : Source) (spans : List Span) (i : ℕ) (groups : List Group) → length spans ≤ i
     → AreReadTo source spans i groups → (map (λ group. group.span) groups ≡ spans)
-    × All (λ group. IsLent 0 source group.span group.contents) groups
-all_read source spans i groups past h = (h.are ∙ take_all i spans past, h.lent)
+    × All (λ group. AreContents 0 source group.span group.contents) groups
+all_read source spans i groups past h = (h.are ∙ take_all i spans past, h.contents_are)
 
 -- ---- the spans of groups are accepted
 
@@ -111,9 +111,9 @@ groups_accepted bytes reads spans h e =
     (sorted_each (λ s. s.offset) (IsAccepted bytes) (stretches_read reads) (read_accepted bytes reads h)))))
 
 -- the data of a read lie in the source
-lent_accepted : (c : ℕ) (source : Source) (span : Span) → IsAccepted source.bytes span
+contents_accepted : (c : ℕ) (source : Source) (span : Span) → IsAccepted source.bytes span
     → IsAccepted source.bytes (contents c source span).span
-lent_accepted c source span h =
+contents_accepted c source span h =
     let from = start_before_span source.bytes span c in
     record {
       begins = omega (arith, h.begins, from);
@@ -127,7 +127,7 @@ reads_accepted context source labels reads h = λ k d lt.
     let own : IsRead context source labels r = h k d lt in
     let l : Label = label_at labels r.index in
     subst (λ (c : Contents). IsAccepted source.bytes c.span) (sym own.contents_are)
-    (lent_accepted (lines_around context labels l) source l.span
+    (contents_accepted (lines_around context labels l) source l.span
     (subst (λ (s : Span). IsAccepted source.bytes s) own.span own.accepted))
 
 -- ---- groups of labels
@@ -159,7 +159,7 @@ some_first (span ∷ spans) h = refl
 -- what `own_groups` says
 abbrev pub AreOwn : {V : Type 0} → (V → List Group) → Source → List Span → Option V → Type 0
 AreOwn items source spans r = MatchOption r ((source.always_reads ≡ false) × (spans ≢ []))
-    (λ v. (map (λ group. group.span) (items v) ≡ spans) × All (λ group. IsLent 0 source group.span group.contents)
+    (λ v. (map (λ group. group.span) (items v) ≡ spans) × All (λ group. AreContents 0 source group.span group.contents)
     (items v))
 
 own_grouped : {V : Type 0} (items : V → List Group) (context : ℕ) (source : Source) (ls : List Label) (r : Option V)
@@ -179,7 +179,7 @@ own_grouped items context source ls (Some v) own h = record {
   are = h.0 ∙ sym (ap (λ b. cond b (own_groups context source ls) (groups_answered context source [] (spans_of ls)))
       own);
   read = none_unread context source [] ls tt;
-  lent = subst (λ (c : ℕ). All (λ group. IsLent c source group.span group.contents) (items v))
+  contents_are = subst (λ (c : ℕ). All (λ group. AreContents c source group.span group.contents) (items v))
       (sym (ap (λ b. cond b 0 context) own)) h.1;
 }
 
@@ -200,10 +200,10 @@ none_at [] i f lt = absurd (omega (arith, lt))
 none_at (l ∷ ls) zero f lt = (or_parts (is_some l.context) (has_own ls) f).0
 none_at (l ∷ ls) (suc i) f lt = none_at ls i (or_parts (is_some l.context) (has_own ls) f).1 (omega (arith, lt))
 
-pub all_lent : (context : ℕ) (source : Source) (labels : List Label) (reads : List ReadLabel) (own : Bool) → own
+pub all_contents : (context : ℕ) (source : Source) (labels : List Label) (reads : List ReadLabel) (own : Bool) → own
     ≡ has_own labels → own ≡ false → All (IsRead context source labels) reads →
-    All (λ label. IsLent context source label.span label.contents) reads
-all_lent context source labels reads own which f h = λ k d lt.
+    All (λ label. AreContents context source label.span label.contents) reads
+all_contents context source labels reads own which f h = λ k d lt.
     let r : ReadLabel = get_or reads k d in
     let mine : IsRead context source labels r = h k d lt in
     let l : Label = label_at labels r.index in
@@ -256,8 +256,8 @@ grouped_joined context source labels reads own groups order h which f g =
           ∙ sym (ap (λ b. cond b (own_groups context source ls) (groups_answered context source g.fails (spans_of ls)))
           none);
       read = ap (λ b. b && some_fails g.fails (groups_of context source g.fails ls)) none;
-      lent = subst (λ (c : ℕ). All (λ group. IsLent c source group.span group.contents) groups)
-          (sym (ap (λ b. cond b 0 context) none)) g.lent;
+      contents_are = subst (λ (c : ℕ). All (λ group. AreContents c source group.span group.contents) groups)
+          (sym (ap (λ b. cond b 0 context) none)) g.contents_are;
     }
 
 -- groups that there are

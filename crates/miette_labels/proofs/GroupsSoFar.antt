@@ -10,7 +10,7 @@ use Rattle.miette_labels.specs.declared.grouping.Group.{Group}
 use Rattle.miette_labels.specs.declared.reading.ReadLabel.{ReadLabel}
 use Rattle.miette_label_rules.specs.rules.Answers.{NoneFails, next_answer}
 use Rattle.miette_label_rules.specs.rules.Groups.{joined_span, joins_before, groups_from, groups_answered}
-use Rattle.miette_labels.specs.views.Reads.{IsLent}
+use Rattle.miette_labels.specs.views.Reads.{AreContents}
 use Rattle.miette_basics.proofs.Cases.{by_cases}
 use Rattle.miette_labels.specs.steps.Reads.{AreJoined}
 
@@ -21,8 +21,8 @@ pub record AreGathered (context : ℕ) (source : Source) (spans rest : List Span
   pub always : source.always_reads ≡ true → NoneFails fails
   pub are : (more : List Bool) → groups_answered context source (fails ++ more) spans ≡ map (λ group. group.span) done
       ++ groups_from context source before.span more rest
-  pub lent : All (λ group. IsLent context source group.span group.contents) done
-  pub own : IsLent context source before.span before.contents
+  pub contents_are : All (λ group. AreContents context source group.span group.contents) done
+  pub own : AreContents context source before.span before.contents
 
 pub joined_accepted : (bytes : List ℕ) (a b : Span) → IsAccepted bytes a → IsAccepted bytes b
     → IsAccepted bytes (joined_span a b)
@@ -37,7 +37,7 @@ more_fails fails b more = append_assoc fails (b ∷ []) more
 
 -- at the first label
 pub gathered_first : (context : ℕ) (source : Source) (span : Span) (rest : List Span) (done : List Group)
-    (before : Group) → done ≡ [] → before.span ≡ span → IsLent context source before.span before.contents →
+    (before : Group) → done ≡ [] → before.span ≡ span → AreContents context source before.span before.contents →
     AreGathered context source (span ∷ rest) rest done before
 gathered_first context source span rest done before none at own =
     subst (λ (d : List Group). AreGathered context source (span ∷ rest) rest d before) (sym none)
@@ -45,7 +45,7 @@ gathered_first context source span rest done before none at own =
       fails = [];
       always = λ a. tt;
       are = λ more. ap (λ s. groups_from context source s more rest) (sym at);
-      lent = λ k d lt. absurd (omega (arith, lt));
+      contents_are = λ k d lt. absurd (omega (arith, lt));
       own = own;
     })
 
@@ -53,7 +53,7 @@ gathered_first context source span rest done before none at own =
 pub gathered_join : (context : ℕ) (source : Source) (spans : List Span) (span : Span) (rest : List Span)
     (done : List Group) (before next : Group) →
     AreGathered context source spans (span ∷ rest) done before → joins_before context source before.span span ≡ true
-    → next.span ≡ joined_span before.span span → IsLent context source next.span next.contents →
+    → next.span ≡ joined_span before.span span → AreContents context source next.span next.contents →
     AreGathered context source spans rest done next
 gathered_join context source spans span rest done before next h joins at own = record {
   fails = h.fails ++ false ∷ [];
@@ -64,7 +64,7 @@ gathered_join context source spans span rest done before next h joins at own = r
       ∙ ap (λ b. map (λ group. group.span) done ++ cond b (groups_from context source (joined_span before.span span)
       more rest) (before.span ∷ groups_from context source span (false ∷ more) rest)) joins
       ∙ ap (λ s. map (λ group. group.span) done ++ groups_from context source s more rest) (sym at);
-  lent = h.lent;
+  contents_are = h.contents_are;
   own = own;
 }
 
@@ -77,7 +77,7 @@ pushed done before tail = sym (ap (λ x. x ++ tail) (map-append (λ group. group
 gathered_apart : (context : ℕ) (source : Source) (spans : List Span) (span : Span) (rest : List Span)
     (done : List Group) (before next : Group) →
     AreGathered context source spans (span ∷ rest) done before → joins_before context source before.span span ≡ false
-    → next.span ≡ span → IsLent context source next.span next.contents →
+    → next.span ≡ span → AreContents context source next.span next.contents →
     AreGathered context source spans rest (done ++ before ∷ []) next
 gathered_apart context source spans span rest done before next h apart at own = record {
   fails = h.fails;
@@ -90,7 +90,8 @@ gathered_apart context source spans span rest done before next h apart at own = 
       (before.span ∷ groups_from context source span more rest)) apart
       ∙ pushed done before (groups_from context source span more rest)
       ∙ ap (λ s. map (λ group. group.span) (done ++ before ∷ []) ++ groups_from context source s more rest) (sym at);
-  lent = All-push (λ group. IsLent context source group.span group.contents) done before h.lent h.own;
+  contents_are = All-push (λ group. AreContents context source group.span group.contents) done before h.contents_are
+      h.own;
   own = own;
 }
 
@@ -98,7 +99,7 @@ gathered_apart context source spans span rest done before next h apart at own = 
 gathered_failed : (context : ℕ) (source : Source) (spans : List Span) (span : Span) (rest : List Span)
     (done : List Group) (before next : Group) →
     AreGathered context source spans (span ∷ rest) done before → joins_before context source before.span span ≡ true
-    → source.always_reads ≡ false → next.span ≡ span → IsLent context source next.span next.contents →
+    → source.always_reads ≡ false → next.span ≡ span → AreContents context source next.span next.contents →
     AreGathered context source spans rest (done ++ before ∷ []) next
 gathered_failed context source spans span rest done before next h joins failed at own = record {
   fails = h.fails ++ true ∷ [];
@@ -110,7 +111,8 @@ gathered_failed context source spans span rest done before next h joins failed a
       (before.span ∷ groups_from context source span (true ∷ more) rest)) joins
       ∙ pushed done before (groups_from context source span more rest)
       ∙ ap (λ s. map (λ group. group.span) (done ++ before ∷ []) ++ groups_from context source s more rest) (sym at);
-  lent = All-push (λ group. IsLent context source group.span group.contents) done before h.lent h.own;
+  contents_are = All-push (λ group. AreContents context source group.span group.contents) done before h.contents_are
+      h.own;
   own = own;
 }
 
@@ -118,7 +120,7 @@ pub gathered_next : (context : ℕ) (source : Source) (spans : List Span) (span 
     (done more : List Group) (before next : Group) →
     AreGathered context source spans (span ∷ rest) done before
     → (joins_before context source before.span span ≡ true → source.always_reads ≡ false) → next.span ≡ span
-    → IsLent context source next.span next.contents →
+    → AreContents context source next.span next.contents →
     more ≡ done ++ before ∷ [] → AreGathered context source spans rest more next
 gathered_next context source spans span rest done more before next h failed at own e =
     subst (λ (d : List Group). AreGathered context source spans rest d next) (sym e)
@@ -137,7 +139,8 @@ gathered_all context source spans done more before h e =
       always = h.always;
       are = map-append (λ group. group.span) done (before ∷ []) ∙ sym (h.are [])
           ∙ ap (λ f. groups_answered context source f spans) (append-nil h.fails);
-      lent = All-push (λ group. IsLent context source group.span group.contents) done before h.lent h.own;
+      contents_are = All-push (λ group. AreContents context source group.span group.contents) done before h.contents_are
+          h.own;
     })
 
 -- the loop's steps
@@ -145,34 +148,36 @@ gathered_all context source spans done more before h e =
 abbrev pub spans_read : List ReadLabel → List Span
 spans_read reads = map (λ label. label.span) reads
 
-abbrev pub AllLent : ℕ → Source → List ReadLabel → Type 0
-AllLent context source reads = All (λ label. IsLent context source label.span label.contents) reads
+abbrev pub AllContents : ℕ → Source → List ReadLabel → Type 0
+AllContents context source reads = All (λ label. AreContents context source label.span label.contents) reads
 
-pub first_lent : (context : ℕ) (source : Source) (labels rest : List ReadLabel) (first : ReadLabel)
-    → AllLent context source labels → labels ≡ first ∷ rest → IsLent context source first.span first.contents
-first_lent context source labels rest first h e = let k : AllLent context source (first ∷ rest) =
-    subst (λ (xs : List ReadLabel). AllLent context source xs) e h in k 0 first (omega arith)
+pub first_contents : (context : ℕ) (source : Source) (labels rest : List ReadLabel) (first : ReadLabel)
+    → AllContents context source labels → labels ≡ first ∷ rest → AreContents context source first.span first.contents
+first_contents context source labels rest first h e = let k : AllContents context source (first ∷ rest) =
+    subst (λ (xs : List ReadLabel). AllContents context source xs) e h in k 0 first (omega arith)
 
-pub item_lent : (context : ℕ) (source : Source) (labels rest : List ReadLabel) (first item : ReadLabel) (i : ℕ)
-    → AllLent context source labels → labels ≡ first ∷ rest → i < length rest → item ≡ get_or rest i item →
-    IsLent context source item.span item.contents
-item_lent context source labels rest first item i h e lt is =
-    let k : AllLent context source (first ∷ rest) = subst (λ (xs : List ReadLabel). AllLent context source xs) e h in
-    subst (λ (r : ReadLabel). IsLent context source r.span r.contents) (sym is) (k (suc i) item (omega (arith, lt)))
+pub item_contents : (context : ℕ) (source : Source) (labels rest : List ReadLabel) (first item : ReadLabel) (i : ℕ)
+    → AllContents context source labels → labels ≡ first ∷ rest → i < length rest → item ≡ get_or rest i item →
+    AreContents context source item.span item.contents
+item_contents context source labels rest first item i h e lt is =
+    let k : AllContents context source (first ∷ rest) =
+    subst (λ (xs : List ReadLabel). AllContents context source xs) e h in
+    subst (λ (r : ReadLabel). AreContents context source r.span r.contents) (sym is)
+    (k (suc i) item (omega (arith, lt)))
 
-own_lent : (context : ℕ) (source : Source) (label : ReadLabel) (group : Group)
-    → IsLent context source label.span label.contents → group.span ≡ label.span → group.contents ≡ label.contents →
-    IsLent context source group.span group.contents
-own_lent context source label group h at lent = rw (at, lent) h
+own_contents : (context : ℕ) (source : Source) (label : ReadLabel) (group : Group)
+    → AreContents context source label.span label.contents → group.span ≡ label.span → group.contents ≡ label.contents →
+    AreContents context source group.span group.contents
+own_contents context source label group h at contents_are = rw (at, contents_are) h
 
 pub loop_first : (context : ℕ) (source : Source) (labels rest : List ReadLabel) (first : ReadLabel) (done : List Group)
-    (before : Group) → labels ≡ first ∷ rest → AllLent context source labels → done ≡ [] →
+    (before : Group) → labels ≡ first ∷ rest → AllContents context source labels → done ≡ [] →
     before.span ≡ first.span → before.contents ≡ first.contents
     → AreGathered context source (spans_read labels) (spans_read (drop 0 rest)) done before
-loop_first context source labels rest first done before e h none at lent =
+loop_first context source labels rest first done before e h none at contents_are =
     subst (λ (xs : List ReadLabel). AreGathered context source (spans_read xs) (spans_read rest) done before) (sym e)
     (gathered_first context source first.span (spans_read rest) done before none at
-    (own_lent context source first before (first_lent context source labels rest first h e) at lent))
+    (own_contents context source first before (first_contents context source labels rest first h e) at contents_are))
 
 own_step : (context : ℕ) (source : Source) (labels rest : List ReadLabel) (item : ReadLabel) (i : ℕ) (done : List Group)
     (before : Group) → i < length rest → item ≡ get_or rest i item →
@@ -187,7 +192,7 @@ pub loop_join : (context : ℕ) (source : Source) (labels rest : List ReadLabel)
     (done : List Group) (before next : Group) → i < length rest → item ≡ get_or rest i item →
     AreGathered context source (spans_read labels) (spans_read (drop i rest)) done before →
     (joins_before context source before.span item.span ≡ true) × (next.span ≡ joined_span before.span item.span)
-    × IsLent context source next.span next.contents →
+    × AreContents context source next.span next.contents →
     AreGathered context source (spans_read labels) (spans_read (drop (i + 1) rest)) done next
 loop_join context source labels rest item i done before next lt is h k =
     gathered_join context source (spans_read labels) item.span (spans_read (drop (i + 1) rest)) done before next
@@ -197,12 +202,12 @@ pub loop_next : (context : ℕ) (source : Source) (labels rest : List ReadLabel)
     (done more : List Group) (before next : Group) → i < length rest → item ≡ get_or rest i item →
     AreGathered context source (spans_read labels) (spans_read (drop i rest)) done before →
     (joins_before context source before.span item.span ≡ true → source.always_reads ≡ false) → next.span ≡ item.span
-    → next.contents ≡ item.contents → IsLent context source item.span item.contents → more ≡ done ++ before ∷ [] →
+    → next.contents ≡ item.contents → AreContents context source item.span item.contents → more ≡ done ++ before ∷ [] →
     AreGathered context source (spans_read labels) (spans_read (drop (i + 1) rest)) more next
-loop_next context source labels rest item i done more before next lt is h failed at lent own e =
+loop_next context source labels rest item i done more before next lt is h failed at contents_are own e =
     gathered_next context source (spans_read labels) item.span (spans_read (drop (i + 1) rest)) done more before next
     (own_step context source labels rest item i done before lt is h) failed at
-    (own_lent context source item next own at lent) e
+    (own_contents context source item next own at contents_are) e
 
 pub loop_end : (context : ℕ) (source : Source) (labels rest : List ReadLabel) (i : ℕ) (done more : List Group)
     (before : Group) → length rest ≤ i →
@@ -217,7 +222,7 @@ pub no_groups : (context : ℕ) (source : Source) (labels : List ReadLabel) (gro
     → groups ≡ [] → AreJoined context source (spans_read labels) groups
 no_groups context source [] groups none e =
     subst (λ (d : List Group). AreJoined context source [] d) (sym e)
-    (record { fails = []; always = λ a. tt; are = refl; lent = λ k d lt. absurd (omega (arith, lt)) })
+    (record { fails = []; always = λ a. tt; are = refl; contents_are = λ k d lt. absurd (omega (arith, lt)) })
 no_groups context source (l ∷ ls) groups none e = absurd (omega (arith, none))
 
 -- what `larger_group` says
@@ -225,7 +230,7 @@ abbrev pub Extends : ℕ → Source → Group → ReadLabel → Option Group →
 Extends context source before label r =
     MatchOption r (joins_before context source before.span label.span ≡ true → source.always_reads ≡ false)
     (λ group. (joins_before context source before.span label.span ≡ true)
-    × (group.span ≡ joined_span before.span label.span) × IsLent context source group.span group.contents)
+    × (group.span ≡ joined_span before.span label.span) × AreContents context source group.span group.contents)
 
 pub loop_some : (context : ℕ) (source : Source) (labels rest : List ReadLabel) (item : ReadLabel) (i : ℕ)
     (done more : List Group) (before next group : Group) (r : Option Group) → i < length rest → item
@@ -241,7 +246,7 @@ pub loop_none : (context : ℕ) (source : Source) (labels rest : List ReadLabel)
     (done more : List Group) (before out next group : Group) (r : Option Group) → i < length rest → item
     ≡ get_or rest i item →
     AreGathered context source (spans_read labels) (spans_read (drop i rest)) done before
-    → Extends context source before item r → r ≡ None → IsLent context source item.span item.contents →
+    → Extends context source before item r → r ≡ None → AreContents context source item.span item.contents →
     out ≡ before → more ≡ done ++ out ∷ [] → next ≡ group → group.span ≡ item.span → group.contents ≡ item.contents →
     AreGathered context source (spans_read labels) (spans_read (drop (i + 1) rest)) more next
 loop_none context source labels rest item i done more before out next group r lt is h ext none own value e at span

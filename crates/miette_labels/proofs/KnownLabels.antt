@@ -6,23 +6,23 @@ use Rattle.miette_source_lines.specs.views.Known.{IsKnown}
 use Rattle.miette_source_lines.proofs.Places.{line_of_zero}
 use Rattle.miette_protocol.specs.rules.Reading.{Contents, Source, Span}
 use Rattle.miette_protocol.proofs.KnownLines.{contents_known}
-use Rattle.miette_labels.specs.views.Reads.{IsLent}
+use Rattle.miette_labels.specs.views.Reads.{AreContents}
 
 -- that of the start
 pub start_known : (bytes : List ℕ) → IsKnown bytes (record { offset = 0; line = 0 })
 start_known bytes = record { within = omega arith; line = line_of_zero bytes }
 
-pub lent_known : (context : ℕ) (source : Source) (span : Span) (lent : Contents) (known : KnownLine)
-    → IsLent context source span lent → known.offset ≡ lent.span.offset → known.line ≡ lent.line
+pub read_known : (context : ℕ) (source : Source) (span : Span) (contents : Contents) (known : KnownLine)
+    → AreContents context source span contents → known.offset ≡ contents.span.offset → known.line ≡ contents.line
     → IsKnown source.bytes known
-lent_known context source span lent known h offset line =
+read_known context source span contents known h offset line =
     contents_known source span context context known h.accepted (offset ∙ ap (λ it. it.span.offset) h.is)
     (line ∙ ap (λ it. it.line) h.is)
 
 -- the last of two that are one
-pub lent_last : (context : ℕ) (source : Source) (span : Span) (lent : Contents) (known : KnownLines)
-    → IsLent context source span lent → known.first.offset ≡ lent.span.offset → known.first.line ≡ lent.line
-    → known.last ≡ known.first → IsKnown source.bytes known.last
-lent_last context source span lent known h offset line last =
+pub read_last : (context : ℕ) (source : Source) (span : Span) (contents : Contents) (known : KnownLines)
+    → AreContents context source span contents → known.first.offset ≡ contents.span.offset →
+    known.first.line ≡ contents.line → known.last ≡ known.first → IsKnown source.bytes known.last
+read_last context source span contents known h offset line last =
     subst (λ (it : KnownLine). IsKnown source.bytes it) (sym last)
-    (lent_known context source span lent known.first h offset line)
+    (read_known context source span contents known.first h offset line)

@@ -18,7 +18,7 @@ use Rattle.miette_label_rules.specs.rules.Groups.{in_order}
 use Rattle.miette_label_rules.specs.rules.Labels.{shows_end, some_shows_end}
 use Rattle.miette_label_rules.specs.views.GivenLabels.{label_at}
 use Rattle.miette_labels.specs.views.Reads.{IsRead}
-use Rattle.miette_labels.specs.views.Placing.{lends_before, told_end}
+use Rattle.miette_labels.specs.views.Placing.{reads_before, told_end}
 use Rattle.miette_basics.proofs.Cases.{by_cases}
 use Rattle.miette_source_lines.proofs.Places.{line_end_after, line_end_beyond, line_end_le, line_of_mono}
 use Rattle.miette_source_lines.proofs.Places.{line_start_next}
@@ -31,15 +31,15 @@ use Rattle.miette_protocol.proofs.Wholes.{first-lt}
 
 -- ---- one read
 
-abbrev pub lends : ℕ → Source → Span → Bool
-lends c source span = ltb (contents c source span).span.offset span.offset
+abbrev pub only_before : ℕ → Source → Span → Bool
+only_before c source span = ltb (contents c source span).span.offset span.offset
     && eqb (end_of_span (contents c source span).span) span.offset
 
 abbrev pub ends_there : ℕ → ℕ → ℕ → Bool
 ends_there n offset c = ltb 0 n && (eqb offset n && ltb 0 c)
 
 some_tells : (c : ℕ) (source : Source) (span : Span) → 1 ≤ c → 0 < length source.bytes → span.offset
-    ≤ length source.bytes → lends c source span ≡ ends_there (length source.bytes) span.offset c
+    ≤ length source.bytes → only_before c source span ≡ ends_there (length source.bytes) span.offset c
 some_tells c source span one some le =
     let bytes : List ℕ = source.bytes in
     let n : ℕ = length bytes in
@@ -49,7 +49,7 @@ some_tells c source span one some le =
     ∙ line_start_next bytes (last_line bytes span c) in
     let order : line_of bytes span.offset ≤ last_line bytes span c =
     omega (arith, line_of_mono bytes span.offset (reading_end bytes span) (offset-le-reading bytes span)) in
-    by_cases {C = lends c source span ≡ ends_there n span.offset c} (eqb span.offset n)
+    by_cases {C = only_before c source span ≡ ends_there n span.offset c} (eqb span.offset n)
     (λ t. let is : span.offset ≡ n = eqb-true span.offset n t in
     let before : from < span.offset = omega (
       arith,
@@ -76,12 +76,12 @@ some_tells c source span one some le =
     and_right (ltb from span.offset) _ past ∙ sym (and_right (ltb 0 n) _ (and_left _ (ltb 0 c) f)))
 
 none_tells : (c : ℕ) (source : Source) (span : Span) → span.offset ≤ length source.bytes → (length source.bytes ≡ 0)
-    → lends c source span ≡ ends_there (length source.bytes) span.offset c
+    → only_before c source span ≡ ends_there (length source.bytes) span.offset c
 none_tells c source span le none =
     and_left _ _ (le-ltb (contents c source span).span.offset span.offset (omega (arith, le, none)))
     ∙ sym (and_left _ _ (le-ltb 0 (length source.bytes) (omega (arith, none))))
 
-pub tells : (c : ℕ) (source : Source) (span : Span) → span.offset ≤ length source.bytes → lends c source span
+pub tells : (c : ℕ) (source : Source) (span : Span) → span.offset ≤ length source.bytes → only_before c source span
     ≡ ends_there (length source.bytes) span.offset c
 tells zero source span le =
     and_left _ _ (le-ltb span.offset span.offset (omega arith))
@@ -93,7 +93,7 @@ tells (suc c) source span le =
     ]
 
 read_tells : (context : ℕ) (source : Source) (labels : List Label) (r : ReadLabel) → IsRead context source labels r →
-    lends_before r ≡ shows_end (length source.bytes) (lines_around context labels (read_of labels r)) (read_of labels r)
+    reads_before r ≡ shows_end (length source.bytes) (lines_around context labels (read_of labels r)) (read_of labels r)
 read_tells context source labels r h =
     let l : Label = label_at labels r.index in
     ap (λ s. ltb r.contents.span.offset s.offset && eqb (end_of_span r.contents.span) s.offset) h.span
@@ -118,11 +118,11 @@ told_all context source labels (r ∷ rs) h =
     let n : ℕ = length source.bytes in
     let l : Label = label_at labels r.index in
     let own : IsRead context source labels r = h 0 r (omega arith) in
-    let same : lends_before r ≡ shows_end n (lines_around context labels l) l = read_tells context source labels r own
+    let same : reads_before r ≡ shows_end n (lines_around context labels l) l = read_tells context source labels r own
     in
     let later = told_all context source labels rs (λ k d lt. h (suc k) d (omega arith)) in
     by_cases {C = told_end (r ∷ rs) ≡ end_told (list_any (λ l. shows_end n (lines_around context labels l) l)
-    (map (read_of labels) (r ∷ rs))) n} (lends_before r)
+    (map (read_of labels) (r ∷ rs))) n} (reads_before r)
     (λ t. let u : shows_end n (lines_around context labels l) l ≡ true = sym same ∙ t in
     let is : r.span.offset ≡ n = ap (λ (s : Span). s.offset) own.span ∙ at_end n (lines_around context labels l) l u in
     rw (t, u) (ap Some is))

@@ -4,7 +4,7 @@ ghost use Rattle.std.specs.Prelude.{option_copied, ◌≡◌, map, IfOk};
 ghost use Rattle.miette_label_rules.specs.rules.Labels.{style_at};
 ghost use Rattle.miette_label_rules.specs.views.GivenLabels.{text_at};
 ghost use Rattle.miette_labels.specs.views.Placing.{placed_of, placed_from, placed_one, end_drawn, is_told};
-ghost use Rattle.miette_labels.specs.views.Placing.{lends_before, told_end};
+ghost use Rattle.miette_labels.specs.views.Placing.{reads_before, told_end};
 
 use crate::reading::ReadLabel;
 use crate::spans::end_of;
@@ -34,13 +34,13 @@ fn drawn_end(read: &ReadLabel<'_>) -> Result<usize, AllocError>
 }
 
 // Whether a read's contents have bytes before its label and none from there on.
-fn lends_before(read: &ReadLabel<'_>) -> Result<bool, AllocError>
-    ensures { IfOk result (λ before. before ≡ lends_before read.now) }
+fn reads_before(read: &ReadLabel<'_>) -> Result<bool, AllocError>
+    ensures { IfOk result (λ before. before ≡ reads_before read.now) }
 {
-    let lent = read.contents.span();
+    let span = read.contents.span();
     let offset = read.span.offset();
-    let end = end_of(lent)?;
-    Ok(lent.offset() < offset && end == offset)
+    let end = end_of(span)?;
+    Ok(span.offset() < offset && end == offset)
 }
 
 /// Where the source ends, if the reads tell: the contents of a label's read with a line of context have bytes before
@@ -50,7 +50,7 @@ pub fn told_end(reads: &[ReadLabel<'_>]) -> Result<Option<usize>, AllocError>
     ensures { IfOk result (λ end. end ≡ told_end reads.now) }
 {
     for read in reads {
-        if lends_before(read)? {
+        if reads_before(read)? {
             return Ok(Some(read.span.offset()));
         }
     }

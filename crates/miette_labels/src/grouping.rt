@@ -7,7 +7,7 @@ ghost use Rattle.miette_protocol.specs.rules.Reading.{IsAccepted};
 ghost use Rattle.miette_label_rules.specs.rules.Groups.{in_order, joined_span, joins_before, by_begin};
 ghost use Rattle.miette_label_rules.specs.rules.Groups.{joined_stretches};
 ghost use Rattle.miette_label_rules.specs.views.GivenLabels.{label_at};
-ghost use Rattle.miette_labels.specs.views.Reads.{IsLent, IsRead, AreGrouped};
+ghost use Rattle.miette_labels.specs.views.Reads.{AreContents, IsRead, AreGrouped};
 ghost use Rattle.miette_labels.specs.steps.Reads.{AreJoined};
 
 use crate::reading::{ReadLabel, some_own};
@@ -42,14 +42,14 @@ fn larger_group<'a, S: SourceCode>(
     before: &Group<'a>,
     label: &ReadLabel<'a>,
 ) -> Result<Option<Group<'a>>, AllocError>
-    requires before { IsLent context (S.source source.now) before.now.span before.now.contents }
-    requires label { IsLent context (S.source source.now) label.now.span label.now.contents }
+    requires before { AreContents context (S.source source.now) before.now.span before.now.contents }
+    requires label { AreContents context (S.source source.now) label.now.span label.now.contents }
     ensures { IfOk result (λ r. MatchOption r
         (joins_before context (S.source source.now) before.now.span label.now.span ≡ true →
         (S.source source.now).always_reads ≡ false)
         (λ group. (joins_before context (S.source source.now) before.now.span label.now.span ≡ true)
         × (group.span ≡ joined_span before.now.span label.now.span)
-        × IsLent context (S.source source.now) group.span group.contents)) }
+        × AreContents context (S.source source.now) group.span group.contents)) }
 {
     if !touches(&before.contents, &label.contents) {
         return Ok(None);
@@ -71,7 +71,7 @@ fn joined_groups<'a, S: SourceCode>(
     context: usize,
     labels: &[ReadLabel<'a>],
 ) -> Result<Vec<Group<'a>>, AllocError>
-    requires { All (λ label. IsLent context (S.source source.now) label.span label.contents) labels.now }
+    requires { All (λ label. AreContents context (S.source source.now) label.span label.contents) labels.now }
     ensures { IfOk result (λ groups. AreJoined context (S.source source.now) (map (λ label. label.span) labels.now)
         groups.items) }
 {
@@ -110,7 +110,7 @@ fn read_all<'a, S: SourceCode>(
     requires { All (λ span. IsAccepted (S.source source.now).bytes span) spans.now }
     ensures { IfOk result (λ r. MatchOption r (((S.source source.now).always_reads ≡ false) × (spans.now ≢ []))
         (λ groups. (map (λ group. group.span) groups.items ≡ spans.now)
-        × All (λ group. IsLent 0 (S.source source.now) group.span group.contents) groups.items)) }
+        × All (λ group. AreContents 0 (S.source source.now) group.span group.contents) groups.items)) }
 {
     let mut groups = Vec::with_capacity(alloc, spans.len())?;
     let mut known = START;
@@ -142,7 +142,7 @@ fn own_groups<'a, S: SourceCode>(
         × (joined_stretches (by_begin (map (λ read. read.contents.span) reads.now)) ≢ []))
         (λ groups. (map (λ group. group.span) groups.items
         ≡ joined_stretches (by_begin (map (λ read. read.contents.span) reads.now)))
-        × All (λ group. IsLent 0 (S.source source.now) group.span group.contents) groups.items)) }
+        × All (λ group. AreContents 0 (S.source source.now) group.span group.contents) groups.items)) }
 {
     let spans = stretches::stretches_by_begin(alloc, reads)?;
     let spans = stretches::union_of(alloc, &spans)?;

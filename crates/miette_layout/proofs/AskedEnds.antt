@@ -58,34 +58,34 @@ same_end from len offset = elim (cases_lt from offset) [
 ]
 
 -- its contents tell whether the source ends there
-told_there : (source : Source) (offset before len : ℕ) (lent : Contents) → offset ≤ length source.bytes
-    → lent ≡ contents 1 source (record { offset = offset; len = 0 }) → before ≡ offset - lent.span.offset
-    → len ≡ lent.span.len → TellsEnd source offset (ltb 0 before && eqb before len)
-told_there source offset before len lent le is from much = record {
+told_there : (source : Source) (offset before len : ℕ) (held : Contents) → offset ≤ length source.bytes
+    → held ≡ contents 1 source (record { offset = offset; len = 0 }) → before ≡ offset - held.span.offset
+    → len ≡ held.span.len → TellsEnd source offset (ltb 0 before && eqb before len)
+told_there source offset before len held le is from much = record {
   fails = false;
   always = λ a. refl;
-  is = ap₂ (λ x y. ltb 0 x && eqb x y) from much ∙ same_end lent.span.offset lent.span.len offset
+  is = ap₂ (λ x y. ltb 0 x && eqb x y) from much ∙ same_end held.span.offset held.span.len offset
       ∙ ap (λ it. ltb it.span.offset offset && eqb (it.span.offset + it.span.len) offset) is
       ∙ tells 1 source (record { offset = offset; len = 0 }) le
       ∙ ap (λ b. ltb 0 (length source.bytes) && b) (and_true (eqb offset (length source.bytes)));
 }
 
 -- they have bytes before it
-pub told_behind : (source : Source) (offset before len : ℕ) (lent : Contents) → offset ≤ length source.bytes
-    → lent ≡ contents 1 source (record { offset = offset; len = 0 }) → before ≡ offset - lent.span.offset
-    → len ≡ lent.span.len → 0 < before → TellsEnd source offset (eqb before len)
-told_behind source offset before len lent le is from much some =
+pub told_behind : (source : Source) (offset before len : ℕ) (held : Contents) → offset ≤ length source.bytes
+    → held ≡ contents 1 source (record { offset = offset; len = 0 }) → before ≡ offset - held.span.offset
+    → len ≡ held.span.len → 0 < before → TellsEnd source offset (eqb before len)
+told_behind source offset before len held le is from much some =
     subst (λ (b : Bool). TellsEnd source offset b) (ap (λ b. b && eqb before len) (lt-ltb 0 before some))
-    (told_there source offset before len lent le is from much)
+    (told_there source offset before len held le is from much)
 
 -- they have none before it
-pub told_first : (source : Source) (offset before : ℕ) (lent : Contents) → offset ≤ length source.bytes
-    → lent ≡ contents 1 source (record { offset = offset; len = 0 }) → before ≡ offset - lent.span.offset
+pub told_first : (source : Source) (offset before : ℕ) (held : Contents) → offset ≤ length source.bytes
+    → held ≡ contents 1 source (record { offset = offset; len = 0 }) → before ≡ offset - held.span.offset
     → before ≤ 0 → TellsEnd source offset (ltb 0 before)
-told_first source offset before lent le is from none =
+told_first source offset before held le is from none =
     let first : ltb 0 before ≡ false = le-ltb 0 before none in
-    subst (λ (b : Bool). TellsEnd source offset b) (and_left _ (eqb before lent.span.len) first ∙ sym first)
-    (told_there source offset before lent.span.len lent le is from refl)
+    subst (λ (b : Bool). TellsEnd source offset b) (and_left _ (eqb before held.span.len) first ∙ sym first)
+    (told_there source offset before held.span.len held le is from refl)
 
 -- a read that fails tells of no end
 pub told_nothing : (source : Source) (offset : ℕ) → source.always_reads ≡ false → TellsEnd source offset false

@@ -36,10 +36,10 @@ use Rattle.miette_snippet_rules.specs.rules.Highlighting.{group_calls}
 use Rattle.miette_label_rules.specs.rules.Labels.{DrawnLabel, drawn_from, some_shows_end}
 use Rattle.miette_snippet_rules.specs.rules.SnippetLayout.{snippet, all_snippets, drawn_labels, line_or_break, left_out}
 use Rattle.miette_snippet_rules.specs.rules.SnippetLayout.{settings_around, rows_unless, place_of, body_rows}
-use Rattle.miette_frames.specs.views.LentRows.{cells_in, lent_snippet, PutsRows}
+use Rattle.miette_frames.specs.views.ContentsRows.{cells_in, contents_snippet, PutsRows}
 use Rattle.miette_labels.specs.views.Placing.{told_end, placed_of, placed_from}
 use Rattle.miette_labels.specs.views.Primary.{chosen_label, PointsTo, is_unread}
-use Rattle.miette_labels.specs.views.Reads.{IsRead, IsLent, AreGroups, AreGrouped, IsUnread, AreRead, name_of}
+use Rattle.miette_labels.specs.views.Reads.{IsRead, AreContents, AreGroups, AreGrouped, IsUnread, AreRead, name_of}
 use Rattle.miette_page.specs.views.Tokens.{rows_tokens}
 use Rattle.miette_labels.proofs.RefusedLabel.{none_refused}
 use Rattle.miette_labels.proofs.NoFailures.{some_none}
@@ -48,7 +48,7 @@ use Rattle.miette_labels.proofs.LabelEnds.{placed_drawn}
 use Rattle.miette_labels.proofs.SourceEnd.{shows_around, told_is}
 use Rattle.miette_drawing.proofs.HighlightedPieces.{snippets_plain, calls_plain}
 use Rattle.miette_labels.specs.views.Sweeping.{AreSorted}
-use Rattle.miette_drawing.proofs.ReadRows.{placed_sorted, lent_body, lent_texts, lent_texts_are}
+use Rattle.miette_drawing.proofs.ReadRows.{placed_sorted, contents_body, contents_texts, contents_texts_are}
 use Rattle.miette_snippet_rules.proofs.RowTokens.{told_rows-append}
 use Rattle.miette_snippet_rules.proofs.NoPieces.{none_have}
 use Rattle.miette_labels.proofs.OwnContexts.{own_ordered}
@@ -88,16 +88,16 @@ pub none_drawn : (s : SnippetSettings) (spreads : List Spread) (source : Source)
 none_drawn s spreads source labels blank begun groups page = λ more h. (more, h, (λ later k. k), refl)
 
 snippet_same : (s : SnippetSettings) (spreads : List Spread) (source : Source) (labels : List Label) (span : Span)
-    (drawn : List DrawnLabel) (lent : Contents) (place : Option Place) (pieces : List (List Highlight)) →
-    drawn ≡ drawn_labels s (length source.bytes) labels → lent ≡ contents s.layout.context_lines source span → place
+    (drawn : List DrawnLabel) (held : Contents) (place : Option Place) (pieces : List (List Highlight)) →
+    drawn ≡ drawn_labels s (length source.bytes) labels → held ≡ contents s.layout.context_lines source span → place
     ≡ place_of source span labels →
-    lent_snippet s spreads drawn lent place pieces ≡ snippet s spreads source labels span pieces
-snippet_same s spreads source labels span drawn lent place pieces d l p =
-    ap (λ c. lent_snippet s spreads drawn c place pieces) l
-    ∙ ap (λ c. lent_snippet s spreads drawn (contents s.layout.context_lines source span) c pieces) p
+    contents_snippet s spreads drawn held place pieces ≡ snippet s spreads source labels span pieces
+snippet_same s spreads source labels span drawn held place pieces d l p =
+    ap (λ c. contents_snippet s spreads drawn c place pieces) l
+    ∙ ap (λ c. contents_snippet s spreads drawn (contents s.layout.context_lines source span) c pieces) p
     ∙ ap (λ rows. top_row s (contents s.layout.context_lines source span) (place_of source span labels) ∷ rows
     ++ bottom_row s (number_width (contents s.layout.context_lines source span)) ∷ [])
-    (lent_body s spreads drawn s.layout.context_lines source span pieces)
+    (contents_body s spreads drawn s.layout.context_lines source span pieces)
     ∙ ap (λ c. top_row s (contents s.layout.context_lines source span) (place_of source span labels)
     ∷ body_rows s spreads c source.bytes (contents s.layout.context_lines source span) pieces
     ++ bottom_row s (number_width (contents s.layout.context_lines source span)) ∷ []) d
@@ -114,26 +114,26 @@ rows_around out gap s c w columns drawn start bytes number pieces (line ∷ line
     number (first_of pieces) ++ r) (rows_around out (out number line) s c w columns drawn start bytes (number + 1)
     (drop 1 pieces) lines)
 
-snippet_around : (s : SnippetSettings) (c : ℕ) (spreads : List Spread) (drawn : List DrawnLabel) (lent : Contents)
+snippet_around : (s : SnippetSettings) (c : ℕ) (spreads : List Spread) (drawn : List DrawnLabel) (held : Contents)
     (place : Option Place) (pieces : List (List Highlight))
-    → lent_snippet (record s { layout = record s.layout { context_lines = c } }) spreads drawn lent place pieces
-    ≡ lent_snippet s spreads drawn lent place pieces
-snippet_around s c spreads drawn lent place pieces =
-    ap (λ rows. top_row s lent place ∷ rows ++ bottom_row s (number_width lent) ∷ [])
-    (rows_around (left_out s lent.line (lines_of_contents lent) spreads) false s c (number_width lent)
-    (gutter_columns drawn (lines_of_contents lent)) drawn lent.span.offset lent.bytes (lent.line + 1) pieces
-    (lines_of_contents lent))
+    → contents_snippet (record s { layout = record s.layout { context_lines = c } }) spreads drawn held place pieces
+    ≡ contents_snippet s spreads drawn held place pieces
+snippet_around s c spreads drawn held place pieces =
+    ap (λ rows. top_row s held place ∷ rows ++ bottom_row s (number_width held) ∷ [])
+    (rows_around (left_out s held.line (lines_of_contents held) spreads) false s c (number_width held)
+    (gutter_columns drawn (lines_of_contents held)) drawn held.span.offset held.bytes (held.line + 1) pieces
+    (lines_of_contents held))
 
 pub puts_around : (s : SnippetSettings) (c : ℕ) (blank : Bool) (happen : List Call → Type 0) (texts : List (List ℕ))
-    (spreads : List Spread) (drawn : List DrawnLabel) (lent : Contents) (place : Option Place) (page more : Printout) →
-    PutsRows blank happen texts (lent_snippet s spreads drawn lent place) page more
-    → PutsRows blank happen texts (lent_snippet (record s { layout = record s.layout { context_lines = c } }) spreads
-    drawn lent place) page more
-puts_around s c blank happen texts spreads drawn lent place page more h = record {
+    (spreads : List Spread) (drawn : List DrawnLabel) (held : Contents) (place : Option Place) (page more : Printout) →
+    PutsRows blank happen texts (contents_snippet s spreads drawn held place) page more
+    → PutsRows blank happen texts (contents_snippet (record s { layout = record s.layout { context_lines = c } })
+    spreads drawn held place) page more
+puts_around s c blank happen texts spreads drawn held place page more h = record {
   pieces = h.pieces;
   are = h.are;
   calls = h.calls;
-  is = h.is ∙ ap (λ rows. page ⊕ rows_tokens rows) (sym (snippet_around s c spreads drawn lent place h.pieces));
+  is = h.is ∙ ap (λ rows. page ⊕ rows_tokens rows) (sym (snippet_around s c spreads drawn held place h.pieces));
 }
 
 -- the rows of one group more
@@ -141,21 +141,21 @@ group_step : (s : SnippetSettings) (spreads : List Spread) (source : Source) (la
     (i : ℕ) (group : Group) (pieces : List (List Highlight)) (later : List (List (List Highlight)))
     (page more : Printout) (drawn : List DrawnLabel) (place : Option Place) →
     spans_grouped (drop i groups) ≡ group.span ∷ spans_grouped (drop (i + 1) groups)
-    → IsLent s.layout.context_lines source group.span group.contents →
+    → AreContents s.layout.context_lines source group.span group.contents →
     drawn ≡ drawn_labels s (length source.bytes) (in_order labels) → place
     ≡ place_of source group.span (in_order labels) →
-    more ≡ page ⊕ rows_tokens (lent_snippet s spreads drawn group.contents place pieces) →
+    more ≡ page ⊕ rows_tokens (contents_snippet s spreads drawn group.contents place pieces) →
     more ⊕ rows_tokens (all_snippets s spreads source (in_order labels) later (spans_grouped (drop (i + 1) groups)))
     ≡ page ⊕ rows_tokens (all_snippets s spreads source (in_order labels) (pieces ∷ later)
     (spans_grouped (drop i groups)))
-group_step s spreads source labels groups i group pieces later page more drawn place front lent d p e =
+group_step s spreads source labels groups i group pieces later page more drawn place front contents_are d p e =
     let ls : List Label = in_order labels in
     let rest : List Row = all_snippets s spreads source ls later (spans_grouped (drop (i + 1) groups)) in
     let own : List Row = snippet s spreads source ls group.span pieces in
     ap (λ m. m ⊕ rows_tokens rest) e
-    ∙ put_append page (rows_tokens (lent_snippet s spreads drawn group.contents place pieces)) (rows_tokens rest)
+    ∙ put_append page (rows_tokens (contents_snippet s spreads drawn group.contents place pieces)) (rows_tokens rest)
     ∙ ap (λ rows. page ⊕ (rows_tokens rows ++ rows_tokens rest))
-    (snippet_same s spreads source ls group.span drawn group.contents place pieces d lent.is p)
+    (snippet_same s spreads source ls group.span drawn group.contents place pieces d contents_are.is p)
     ∙ ap (λ t. page ⊕ t) (sym (told_rows-append own rest))
     ∙ ap (λ ss. page ⊕ rows_tokens (all_snippets s spreads source ls (pieces ∷ later) ss)) (sym front)
 
@@ -163,13 +163,14 @@ pub drawn_more : (s : SnippetSettings) (spreads : List Spread) (source : Source)
     (begun was now : List Call → Type 0) (groups : List Group) (i : ℕ) (group : Group) (before page more : Printout)
     (drawn : List DrawnLabel) (place : Option Place) →
     AreDrawn s spreads source labels blank begun was groups i before page → i < length groups → group
-    ≡ get_or groups i group → IsLent s.layout.context_lines source group.span group.contents →
+    ≡ get_or groups i group → AreContents s.layout.context_lines source group.span group.contents →
     drawn ≡ drawn_labels s (length source.bytes) (in_order labels) → place
     ≡ place_of source group.span (in_order labels) →
-    PutsRows blank (λ calls. Leads was (restarted group.contents ∷ calls) now) (lent_texts group.contents)
-    (lent_snippet s spreads drawn group.contents place) page more
+    PutsRows blank (λ calls. Leads was (restarted group.contents ∷ calls) now) (contents_texts group.contents)
+    (contents_snippet s spreads drawn group.contents place) page more
     → AreDrawn s spreads source labels blank begun now groups (i + 1) before more
-drawn_more s spreads source labels blank begun was now groups i group before page more drawn place h lt is lent d p e =
+drawn_more s spreads source labels blank begun was now groups i group before page more drawn place h lt is contents_are
+    d p e =
     λ later own.
     let front : spans_grouped (drop i groups) ≡ group.span ∷ spans_grouped (drop (i + 1) groups) =
     ap spans_grouped (drop_more groups i group lt) ∙ ap (λ (g : Group). g.span ∷ spans_grouped (drop (i + 1) groups))
@@ -178,7 +179,7 @@ drawn_more s spreads source labels blank begun was now groups i group before pag
     (lines_of_contents (contents s.layout.context_lines source group.span)))
     e.pieces =
     subst (λ (ts : List (List ℕ)). EachHasPieces blank ts e.pieces)
-    (ap lent_texts lent.is ∙ lent_texts_are s.layout.context_lines source group.span) e.are in
+    (ap contents_texts contents_are.is ∙ contents_texts_are s.layout.context_lines source group.span) e.are in
     let all = h (e.pieces ∷ later) (subst (λ (ss : List Span). SnippetsHavePieces s.layout.context_lines blank source ss
     (e.pieces ∷ later)) (sym front) (mine, own)) in
     let read : Contents = contents s.layout.context_lines source group.span in
@@ -186,15 +187,16 @@ drawn_more s spreads source labels blank begun was now groups i group before pag
     let others : List Call = group_calls s.layout.context_lines source (spans_grouped (drop (i + 1) groups)) later in
     let called : Leads was (restarted read ∷ lines) now =
     subst (λ (ts : List (List ℕ)). Leads was (restarted read ∷ line_calls ts e.pieces) now)
-    (lent_texts_are s.layout.context_lines source group.span)
-    (subst (λ (c : Contents). Leads was (restarted c ∷ line_calls (lent_texts c) e.pieces) now) lent.is e.calls) in (
+    (contents_texts_are s.layout.context_lines source group.span)
+    (subst (λ (c : Contents). Leads was (restarted c ∷ line_calls (contents_texts c) e.pieces) now) contents_are.is
+    e.calls) in (
       all.0,
       all.1,
       (λ calls k. all.2 calls (subst (λ (ss : List Span). was
           (group_calls s.layout.context_lines source ss (e.pieces ∷ later) ++ calls)) (sym front)
           (subst (λ (cs : List Call). was (restarted read ∷ cs)) (sym (append_assoc lines others calls))
           (called (others ++ calls) k)))),
-      group_step s spreads source labels groups i group e.pieces later page more drawn place front lent d p e.is
+      group_step s spreads source labels groups i group e.pieces later page more drawn place front contents_are d p e.is
           ∙ all.3,
     )
 
@@ -443,11 +445,12 @@ gives_refused s source labels order blank happen read index reason label text be
           (rows_unless s source ls answers (option_map (refused_row s) r))) refused);
     }
 
-pub groups_lent : (context : ℕ) (source : Source) (labels : List Label) (groups : List Group) (i : ℕ) (group : Group)
-    → AreGroups context source labels groups → i < length groups → group ≡ get_or groups i group →
-    IsLent (group_context context labels) source group.span group.contents
-groups_lent context source labels groups i group h lt is =
-    subst (λ (g : Group). IsLent (group_context context labels) source g.span g.contents) (sym is) (h.lent i group lt)
+pub groups_contents : (context : ℕ) (source : Source) (labels : List Label) (groups : List Group) (i : ℕ)
+    (group : Group) → AreGroups context source labels groups → i < length groups → group ≡ get_or groups i group →
+    AreContents (group_context context labels) source group.span group.contents
+groups_contents context source labels groups i group h lt is =
+    subst (λ (g : Group). AreContents (group_context context labels) source g.span g.contents) (sym is)
+    (h.contents_are i group lt)
 
 pub none_grouped : (context : ℕ) (source : Source) (labels : List Label) (r : Option (List Group))
     → AreGrouped context source labels r → r ≡ None → IsUnread context source labels

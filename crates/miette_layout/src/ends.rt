@@ -40,9 +40,9 @@ fn ends_at<S: SourceCode>(source: &S, offset: usize) -> bool
     let place = SourceSpan::new(SourceOffset::from(offset), 0);
     match source.read_span(&place, 1, 1) {
         Ok(contents) => {
-            let lent = contents.span();
-            let before = offset.saturating_sub(lent.offset());
-            before > 0 && before == lent.len()
+            let span = contents.span();
+            let before = offset.saturating_sub(span.offset());
+            before > 0 && before == span.len()
         }
         Err(_) => false,
     }

@@ -88,15 +88,15 @@ pub commands_told : (name input : List ℕ) (its : List Coded) (ts : Trees) (old
     → new ≡ commands_of (finding_trees name input its)
 commands_told name input its ts old new e none put = put ∙ ap₂ (λ o l. o ++ commands_of l) none e
 
-pub all_told : (name : List ℕ) (width : ℕ) (input lent text : List ℕ) (its : List Coded)
-    → its ≡ coded_findings lent width → lent ≡ input → text ≡ commands_of (finding_trees name input its)
+pub all_told : (name : List ℕ) (width : ℕ) (input bytes text : List ℕ) (its : List Coded)
+    → its ≡ coded_findings bytes width → bytes ≡ input → text ≡ commands_of (finding_trees name input its)
     → text ≡ commands_of (finding_trees name input (coded_findings input width))
-all_told name width input lent text its found same told =
+all_told name width input bytes text its found same told =
     told ∙ ap (λ l. commands_of (finding_trees name input l)) (found ∙ ap (λ l. coded_findings l width) same)
 
-pub labels_accepted : (input lent : List ℕ) (width : ℕ) (its : List Coded)
+pub labels_accepted : (input bytes : List ℕ) (width : ℕ) (its : List Coded)
     → ((s : List ℕ) (w : ℕ) → map (λ (it : Coded). it.label) (coded_findings s w) ≡ findings_of s w)
-    → its ≡ coded_findings lent width → lent ≡ input → AreAccepted input (map label_of its)
-labels_accepted input lent width its labels found same =
+    → its ≡ coded_findings bytes width → bytes ≡ input → AreAccepted input (map label_of its)
+labels_accepted input bytes width its labels found same =
     findings_accepted input width (map label_of its)
-    (ap (map label_of) found ∙ labels lent width ∙ ap (λ l. findings_of l width) same)
+    (ap (map label_of) found ∙ labels bytes width ∙ ap (λ l. findings_of l width) same)

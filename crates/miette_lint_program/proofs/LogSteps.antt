@@ -145,19 +145,19 @@ clean_labels seen found labels true e h =
 clean_labels seen [] labels false e h = absurd (omega (arith, positive 0 h))
 clean_labels seen (f ∷ fs) labels false e h = subst (λ (l : List Label). 0 < length l) e (omega arith)
 
-pub clean_found : {F : Type 0} (seen : F → Coded) (found slice : List F) (input lent : List ℕ) (width : ℕ) (r : Bool)
+pub clean_found : {F : Type 0} (seen : F → Coded) (found slice : List F) (input bytes : List ℕ) (width : ℕ) (r : Bool)
     → ((s : List ℕ) (w : ℕ) → map (λ (it : Coded). it.label) (coded_findings s w) ≡ findings_of s w)
-    → map seen found ≡ coded_findings lent width → lent ≡ input → slice ≡ found → r ≡ eqb (length slice) 0
+    → map seen found ≡ coded_findings bytes width → bytes ≡ input → slice ≡ found → r ≡ eqb (length slice) 0
     → IsClean (findings_of input width) r
-clean_found {F} seen found slice input lent width r labels e same lend h =
+clean_found {F} seen found slice input bytes width r labels e same listed h =
     clean_labels seen found (findings_of input width) r
-    (ap (map (λ (it : Coded). it.label)) e ∙ labels lent width ∙ ap (λ i. findings_of i width) same)
-    (h ∙ ap (λ (l : List F). eqb (length l) 0) lend)
+    (ap (map (λ (it : Coded). it.label)) e ∙ labels bytes width ∙ ap (λ i. findings_of i width) same)
+    (h ∙ ap (λ (l : List F). eqb (length l) 0) listed)
 
-pub log_is : (tool name : List ℕ) (width : ℕ) (input text lent : List ℕ) (its : List Coded) (ts : Trees)
-    → its ≡ coded_findings lent width → lent ≡ input → ts ≡ finding_trees name input its
+pub log_is : (tool name : List ℕ) (width : ℕ) (input text bytes : List ℕ) (its : List Coded) (ts : Trees)
+    → its ≡ coded_findings bytes width → bytes ≡ input → ts ≡ finding_trees name input its
     → text ≡ log_text (tool_called tool) ts → text ≡ lint_log tool name width input
-log_is tool name width input text lent its ts found same over log =
+log_is tool name width input text bytes its ts found same over log =
     log ∙ ap (log_text (tool_called tool)) (over ∙ ap (finding_trees name input)
     (found ∙ ap (λ l. coded_findings l width) same))
 

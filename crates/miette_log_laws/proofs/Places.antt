@@ -48,10 +48,10 @@ seen_one s fault n may = λ reads. (
   ap (λ (b : Bool). (seen b n s).source.name) (fault_free (Some s) fault may reads),
 )
 
-pub seen_own : (own lent : Option Source) (fault : Bool) (n : ℕ) (over : Option SeenSource) → MayMeet own fault
-    → IsSeen lent over → IsSeen (effective own lent) (seen_or fault n own over)
-seen_own None lent fault n over may h = h
-seen_own (Some s) lent fault n over may h = seen_one s fault n may
+pub seen_own : (own inherited : Option Source) (fault : Bool) (n : ℕ) (over : Option SeenSource) → MayMeet own fault
+    → IsSeen inherited over → IsSeen (effective own inherited) (seen_or fault n own over)
+seen_own None inherited fault n over may h = h
+seen_own (Some s) inherited fault n over may h = seen_one s fault n may
 
 named : (v : Json) (a : Artifacts) (name : Option (List ℕ)) (it : SourceName) → it.name ≡ unwrap_or name []
     → Names v a it → IfSome name (λ x. (x ≡ []) ⊎ StandsIn v (name_uri x))

@@ -108,12 +108,12 @@ known_at : (v : Json) (fs : List Finding) (code : List ℕ) (o : Option (List �
 known_at v fs code None known e = tt
 known_at v fs code (Some uri) known e = known code uri e
 
-finding_told : (v : Json) (fs : List Finding) (a : Artifacts) → Known v fs → (lent s : Option Source)
+finding_told : (v : Json) (fs : List Finding) (a : Artifacts) → Known v fs → (outer s : Option Source)
     (over : Option SeenSource) (faults : SourceFaults) (n : ℕ) (m : Diagnosis) (c : Cause) (ts : Trees)
-    → IsSeen (effective s lent) over → AreFurther faults.report.further m.snippets → AreOfCauses faults.causes c
-    → Tells v (record { source = effective s lent; report = tree m s c ts })
+    → IsSeen (effective s outer) over → AreFurther faults.report.further m.snippets → AreOfCauses faults.causes c
+    → Tells v (record { source = effective s outer; report = tree m s c ts })
     (result_of (rules_of fs) a (finding over faults n m c))
-finding_told v fs a known lent s over faults n m c ts is may causes =
+finding_told v fs a known outer s over faults n m c ts is may causes =
     let r : Rules = rules_of fs in
     let f : Finding = finding over faults n m c in
     let result : Json = result_of r a f in
@@ -135,43 +135,43 @@ finding_told v fs a known lent s over faults n m c ts is may causes =
       help = help_told r a f;
       url = seen_url result (rules_in v) code (help_uri code fs) m.url
           (known_at v fs code (help_uri code fs) known refl) (see_holds r a f);
-      places = places_told result a (effective s lent) over faults.report.further n m is may groups applied.0
+      places = places_told result a (effective s outer) over faults.report.further n m is may groups applied.0
           others.0;
-      cause_places = cause_places_told result a (effective s lent) over faults.causes later c (none_says r a f) is
+      cause_places = cause_places_told result a (effective s outer) over faults.causes later c (none_says r a f) is
           causes marks.1 applied.1 others.1;
     }
 
 -- ---- all results
 
 mutual
-  tree_told : (v : Json) (fs : List Finding) (a : Artifacts) → Known v fs → (n : ℕ) (lent : Option Source)
-      (inherited : Option SeenSource) (answers : SourceAnswers) (t : Tree) → IsSeen lent inherited
+  tree_told : (v : Json) (fs : List Finding) (a : Artifacts) → Known v fs → (n : ℕ) (outer : Option Source)
+      (inherited : Option SeenSource) (answers : SourceAnswers) (t : Tree) → IsSeen outer inherited
       → AreAnswers answers t
-      → AllZip (Tells v) (printed lent t) (map (result_of (rules_of fs) a) (findings n inherited answers t))
-  tree_told v fs a known n lent inherited answers (tree m s c r) is may =
+      → AllZip (Tells v) (printed outer t) (map (result_of (rules_of fs) a) (findings n inherited answers t))
+  tree_told v fs a known n outer inherited answers (tree m s c r) is may =
       let faults : SourceFaults = own_or none_met answers in
       let over : Option SeenSource = seen_or faults.report.own n s inherited in
-      let seen_here : IsSeen (effective s lent) over =
-      seen_own s lent faults.report.own n inherited may.0.0 is in (
-        finding_told v fs a known lent s over faults (n + count_own s) m c r seen_here may.0.1 may.1,
-        trees_told v fs a known (n + count_here s m.snippets + count_causes c) (effective s lent) over
+      let seen_here : IsSeen (effective s outer) over =
+      seen_own s outer faults.report.own n inherited may.0.0 is in (
+        finding_told v fs a known outer s over faults (n + count_own s) m c r seen_here may.0.1 may.1,
+        trees_told v fs a known (n + count_here s m.snippets + count_causes c) (effective s outer) over
             (related_answers answers) r seen_here may.2,
       )
 
-  trees_told : (v : Json) (fs : List Finding) (a : Artifacts) → Known v fs → (n : ℕ) (lent : Option Source)
-      (inherited : Option SeenSource) (answers : RelatedSourceAnswers) (ts : Trees) → IsSeen lent inherited
+  trees_told : (v : Json) (fs : List Finding) (a : Artifacts) → Known v fs → (n : ℕ) (outer : Option Source)
+      (inherited : Option SeenSource) (answers : RelatedSourceAnswers) (ts : Trees) → IsSeen outer inherited
       → AllAnswers answers ts
-      → AllZip (Tells v) (all_printed lent ts) (map (result_of (rules_of fs) a) (all_findings n inherited answers ts))
-  trees_told v fs a known n lent inherited answers no_trees is may = tt
-  trees_told v fs a known n lent inherited answers (more_trees t ts) is may =
+      → AllZip (Tells v) (all_printed outer ts) (map (result_of (rules_of fs) a) (all_findings n inherited answers ts))
+  trees_told v fs a known n outer inherited answers no_trees is may = tt
+  trees_told v fs a known n outer inherited answers (more_trees t ts) is may =
       let first : List Finding = findings n inherited (first_answers answers) t in
       let more : List Finding = all_findings (n + count_in t) inherited (later_answers answers) ts in
-      subst (AllZip (Tells v) (printed lent t ++ all_printed lent ts))
+      subst (AllZip (Tells v) (printed outer t ++ all_printed outer ts))
       (sym (map-append (result_of (rules_of fs) a) first more))
-      (zip_append (Tells v) (printed lent t) (all_printed lent ts) (map (result_of (rules_of fs) a) first)
+      (zip_append (Tells v) (printed outer t) (all_printed outer ts) (map (result_of (rules_of fs) a) first)
       (map (result_of (rules_of fs) a) more)
-      (tree_told v fs a known n lent inherited (first_answers answers) t is may.0)
-      (trees_told v fs a known (n + count_in t) lent inherited (later_answers answers) ts is may.1))
+      (tree_told v fs a known n outer inherited (first_answers answers) t is may.0)
+      (trees_told v fs a known (n + count_in t) outer inherited (later_answers answers) ts is may.1))
 
 known_listed : (tool : ToolName) (fs : List Finding) → Known (log tool fs) fs
 known_listed tool fs code uri e =

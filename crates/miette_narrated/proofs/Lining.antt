@@ -15,21 +15,22 @@ use Rattle.miette_narrated.specs.rules.Lines.{snippet_line, rows_of_line, rows_o
 use Rattle.miette_basics.specs.rules.Lists.{is_nil}
 
 -- The lines that are left of a read's contents, with numbers after this one, have the rows that are left of the goal.
-pub record AreLeft (labels : List LabelRange) (lent : Contents) (before : ℕ) (rest : Rest) (out goal : List ℕ) : Type 0
-  where
-    pub rows : out ++ rows_of_lines labels lent (before + 1) (lines_left rest) ≡ goal
-    pub from : lent.span.offset ≤ rest.start
-    pub to : rest.start + length rest.bytes ≡ lent.span.offset + length lent.bytes
+pub record AreLeft (labels : List LabelRange) (contents : Contents) (before : ℕ) (rest : Rest)
+    (out goal : List ℕ) : Type 0 where
+  pub rows : out ++ rows_of_lines labels contents (before + 1) (lines_left rest) ≡ goal
+  pub from : contents.span.offset ≤ rest.start
+  pub to : rest.start + length rest.bytes ≡ contents.span.offset + length contents.bytes
 
 -- all of them
-pub left_first : (labels : List LabelRange) (lent : Contents) (before : ℕ) (rest : Rest) (out : List ℕ) → rest
-    ≡ record { start = lent.span.offset; bytes = lent.bytes } → before ≡ lent.line →
-    AreLeft labels lent before rest out (out ++ rows_of_lines labels lent (lent.line + 1) (lines_of_contents lent))
-left_first labels lent before rest out is n =
-    subst (λ (r : Rest). AreLeft labels lent before r out
-    (out ++ rows_of_lines labels lent (lent.line + 1) (lines_of_contents lent))) (sym is)
+pub left_first : (labels : List LabelRange) (contents : Contents) (before : ℕ) (rest : Rest) (out : List ℕ) → rest
+    ≡ record { start = contents.span.offset; bytes = contents.bytes } → before ≡ contents.line →
+    AreLeft labels contents before rest out
+    (out ++ rows_of_lines labels contents (contents.line + 1) (lines_of_contents contents))
+left_first labels contents before rest out is n =
+    subst (λ (r : Rest). AreLeft labels contents before r out
+    (out ++ rows_of_lines labels contents (contents.line + 1) (lines_of_contents contents))) (sym is)
     (record {
-      rows = ap (λ k. out ++ rows_of_lines labels lent (k + 1) (lines_of_contents lent)) n;
+      rows = ap (λ k. out ++ rows_of_lines labels contents (k + 1) (lines_of_contents contents)) n;
       from =
           omega arith;
       to = refl;
@@ -62,32 +63,32 @@ last_is rest line end h to =
     ∙ sym t)
     (λ f. ne_eqb n 0 (λ z. eqb-false line.end end f (omega (arith, left, to, z, h.from, h.some, h.to))) ∙ sym f)
 
-pub left_more : (labels : List LabelRange) (lent : Contents) (before number : ℕ) (rest after : Rest) (line : LineOfText)
-    (is_last : Bool) (it : SnippetLine) (out new goal : List ℕ) → AreLeft labels lent before rest out goal →
-    IsFirst rest line → after ≡ behind rest line → number ≡ before + 1 → is_last
-    ≡ eqb line.end (lent.span.offset + length lent.bytes) →
-    it ≡ snippet_line lent number is_last (line_of_text line) → new ≡ out ++ rows_of_line labels it
-    → AreLeft labels lent number after new goal
-left_more labels lent before number rest after line is_last it out new goal h first left n last here put =
-    let later : List ℕ = rows_of_lines labels lent (number + 1) (lines_left (behind rest line)) in
+pub left_more : (labels : List LabelRange) (contents : Contents) (before number : ℕ) (rest after : Rest)
+    (line : LineOfText) (is_last : Bool) (it : SnippetLine) (out new goal : List ℕ)
+    → AreLeft labels contents before rest out goal → IsFirst rest line → after ≡ behind rest line
+    → number ≡ before + 1 → is_last ≡ eqb line.end (contents.span.offset + length contents.bytes) →
+    it ≡ snippet_line contents number is_last (line_of_text line) → new ≡ out ++ rows_of_line labels it
+    → AreLeft labels contents number after new goal
+left_more labels contents before number rest after line is_last it out new goal h first left n last here put =
+    let later : List ℕ = rows_of_lines labels contents (number + 1) (lines_left (behind rest line)) in
     let at_end : is_nil (lines_left (behind rest line)) ≡ is_last =
-    last_is rest line (lent.span.offset + length lent.bytes) first h.to ∙ sym last in
+    last_is rest line (contents.span.offset + length contents.bytes) first h.to ∙ sym last in
     let size : length (drop (line.end - rest.start) rest.bytes) ≡ length rest.bytes - (line.end - rest.start) =
     length-drop (line.end - rest.start) rest.bytes in
-    subst (λ (r : Rest). AreLeft labels lent number r new goal) (sym left)
+    subst (λ (r : Rest). AreLeft labels contents number r new goal) (sym left)
     (record {
       rows = ap (λ o. o ++ later) (put ∙ ap (λ x. out ++ rows_of_line labels x)
-          (here ∙ ap (λ b. snippet_line lent number b (line_of_text line)) (sym at_end)))
-          ∙ append_assoc out (rows_of_line labels (snippet_line lent number (is_nil (lines_left (behind rest line)))
+          (here ∙ ap (λ b. snippet_line contents number b (line_of_text line)) (sym at_end)))
+          ∙ append_assoc out (rows_of_line labels (snippet_line contents number (is_nil (lines_left (behind rest line)))
           (line_of_text line))) later
-          ∙ ap (λ ls. out ++ rows_of_lines labels lent number ls) (sym first.lines)
-          ∙ ap (λ k. out ++ rows_of_lines labels lent k (lines_left rest)) n ∙ h.rows;
+          ∙ ap (λ ls. out ++ rows_of_lines labels contents number ls) (sym first.lines)
+          ∙ ap (λ k. out ++ rows_of_lines labels contents k (lines_left rest)) n ∙ h.rows;
       from = omega (arith, h.from, first.from, first.some);
       to = omega (arith, h.to, size, first.from, first.some, first.to);
     })
 
-pub left_none : (labels : List LabelRange) (lent : Contents) (before : ℕ) (rest : Rest) (out goal : List ℕ)
-    → AreLeft labels lent before rest out goal → rest.bytes ≡ [] → out ≡ goal
-left_none labels lent before rest out goal h none =
-    sym (append-nil out) ∙ ap (λ bs. out ++ rows_of_lines labels lent (before + 1) (lines_from rest.start bs))
+pub left_none : (labels : List LabelRange) (contents : Contents) (before : ℕ) (rest : Rest) (out goal : List ℕ)
+    → AreLeft labels contents before rest out goal → rest.bytes ≡ [] → out ≡ goal
+left_none labels contents before rest out goal h none =
+    sym (append-nil out) ∙ ap (λ bs. out ++ rows_of_lines labels contents (before + 1) (lines_from rest.start bs))
     (sym none) ∙ h.rows

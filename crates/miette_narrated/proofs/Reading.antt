@@ -21,7 +21,7 @@ use Rattle.miette_label_rules.specs.rules.Around.{has_own, lines_around, group_c
 use Rattle.miette_label_rules.specs.rules.Groups.{put_label, in_order, refusal, AreAccepted, groups_of, some_fails}
 use Rattle.miette_label_rules.specs.rules.Groups as groups
 use Rattle.miette_labels.specs.views.Placing.{Placed, placed_of, placed_one, placed_from}
-use Rattle.miette_labels.specs.views.Reads.{IsRead, AreRead, IsLent, AreGroups, AreGrouped, IsUnread}
+use Rattle.miette_labels.specs.views.Reads.{IsRead, AreRead, AreContents, AreGroups, AreGrouped, IsUnread}
 use Rattle.miette_basics.proofs.Cases.{by_cases}
 use Rattle.miette_labels.proofs.OwnContexts.{order_all}
 use Rattle.miette_labels.proofs.RefusedLabel.{all_accepted, read_of}
@@ -149,11 +149,11 @@ pub groups_more : (handlers : ℕ) (source : Source) (labels : List LabelRange) 
 groups_more handlers source labels ls gs i d out new goal are lt is e h =
     let context : ℕ = group_context handlers ls in
     let later = snippets_of context source labels (map (λ g. g.span) (drop (suc i) gs)) in
-    let lent : d.contents ≡ contents context source d.span =
-    (subst (λ (g : Group). IsLent context source g.span g.contents) (sym is) (are.lent i d lt)).is in
+    let contents_are : d.contents ≡ contents context source d.span =
+    (subst (λ (g : Group). AreContents context source g.span g.contents) (sym is) (are.contents_are i d lt)).is in
     let left : drop i gs ≡ d ∷ drop (suc i) gs = drop-cons gs i d lt ∙ ap (λ x. x ∷ drop (suc i) gs) (sym is) in
     ap (λ k. new ++ snippets_of context source labels (map (λ g. g.span) (drop k gs))) (add-one i)
-    ∙ ap (λ o. o ++ later) (e ∙ ap (λ c. out ++ snippet labels c) lent)
+    ∙ ap (λ o. o ++ later) (e ∙ ap (λ c. out ++ snippet labels c) contents_are)
     ∙ append_assoc out (snippet labels (contents context source d.span)) later
     ∙ ap (λ xs. out ++ snippets_of context source labels (map (λ g. g.span) xs)) (sym left) ∙ h
 

@@ -175,7 +175,7 @@ pub(crate) fn push_fixes<S: SourceCode>(
     };
     let begin = SourceSpan::new(SourceOffset::from(0), 0);
     match source.read_span(&begin, 1, usize::MAX) {
-        Ok(lent) => push_over(out, alloc, lent.data(), fixes),
+        Ok(contents) => push_over(out, alloc, contents.data(), fixes),
         Err(_) => push_each(out, alloc, &FixSource::Unread, fixes),
     }
 }

@@ -91,19 +91,19 @@ fn push_inner(
 
 /// A line of the contents that a snippet's read gave.
 fn narrated_line<'a>(
-    lent: &'a MietteSpanContents<'_>,
+    contents: &'a MietteSpanContents<'_>,
     line: LineOfText,
     number: usize,
     is_last: bool,
 ) -> NarratedLine<'a>
-    requires from { lent.now.span.offset ≤ line.start }
+    requires from { contents.now.span.offset ≤ line.start }
     requires text { line.start ≤ line.text_end }
-    requires to { line.text_end ≤ lent.now.span.offset + length lent.now.bytes }
-    requires small { lent.now.span.offset + length lent.now.bytes < 2 ^ 64 }
-    ensures { narrated_line result ≡ snippet_line lent.now number is_last (line_of_text line) }
+    requires to { line.text_end ≤ contents.now.span.offset + length contents.now.bytes }
+    requires small { contents.now.span.offset + length contents.now.bytes < 2 ^ 64 }
+    ensures { narrated_line result ≡ snippet_line contents.now number is_last (line_of_text line) }
 {
-    let start = lent.span().offset();
-    let data = lent.data();
+    let start = contents.span().offset();
+    let data = contents.data();
     NarratedLine {
         line,
         number,
@@ -116,24 +116,24 @@ fn narrated_line<'a>(
 /// The rows of a snippet's lines, from the contents that its read gave.
 pub(crate) fn push_lines(
     out: &mut String,
-    lent: &MietteSpanContents<'_>,
+    contents: &MietteSpanContents<'_>,
     walk: &mut LabelWalk<'_>,
 ) -> Appended
-    requires small { lent.now.span.offset + length lent.now.bytes < 2 ^ 64 }
+    requires small { contents.now.span.offset + length contents.now.bytes < 2 ^ 64 }
     requires order { IsOrder walk.old.order }
     requires at { IsUnderWay walk.old }
     ensures rows { OnOk result (string_bytes out.new
-        ≡ string_bytes out.old ++ rows_of_lines (ranges_of walk.old.order.placed.now) lent.now
-        (lent.now.line + 1) (lines_of_contents lent.now)) }
+        ≡ string_bytes out.old ++ rows_of_lines (ranges_of walk.old.order.placed.now) contents.now
+        (contents.now.line + 1) (lines_of_contents contents.now)) }
     ensures order { walk.new.order ≡ walk.old.order }
     ensures at { OnOk result (IsUnderWay walk.new) }
 {
-    let start = lent.span().offset();
-    let end = start + lent.data().len();
-    let mut before = lent.line();
-    for line in Lines::new(lent.data(), start) {
+    let start = contents.span().offset();
+    let end = start + contents.data().len();
+    let mut before = contents.line();
+    for line in Lines::new(contents.data(), start) {
         let number = sum(before, 1)?;
-        let it = narrated_line(lent, line, number, line.end == end);
+        let it = narrated_line(contents, line, number, line.end == end);
         push_shown(out, &it, walk)?;
         before = number;
     }

@@ -47,32 +47,32 @@ fn push_place(out: &mut String, words: &str, before: usize) -> Appended
 }
 
 /// `Begin snippet for bad_file.rs starting at line 1, column 1`, and a blank row
-fn push_begin(out: &mut String, lent: &MietteSpanContents<'_>) -> Appended
-    ensures { OnOk result (string_bytes out.new ≡ string_bytes out.old ++ begin_rows lent.now) }
+fn push_begin(out: &mut String, contents: &MietteSpanContents<'_>) -> Appended
+    ensures { OnOk result (string_bytes out.new ≡ string_bytes out.old ++ begin_rows contents.now) }
 {
     out.push_str("Begin snippet")?;
-    push_name(out, lent.name())?;
-    push_place(out, " starting at line ", lent.line())?;
-    push_place(out, ", column ", lent.column())?;
+    push_name(out, contents.name())?;
+    push_place(out, " starting at line ", contents.line())?;
+    push_place(out, ", column ", contents.column())?;
     out.push_str("\n\n")
 }
 
 /// A snippet, from the contents that its read gave.
 fn push_snippet(
     out: &mut String,
-    lent: &MietteSpanContents<'_>,
+    contents: &MietteSpanContents<'_>,
     walk: &mut LabelWalk<'_>,
 ) -> Appended
     requires order { IsOrder walk.old.order }
     requires at { IsUnderWay walk.old }
     ensures rows { OnOk result (string_bytes out.new
-        ≡ string_bytes out.old ++ snippet (ranges_of walk.old.order.placed.now) lent.now) }
+        ≡ string_bytes out.old ++ snippet (ranges_of walk.old.order.placed.now) contents.now) }
     ensures order { walk.new.order ≡ walk.old.order }
     ensures at { OnOk result (IsUnderWay walk.new) }
 {
-    sum(lent.span().offset(), lent.data().len())?;
-    push_begin(out, lent)?;
-    push_lines(out, lent, walk)
+    sum(contents.span().offset(), contents.data().len())?;
+    push_begin(out, contents)?;
+    push_lines(out, contents, walk)
 }
 
 /// The snippets of labels that were read. Fails with `Refused` where a group of them can't be read, and with `Memory`

@@ -91,15 +91,15 @@ snippets_by : (f : List ℕ → List Piece) (s : snippets.SnippetSettings) (spre
     (pieces_by f s.layout.context_lines source groups) groups
 snippets_by f s spreads source labels pieces [] h = refl
 snippets_by f s spreads source labels pieces (group ∷ groups) h =
-    let lent : Contents = contents s.layout.context_lines source group in
+    let held : Contents = contents s.layout.context_lines source group in
     let drawn : List DrawnLabel = drawn_labels s (length source.bytes) labels in
-    let k = parts_by f (line_calls (texts_of source.bytes (lines_of_contents lent)) (first_of pieces))
+    let k = parts_by f (line_calls (texts_of source.bytes (lines_of_contents held)) (first_of pieces))
     (group_calls s.layout.context_lines source groups (drop 1 pieces)) h in
-    ap₂ (λ rows more. (top_row s lent (place_of source group labels) ∷ rows ++ bottom_row s (number_width lent) ∷ [])
+    ap₂ (λ rows more. (top_row s held (place_of source group labels) ∷ rows ++ bottom_row s (number_width held) ∷ [])
     ++ more)
-    (lines_by f (left_out s lent.line (lines_of_contents lent) spreads) false s (number_width lent)
-    (gutter_columns drawn (lines_of_contents lent)) drawn source.bytes (lent.line + 1) (first_of pieces)
-    (lines_of_contents lent) k.0)
+    (lines_by f (left_out s held.line (lines_of_contents held) spreads) false s (number_width held)
+    (gutter_columns drawn (lines_of_contents held)) drawn source.bytes (held.line + 1) (first_of pieces)
+    (lines_of_contents held) k.0)
     (snippets_by f s spreads source labels (drop 1 pieces) groups k.1)
 
 unless_by : (f : List ℕ → List Piece) (l : snippets.SnippetSettings) (source : Source) (labels : List Label)

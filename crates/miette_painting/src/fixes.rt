@@ -132,10 +132,10 @@ fn push_some<S: SourceCode, H>(
     }
     let begin = SourceSpan::new(SourceOffset::from(0), 0);
     match source.read_span(&begin, 1, usize::MAX) {
-        Ok(lent) => {
+        Ok(contents) => {
             let whole = WholeSource {
-                bytes: lent.data(),
-                name: lent.name(),
+                bytes: contents.data(),
+                name: contents.name(),
                 asked: &source,
             };
             push_each(painter, &FixSource::Whole(whole), fixes)

@@ -126,16 +126,16 @@ snippets_of : (follow : List Call → Type 0) → IsDetermined follow → (s : s
     (all_snippets s spreads source labels some groups ≡ all_snippets s spreads source labels others groups)
 snippets_of follow same s spreads source labels some others [] = no_calls refl
 snippets_of follow same s spreads source labels some others (group ∷ groups) =
-    let lent : Contents = contents s.layout.context_lines source group in
+    let held : Contents = contents s.layout.context_lines source group in
     let drawn : List DrawnLabel = drawn_labels s (length source.bytes) labels in
-    let first = lines follow same (left_out s lent.line (lines_of_contents lent) spreads) false
-    (snippet_context s (number_width lent) (gutter_columns drawn (lines_of_contents lent)) drawn
+    let first = lines follow same (left_out s held.line (lines_of_contents held) spreads) false
+    (snippet_context s (number_width held) (gutter_columns drawn (lines_of_contents held)) drawn
     (cells_of s source.bytes))
-    source.bytes (lent.line + 1) (first_of some) (first_of others) (lines_of_contents lent) in
+    source.bytes (held.line + 1) (first_of some) (first_of others) (lines_of_contents held) in
     let more = snippets_of follow same s spreads source labels (drop 1 some) (drop 1 others) groups in
-    let d = in_turn (in_turn (restart follow lent) first) more in
-    so_that d (λ e. ap₂ (λ rows later. (top_row s lent (place_of source group labels) ∷ rows
-    ++ bottom_row s (number_width lent) ∷ []) ++ later) e.0.1 e.1)
+    let d = in_turn (in_turn (restart follow held) first) more in
+    so_that d (λ e. ap₂ (λ rows later. (top_row s held (place_of source group labels) ∷ rows
+    ++ bottom_row s (number_width held) ∷ []) ++ later) e.0.1 e.1)
 
 unless : (follow : List Call → Type 0) → IsDetermined follow → (l : snippets.SnippetSettings) (source : Source)
     (labels : List Label) (some others : List (List (List Highlight))) (refused : Option Refusal)

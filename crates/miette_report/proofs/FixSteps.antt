@@ -46,9 +46,9 @@ lists_same [] = refl
 lists_same (fix ∷ list) = ap (λ l. fix.now.edits ∷ l) (lists_same list)
 
 -- those of all that are asked for, by how they were found
-pub asked_lists : (all : Bool) (t : Tree) (lent list found none : List (Bor Proposal)) → lent ≡ list
+pub asked_lists : (all : Bool) (t : Tree) (slice list found none : List (Bor Proposal)) → slice ≡ list
     → fixes_in list ≡ asked_fixes all (fixes_in found) → fixes_in found ≡ fixes_in none ++ fixes_over t → none ≡ []
-    → lists_of lent ≡ asked_edits all t
-asked_lists all t lent list found none l a f n =
+    → lists_of slice ≡ asked_edits all t
+asked_lists all t slice list found none l a f n =
     ap lists_of l ∙ lists_same list
     ∙ ap (map (λ fix. fix.edits)) (a ∙ ap (asked_fixes all) (f ∙ ap (λ x. fixes_in x ++ fixes_over t) n))

@@ -20,10 +20,10 @@ described value bytes_of rs r asked bytes (Err e) same h p = tt
 described value bytes_of rs r asked bytes (Ok text) same h p =
     (h.0, (value r, h.1, p ∙ ap (λ l. logged_text asked (trees (map value l))) same))
 
-pub log_written : (asked : LogRequest) (all : Option (List ℕ)) (bytes lent text put : List ℕ) (P : List ℕ → Type 0)
-    → IfSome all (λ bs. bytes ≡ bs) → lent ≡ bytes → Logs asked lent (λ log. text ≡ log) → put ≡ text → P put
+pub log_written : (asked : LogRequest) (all : Option (List ℕ)) (bytes slice text put : List ℕ) (P : List ℕ → Type 0)
+    → IfSome all (λ bs. bytes ≡ bs) → slice ≡ bytes → Logs asked slice (λ log. text ≡ log) → put ≡ text → P put
     → IfSome all (λ bs. Logs asked bs P)
-log_written asked None bytes lent text put P read same log e p = tt
-log_written asked (Some bs) bytes lent text put P read same log e p =
-    let here : Logs asked lent P = (log.0, (log.1.0, log.1.1, subst P (e ∙ log.1.2) p)) in
+log_written asked None bytes slice text put P read same log e p = tt
+log_written asked (Some bs) bytes slice text put P read same log e p =
+    let here : Logs asked slice P = (log.0, (log.1.0, log.1.1, subst P (e ∙ log.1.2) p)) in
     subst (λ b. Logs asked b P) (same ∙ read) here

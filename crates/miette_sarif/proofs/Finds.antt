@@ -63,16 +63,17 @@ primary_taken f None picked gs os e h = (ap (option_map (λ it. it.mark)) e, ap 
 primary_taken f (Some x) picked gs os e h = (ap (option_map (λ it. it.mark)) e, ap (λ p. others_in p gs) e)
 
 pub marks_added : {X : Type 0} (f : X → Mark) (taken : Option X) (over : Option SeenSource) (n : ℕ) (m : Diagnosis)
-    (sections : List Section) (its shown : List SeenSource) (groups lent others : List Group) (primary : Option Mark)
+    (sections : List Section) (its shown : List SeenSource) (groups slice others : List Group) (primary : Option Mark)
     (old new : List Mark) → SeesFurther n sections its → sections ≡ m.snippets → shown ≡ its
-    → groups ≡ groups_of over shown m → lent ≡ groups
-    → primary_in lent ≡ option_map (λ x. record { mark = f x; others = others }) taken → (taken ≡ None → others ≡ lent)
-    → primary ≡ mark_or (option_map f taken) over → new ≡ old ++ marks_of others → AddsMarks over n m primary old new
-marks_added f taken over n m sections its shown groups lent others primary old new seen e es eg el p stays place put =
+    → groups ≡ groups_of over shown m → slice ≡ groups
+    → primary_in slice ≡ option_map (λ x. record { mark = f x; others = others }) taken
+    → (taken ≡ None → others ≡ slice) → primary ≡ mark_or (option_map f taken) over → new ≡ old ++ marks_of others
+    → AddsMarks over n m primary old new
+marks_added f taken over n m sections its shown groups slice others primary old new seen e es eg el p stays place put =
     let here : SeesFurther n m.snippets its = subst (λ ss. SeesFurther n ss its) e seen in
-    let whole : lent ≡ groups_of over (seen_further here.faults n m.snippets) m =
+    let whole : slice ≡ groups_of over (seen_further here.faults n m.snippets) m =
     el ∙ eg ∙ ap (λ l. groups_of over l m) (es ∙ here.are) in
-    let took = primary_taken f taken (primary_in lent) lent others p stays in
+    let took = primary_taken f taken (primary_in slice) slice others p stays in
     record {
       faults = here.faults;
       possible = here.possible;

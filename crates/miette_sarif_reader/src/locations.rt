@@ -68,7 +68,7 @@ impl Model for Spot {
 
 impl Located {
     /// It, with its name borrowed.
-    pub(crate) fn lent(&self) -> Place<'_>
+    pub(crate) fn borrowed(&self) -> Place<'_>
         ensures { result ≡ self.now }
     {
         Place {
@@ -98,7 +98,7 @@ impl Spot {
     {
         let rows = rows_of(alloc, &self.row)?;
         let place = match &self.place {
-            Some(place) => Some(place.lent()),
+            Some(place) => Some(place.borrowed()),
             None => None,
         };
         Ok(Told {

@@ -18,7 +18,7 @@ use std::alloc::{AllocError, Global};
 fn edit_at<'f, 'd, F: Files>(files: &'f F, edit: &'d Replaced<'_>) -> Option<FileEdit<'f, 'd>>
     ensures { result ≡ edit_at (F.found files.now) edit.now }
 {
-    FileEdit::found(files, &edit.place.lent(), edit.text)
+    FileEdit::found(files, &edit.place.borrowed(), edit.text)
 }
 
 /// These edits, where each one's place is found.

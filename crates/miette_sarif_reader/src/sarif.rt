@@ -12,7 +12,7 @@ ghost use Rattle.miette_sarif_reader.specs.views.Grounds.{ground_in};
 
 use crate::ground::{Ground, lists_of};
 use crate::proposals::{help_of, offers_of};
-use crate::telling::lent;
+use crate::telling::borrowed;
 use miette_protocol::protocol::Diagnostic;
 use miette_protocol::source::SourceCode;
 use miette_readers::files::{Files, LentFile};
@@ -44,7 +44,7 @@ fn result_report<'f, D: Diagnostic, F: Files>(
         ≡ result_in (ground_in F.found ground.now) (view finding.now)) }
 {
     let spots = ground.told_of(alloc, finding)?;
-    let told = lent(alloc, spots.as_slice())?;
+    let told = borrowed(alloc, spots.as_slice())?;
     let drafts = ground.drafts_of(alloc, finding)?;
     let offers = offers_of(alloc, ground.files, drafts.as_slice())?;
     let help = help_of(alloc, ground.files, drafts.as_slice())?;

@@ -258,7 +258,7 @@ impl<'f, 'l, 'v, F: Files> Ground<'f, 'l, 'v, F> {
 }
 
 /// What is told, with the names of files borrowed.
-pub(crate) fn lent(alloc: Global, spots: &[Spot]) -> Result<Vec<Told<'_>>, AllocError>
+pub(crate) fn borrowed(alloc: Global, spots: &[Spot]) -> Result<Vec<Told<'_>>, AllocError>
     ensures { IfOk result (λ list. list.items ≡ spots.now) }
 {
     let mut list = Vec::new(alloc);

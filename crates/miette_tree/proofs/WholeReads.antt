@@ -38,26 +38,26 @@ reaches_end source before most start some small =
     ap₂ (slice_range bytes) start full ∙ take_all (length bytes - 0) bytes (omega arith)
 
 -- the contents of such a read have the bytes of the source
-pub lent_whole : (source : Source) (before : ℕ) (span : Span) (lent : Contents) (bytes : List ℕ)
+pub contents_whole : (source : Source) (before : ℕ) (span : Span) (contents : Contents) (bytes : List ℕ)
     → data_start source.bytes nowhere before ≡ 0 → span ≡ nowhere
-    → lent ≡ contents_of source span before 18446744073709551615 → bytes ≡ lent.bytes
+    → contents ≡ contents_of source span before 18446744073709551615 → bytes ≡ contents.bytes
     → length bytes < 18446744073709551615 → bytes ≡ source.bytes
-lent_whole source before span lent bytes start at lends is small =
+contents_whole source before span contents bytes start at gives is small =
     let most : ℕ = 18446744073709551615 in
     let same : bytes ≡ (contents_of source nowhere before most).bytes =
-    is ∙ ap (λ (it : Contents). it.bytes) (lends ∙ ap (λ s. contents_of source s before most) at) in
+    is ∙ ap (λ (it : Contents). it.bytes) (gives ∙ ap (λ s. contents_of source s before most) at) in
     let few : length (contents_of source nowhere before most).bytes < most = omega (arith, ap length same, small) in
     same ∙ reaches_end source before most start (omega arith) few
 
 -- the same with a line in front
-pub read_whole : (source : Source) (span : Span) (lent : Contents) (bytes : List ℕ) → span ≡ nowhere
-    → lent ≡ contents_of source span 1 18446744073709551615 → bytes ≡ lent.bytes
+pub read_whole : (source : Source) (span : Span) (contents : Contents) (bytes : List ℕ) → span ≡ nowhere
+    → contents ≡ contents_of source span 1 18446744073709551615 → bytes ≡ contents.bytes
     → length bytes < 18446744073709551615 → bytes ≡ source.bytes
-read_whole source span lent bytes at lends is small =
+read_whole source span contents bytes at gives is small =
     let first : line_of source.bytes 0 - 1 ≡ 0 = omega (arith, line_of_none source.bytes) in
     let start : data_start source.bytes nowhere 1 ≡ 0 = start_is source.bytes nowhere 1 (omega arith)
     ∙ ap (line_start source.bytes) first ∙ line_start_first source.bytes in
-    lent_whole source 1 span lent bytes start at lends is small
+    contents_whole source 1 span contents bytes start at gives is small
 
 -- a read that is refused meets a fault
 pub fault_met : (source : Source) (e : MietteError) → Refuses source nowhere e → source.always_reads ≡ false

@@ -12,15 +12,15 @@ spread_of s = record { first = s.first; last = s.last; from = s.from; until = s.
 
 -- which of the lines of a read's contents a line with this number is; after the last one, how many are terminated
 abbrev pub place_in : Contents → ℕ → ℕ
-place_in lent line = min (line - lent.line) lent.line_count
+place_in contents line = min (line - contents.line) contents.line_count
 
 -- the numbers of a label's lines are true among the lines of a read's contents
-pub record IsNumbered (lent : Contents) (label : MadeSpread) : Type 0 where
-  pub first : place_among (lines_of_contents lent) label.first ≡ place_in lent label.first_line
-  pub last : place_among (lines_of_contents lent) label.last ≡ place_in lent label.last_line
-  pub from : place_among (lines_of_contents lent) label.from ≡ place_in lent label.from_line
+pub record IsNumbered (contents : Contents) (label : MadeSpread) : Type 0 where
+  pub first : place_among (lines_of_contents contents) label.first ≡ place_in contents label.first_line
+  pub last : place_among (lines_of_contents contents) label.last ≡ place_in contents label.last_line
+  pub from : place_among (lines_of_contents contents) label.from ≡ place_in contents label.from_line
 
 -- those of all labels are, and the read counted its lines
-pub record AreNumbered (lent : Contents) (labels : List MadeSpread) : Type 0 where
-  pub counted : lent.line_count ≡ count_by is_terminated (lines_of_contents lent)
-  pub each : All (IsNumbered lent) labels
+pub record AreNumbered (contents : Contents) (labels : List MadeSpread) : Type 0 where
+  pub counted : contents.line_count ≡ count_by is_terminated (lines_of_contents contents)
+  pub each : All (IsNumbered contents) labels

@@ -7,7 +7,7 @@ use Rattle.miette_labels.specs.declared.reading.RefusalReason.{RefusalReason}
 use Rattle.miette_labels.specs.declared.grouping.Group.{Group}
 use Rattle.miette_label_rules.specs.rules.Answers.{NoneFails}
 use Rattle.miette_label_rules.specs.rules.Groups.{groups_answered}
-use Rattle.miette_labels.specs.views.Reads.{IsLent}
+use Rattle.miette_labels.specs.views.Reads.{AreContents}
 use Rattle.miette_protocol.specs.declared.error.MietteError.TheVariants as errors
 use Rattle.miette_labels.specs.declared.reading.RefusalReason.TheVariants as reasons
 
@@ -21,4 +21,4 @@ pub record AreJoined (context : ℕ) (source : Source) (spans : List Span) (grou
   pub fails : List Bool
   pub always : source.always_reads ≡ true → NoneFails fails
   pub are : map (λ group. group.span) groups ≡ groups_answered context source fails spans
-  pub lent : All (λ group. IsLent context source group.span group.contents) groups
+  pub contents_are : All (λ group. AreContents context source group.span group.contents) groups

@@ -15,14 +15,14 @@ abbrev pub end_drawn : ReadLabel → ℕ
 end_drawn read = max read.span.offset (min (end_of_span read.span) (end_of_span read.contents.span))
 
 -- whether a read's contents have bytes before its label and none from there on
-abbrev pub lends_before : ReadLabel → Bool
-lends_before read = nat_lt read.contents.span.offset read.span.offset
+abbrev pub reads_before : ReadLabel → Bool
+reads_before read = nat_lt read.contents.span.offset read.span.offset
     && end_of_span read.contents.span == read.span.offset
 
 -- where the source ends, as the first such read tells
 abbrev pub told_end : List ReadLabel → Option ℕ
 told_end [] = None
-told_end (read ∷ reads) = if lends_before read then Some read.span.offset else told_end reads
+told_end (read ∷ reads) = if reads_before read then Some read.span.offset else told_end reads
 
 -- whether that is a label's offset
 abbrev pub is_told : Option ℕ → ℕ → Bool

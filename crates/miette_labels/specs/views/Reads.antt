@@ -38,9 +38,9 @@ AreRead context source labels order (reads.Refused index reason) =
     × (index < length labels)
 
 -- a span was accepted and read with `context` lines of context, and these are the read's contents
-pub record IsLent (context : ℕ) (source : Source) (span : Span) (lent : Contents) : Type 0 where
+pub record AreContents (context : ℕ) (source : Source) (span : Span) (held : Contents) : Type 0 where
   pub accepted : IsAccepted source.bytes span
-  pub is : lent ≡ contents context source span
+  pub is : held ≡ contents context source span
 
 -- groups of these labels by offset, under some answers of the source, where the read of none fails
 pub record AreGroups (context : ℕ) (source : Source) (labels : List Label) (groups : List Group) : Type 0 where
@@ -48,7 +48,7 @@ pub record AreGroups (context : ℕ) (source : Source) (labels : List Label) (gr
   pub always : source.always_reads ≡ true → NoneFails fails
   pub are : map (λ group. group.span) groups ≡ groups_of context source fails labels
   pub read : groups_fail context source fails labels ≡ false
-  pub lent : All (λ group. IsLent (group_context context labels) source group.span group.contents) groups
+  pub contents_are : All (λ group. AreContents (group_context context labels) source group.span group.contents) groups
 
 -- under some answers of the source the read of a group fails
 pub record IsUnread (context : ℕ) (source : Source) (labels : List Label) : Type 0 where

@@ -26,12 +26,12 @@ pub record Printed : Type 0 where
 -- a report and those that are related to it, depth first, under one whose source they inherit, or under none
 abbrev mutual
   pub printed : Option Source → Tree → List Printed
-  printed lent (tree m s c r) =
-      record { source = effective s lent; report = tree m s c r } ∷ all_printed (effective s lent) r
+  printed inherited (tree m s c r) =
+      record { source = effective s inherited; report = tree m s c r } ∷ all_printed (effective s inherited) r
 
   pub all_printed : Option Source → Trees → List Printed
-  all_printed lent no_trees = []
-  all_printed lent (more_trees t ts) = printed lent t ++ all_printed lent ts
+  all_printed inherited no_trees = []
+  all_printed inherited (more_trees t ts) = printed inherited t ++ all_printed inherited ts
 
 -- ---- a log
 

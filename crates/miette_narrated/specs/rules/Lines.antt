@@ -17,12 +17,13 @@ line_row it = row (codes "snippet line " ++ (decimal it.number ++ (codes ": " ++
 
 -- a line of the contents that a snippet's read gave
 abbrev pub snippet_line : Contents → ℕ → Bool → Line → SnippetLine
-snippet_line lent number is_last line = record {
+snippet_line contents number is_last line = record {
   line = line;
   number = number;
   is_last = is_last;
-  data_end = lent.span.offset + length lent.bytes;
-  characters = characters (slice_range lent.bytes (line.start - lent.span.offset) (line.text_end - lent.span.offset));
+  data_end = contents.span.offset + length contents.bytes;
+  characters = characters (slice_range contents.bytes (line.start - contents.span.offset)
+      (line.text_end - contents.span.offset));
 }
 
 -- a line, and the labels on it
@@ -31,6 +32,7 @@ rows_of_line labels it = line_row it ++ label_rows it labels
 
 -- lines with numbers from this one on
 abbrev pub rows_of_lines : List LabelRange → Contents → ℕ → List Line → List ℕ
-rows_of_lines labels lent number [] = []
-rows_of_lines labels lent number (line ∷ lines) =
-    rows_of_line labels (snippet_line lent number (is_nil lines) line) ++ rows_of_lines labels lent (number + 1) lines
+rows_of_lines labels contents number [] = []
+rows_of_lines labels contents number (line ∷ lines) =
+    rows_of_line labels (snippet_line contents number (is_nil lines) line)
+    ++ rows_of_lines labels contents (number + 1) lines

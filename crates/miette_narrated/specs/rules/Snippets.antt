@@ -15,14 +15,16 @@ name_text (Some name) = codes " for " ++ name
 
 -- `Begin snippet for bad_file.rs starting at line 1, column 1`, and a blank row
 abbrev pub begin_rows : Contents → List ℕ
-begin_rows lent =
-    row (codes "Begin snippet" ++ (name_text lent.name
-    ++ (codes " starting at line " ++ (decimal (lent.line + 1) ++ (codes ", column " ++ decimal (lent.column + 1))))))
+begin_rows contents =
+    row (codes "Begin snippet" ++ (name_text contents.name
+    ++ (codes " starting at line " ++ (decimal (contents.line + 1)
+    ++ (codes ", column " ++ decimal (contents.column + 1))))))
     ++ row []
 
 -- a snippet, from the contents that its read gave
 abbrev pub snippet : List LabelRange → Contents → List ℕ
-snippet labels lent = begin_rows lent ++ rows_of_lines labels lent (lent.line + 1) (lines_of_contents lent)
+snippet labels contents =
+    begin_rows contents ++ rows_of_lines labels contents (contents.line + 1) (lines_of_contents contents)
 
 abbrev pub snippets_of : ℕ → Source → List LabelRange → List Span → List ℕ
 snippets_of context source labels [] = []

@@ -9,7 +9,7 @@ use Rattle.miette_snippet_rules.specs.rules.SnippetLayout.{is_within}
 
 -- whether a group's bytes hold some data
 abbrev pub holds : Span → Span → Bool
-holds group lent = nat_le group.offset lent.offset && nat_le (end_of_span lent) (end_of_span group)
+holds group part = nat_le group.offset part.offset && nat_le (end_of_span part) (end_of_span group)
 
 -- the groups that hold the data of a label's read
 abbrev pub groups_with : ℕ → Source → List Label → Label → List Span

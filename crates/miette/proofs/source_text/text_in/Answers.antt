@@ -10,7 +10,7 @@ pub text_of-requires : goal.text_of-requires
 text_of-requires c =
     let source : Source = owned_source c.args.source.now in
     let begin : c.new-begin.result ≡ nowhere = search rules in
-    let read = whole source c.in-Ok.lent c.data.result.now
+    let read = whole source c.in-Ok.contents c.data.result.now
     (c.in-Ok.ensures.1 ∙ ap (λ span. contents_of source span 1 most) begin) c.data.ensures
     (omega (arith, c.data.type_inv.1)) in
     subst IsUtf8 (sym read) c.requires.utf8
@@ -19,7 +19,7 @@ pub returns-in-Ok : goal.returns-in-Ok
 returns-in-Ok c =
     let source : Source = owned_source c.args.source.now in
     let begin : c.new-begin.result ≡ nowhere = search rules in
-    c.text_of.ensures ∙ whole source c.in-Ok.lent c.data.result.now
+    c.text_of.ensures ∙ whole source c.in-Ok.contents c.data.result.now
     (c.in-Ok.ensures.1 ∙ ap (λ span. contents_of source span 1 most) begin) c.data.ensures
     (omega (arith, c.data.type_inv.1))
 

@@ -11,8 +11,8 @@ use Rattle.miette_highlight.specs.rules.HighlighterCalls.{Call, Leads}
 use Rattle.miette_source_lines.specs.rules.Lines.{lines_from}
 use Rattle.miette_label_rules.specs.views.GivenLabels.{drawn_of}
 use Rattle.miette_snippet_rules.specs.rules.SnippetLayout.{snippet_context}
-use Rattle.miette_frames.specs.views.LentRows.{cells_in, texts_in}
-use Rattle.miette_drawing.proofs.ReadRows.{told_lent}
+use Rattle.miette_frames.specs.views.ContentsRows.{cells_in, texts_in}
+use Rattle.miette_drawing.proofs.ReadRows.{told_contents}
 use Rattle.miette_drawing.proofs.AroundRows.{rows_around}
 use Rattle.miette_drawing.proofs.snippet.push_framed.Goals as goal
 
@@ -38,23 +38,23 @@ push_lines-requires-clause-at g c =
 
 pub extent_of-requires-clause-folds : goal.extent_of-requires-clause-folds
 extent_of-requires-clause-folds g c =
-    let lent = c.args.snippet.now.contents.now in
+    let contents = c.args.snippet.now.contents.now in
     let spreads = c.around-spreads.result.now in
-    let at : lent.span.offset ≡ c.offset-start.result =
+    let at : contents.span.offset ≡ c.offset-start.result =
     sym (c.offset-start.ensures ∙ ap (λ s. s.offset) c.span.ensures) in
     record {
       labels = spreads;
-      are = c.in_ok-folds.ensures ∙ ap (λ n. map (fold_in n lent.bytes) spreads) at
+      are = c.in_ok-folds.ensures ∙ ap (λ n. map (fold_in n contents.bytes) spreads) at
           ∙ ap (λ bs. map (fold_in c.offset-start.result bs) spreads) (sym c.data-bytes.ensures);
     }
 
 pub push_lines-requires-clause-folds : goal.push_lines-requires-clause-folds
 push_lines-requires-clause-folds g c =
-    let lent = c.args.snippet.now.contents.now in
+    let contents = c.args.snippet.now.contents.now in
     let spreads = c.around-spreads.result.now in
-    let at : lent.span.offset ≡ c.offset-start.result =
+    let at : contents.span.offset ≡ c.offset-start.result =
     sym (c.offset-start.ensures ∙ ap (λ s. s.offset) c.span.ensures) in
-    c.in_ok-folds.ensures ∙ ap (λ n. map (fold_in n lent.bytes) spreads) at
+    c.in_ok-folds.ensures ∙ ap (λ n. map (fold_in n contents.bytes) spreads) at
     ∙ ap (λ bs. map (fold_in c.offset-start.result bs) spreads) (sym c.data-bytes.ensures)
 
 pub folds_in-requires-clause-numbered : goal.folds_in-requires-clause-numbered
@@ -71,7 +71,7 @@ returns-clause-rows g c =
     let had : List Call → Type 0 = follows g.H.Highlighter.may_follow c.args.highlighter.now in
     let now : List Call → Type 0 = follows g.H.Highlighter.may_follow c.push_lines.new.highlighter in
     on_ok_weaker c.push_bottom_row.result
-    (told_lent (settings_of drawing.settings) (map spread_of drawing.spreads.now) drawing.placed.now
+    (told_contents (settings_of drawing.settings) (map spread_of drawing.spreads.now) drawing.placed.now
     snippet.contents.now (option_map place_at snippet.place) blank (λ calls. Leads had calls now)
     c.in_ok-number_width.field-0 c.in_ok-gutter_width.field-0 c.in_ok-extent.extent.lines c.in_ok-extent.extent.most
     c.line-before.result c.offset-start.result

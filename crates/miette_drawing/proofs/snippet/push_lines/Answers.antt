@@ -9,7 +9,7 @@ use Rattle.miette_snippet_rules.specs.rules.SnippetLayout.{left_out}
 use Rattle.miette_source_lines.specs.rules.Lines.{Line, lines_from}
 use Rattle.miette_folds.specs.declared.folds.LineStart.{LineStart}
 use Rattle.miette_folds.specs.views.Spreads.{spread_of}
-use Rattle.miette_frames.specs.views.LentRows.{text_in}
+use Rattle.miette_frames.specs.views.ContentsRows.{text_in}
 use Rattle.miette_folds.specs.views.Gaps.{next_line}
 use Rattle.miette_source_lines.specs.views.Walking.{line_of_text}
 use Rattle.miette_labels.specs.views.Sweeping.{IsAt}

@@ -4,13 +4,13 @@ use Rattle.miette_folds.specs.views.Spreads.{spread_of}
 use Rattle.miette_frames.specs.views.Places.{place_at}
 use Rattle.miette_snippet_rules.specs.views.Settings.{settings_of}
 use Rattle.miette_label_rules.specs.views.GivenLabels.{drawn_of}
-use Rattle.miette_frames.specs.views.LentRows.{PutsRows, lent_snippet}
+use Rattle.miette_frames.specs.views.ContentsRows.{PutsRows, contents_snippet}
 use Rattle.miette_labels.specs.views.Sweeping.{IsAt}
 use Rattle.miette_highlight.specs.rules.HighlighterCalls.{Call, Leads, restarted}
 use Rattle.miette_snippet_rules.specs.rules.Highlighting.{follows, leaves_plain}
 use Rattle.miette_page.specs.rules.Rows.{Row}
 use Rattle.miette_label_rules.specs.rules.Answers.{Highlight}
-use Rattle.miette_drawing.proofs.ReadRows.{lent_texts, restarted_first}
+use Rattle.miette_drawing.proofs.ReadRows.{contents_texts, restarted_first}
 use Rattle.miette_drawing.proofs.snippet.push_snippet.Goals as goal
 
 pub push_framed-requires-clause-at : goal.push_framed-requires-clause-at
@@ -21,18 +21,18 @@ push_framed-requires-clause-at g c =
 
 pub returns-clause-rows : goal.returns-clause-rows
 returns-clause-rows g c =
-    let lent = c.args.snippet.now.contents.now in
+    let contents = c.args.snippet.now.contents.now in
     let drawing = c.args.drawing.now in
     let had : List Call → Type 0 = follows g.H.Highlighter.may_follow c.args.highlighter.now in
     let begun : List Call → Type 0 = follows g.H.Highlighter.may_follow c.restart.new.highlighter in
     let now : List Call → Type 0 = follows g.H.Highlighter.may_follow c.push_framed.new.highlighter in
     let blank = leaves_plain g.H.Highlighter.is_blank c.restart.new.highlighter in
-    let drawn : List (List Highlight) → List Row = lent_snippet (settings_of drawing.settings)
-    (map spread_of drawing.spreads.now) (map drawn_of drawing.placed.now) lent
+    let drawn : List (List Highlight) → List Row = contents_snippet (settings_of drawing.settings)
+    (map spread_of drawing.spreads.now) (map drawn_of drawing.placed.now) contents
     (option_map place_at c.args.snippet.now.place) in
-    subst (λ b. PutsRows b (λ calls. Leads had (restarted lent ∷ calls) now) (lent_texts lent) drawn c.args.page.now
-    c.push_framed.new.page) c.restart.ensures.stays
-    (restarted_first blank had begun now (lent_texts lent) drawn lent c.args.page.now c.push_framed.new.page
+    subst (λ b. PutsRows b (λ calls. Leads had (restarted contents ∷ calls) now) (contents_texts contents) drawn
+    c.args.page.now c.push_framed.new.page) c.restart.ensures.stays
+    (restarted_first blank had begun now (contents_texts contents) drawn contents c.args.page.now c.push_framed.new.page
     c.restart.ensures.calls c.in_ok-push_framed.ensures.rows)
 
 pub returns-clause-at : goal.returns-clause-at

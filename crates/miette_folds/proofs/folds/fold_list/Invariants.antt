@@ -3,5 +3,6 @@ use Rattle.miette_folds.specs.views.Folding.{fold_in}
 use Rattle.miette_folds.proofs.folds.fold_list.Given as goal
 
 abbrev pub invariant-loop-label : goal.invariant-loop-label
-invariant-loop-label l = l.folds.items ++ map (fold_in l.lent.span.offset l.lent.bytes) (drop l.label-index l.labels)
-    ≡ map (fold_in l.lent.span.offset l.lent.bytes) l.labels
+invariant-loop-label l =
+    l.folds.items ++ map (fold_in l.contents.span.offset l.contents.bytes) (drop l.label-index l.labels)
+    ≡ map (fold_in l.contents.span.offset l.contents.bytes) l.labels

@@ -8,12 +8,12 @@ use Rattle.miette_folds.proofs.snippet_folds.folds_in.Goals as goal
 
 pub invariant_of-result : goal.invariant_of-result
 invariant_of-result c =
-    let lent = c.args.lent.now in
+    let contents = c.args.contents.now in
     let bounds = c.in_ok-bounds.bounds in
     record {
       bounds = subst (λ (ls : List MadeSpread). AreBounds ls bounds.untils.items bounds.froms.items)
           (sym (ap (map (λ (f : Fold). f.label)) c.in_ok-all.ensures
-          ∙ labels_of lent.span.offset lent.bytes c.args.labels.now))
+          ∙ labels_of contents.span.offset contents.bytes c.args.labels.now))
           c.in_ok-bounds.ensures;
       stops = subst (λ (fs : List Fold). AreStops fs c.in_ok-stops.stops.items) c.deref.ensures.value
           c.in_ok-stops.ensures;

@@ -1,4 +1,4 @@
-use Rattle.miette_labels.proofs.GroupsOfReads.{reads_accepted, all_lent, grouped_own, grouped_joined}
+use Rattle.miette_labels.proofs.GroupsOfReads.{reads_accepted, all_contents, grouped_own, grouped_joined}
 use Rattle.miette_labels.proofs.grouping.groups.Goals as goal
 
 pub own_groups-requires : goal.own_groups-requires
@@ -13,7 +13,7 @@ returns-then-some_own g c =
 
 pub joined_groups-requires : goal.joined_groups-requires
 joined_groups-requires g c =
-    all_lent c.args.context (g.S.SourceCode.source c.args.source.now) c.args.labels.now c.args.reads.now
+    all_contents c.args.context (g.S.SourceCode.source c.args.source.now) c.args.labels.now c.args.reads.now
     c.some_own.result c.some_own.ensures c.if-some_own.false c.requires.each
 
 pub returns : goal.returns

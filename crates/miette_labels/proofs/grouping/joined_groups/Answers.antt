@@ -1,6 +1,6 @@
 use Rattle.std.proofs.Common.{ap, ◌∙◌}
-use Rattle.miette_labels.specs.views.Reads.{IsLent}
-use Rattle.miette_labels.proofs.GroupsSoFar.{loop_first, loop_some, loop_none, loop_end, no_groups, item_lent}
+use Rattle.miette_labels.specs.views.Reads.{AreContents}
+use Rattle.miette_labels.proofs.GroupsSoFar.{loop_first, loop_some, loop_none, loop_end, no_groups, item_contents}
 use Rattle.miette_labels.proofs.grouping.joined_groups.Goals as goal
 use Rattle.miette_labels.proofs.grouping.joined_groups.Goals.{in-Some-2}
 use Rattle.miette_labels.proofs.grouping.joined_groups.Goals.{in-None+in_ok-own_group-in-None+in_ok-push-in-None}
@@ -18,15 +18,15 @@ loop-label-init g c =
 
 pub larger_group-requires-clause-label : goal.larger_group-requires-clause-label
 larger_group-requires-clause-label g c =
-    item_lent c.args.context (g.S.SourceCode.source c.args.source.now) c.args.labels.now c.in-Some.rest.now
+    item_contents c.args.context (g.S.SourceCode.source c.args.source.now) c.args.labels.now c.in-Some.rest.now
     c.in-Some.first.now c.label-item.result c.loop-label.label-index
     c.requires c.in-Some.ensures.cases.0 c.loop-label-test.true c.label-item.is
 
 pub loop-label-preserved : goal.loop-label-preserved
 loop-label-preserved g c =
-    let own : IsLent c.args.context (g.S.SourceCode.source c.args.source.now) c.label-item.result.span
+    let own : AreContents c.args.context (g.S.SourceCode.source c.args.source.now) c.label-item.result.span
     c.label-item.result.contents =
-    item_lent c.args.context (g.S.SourceCode.source c.args.source.now) c.args.labels.now c.in-Some.rest.now
+    item_contents c.args.context (g.S.SourceCode.source c.args.source.now) c.args.labels.now c.in-Some.rest.now
     c.in-Some.first.now c.label-item.result c.loop-label.label-index
     c.requires c.in-Some.ensures.cases.0 c.loop-label-test.true c.label-item.is in
     elim c.match-branch-3.branch [

@@ -1,6 +1,6 @@
-use Rattle.miette_labels.specs.views.Reads.{IsLent}
+use Rattle.miette_labels.specs.views.Reads.{AreContents}
 use Rattle.miette_labels.proofs.GroupsOfReads.{all_read, none_read, read_more}
-use Rattle.miette_labels.proofs.KnownLabels.{lent_known, lent_last, start_known}
+use Rattle.miette_labels.proofs.KnownLabels.{read_known, read_last, start_known}
 use Rattle.miette_labels.proofs.grouping.read_all.Goals as goal
 
 pub loop-span-init : goal.loop-span-init
@@ -21,15 +21,15 @@ read_span_near-requires-clause-last g c = c.loop-span.invariant.last
 pub loop-span-preserved : goal.loop-span-preserved
 loop-span-preserved g c =
     let source = g.S.SourceCode.source c.args.source.now in
-    let lent : IsLent 0 source c.span-item.result c.in-Ok.contents =
+    let contents_are : AreContents 0 source c.span-item.result c.in-Ok.contents =
     record { accepted = c.in-Ok.ensures.0; is = c.in-Ok.ensures.1 } in
     record {
       reads = read_more source c.args.spans.now c.loop-span.span-index c.loop-span.groups.items
           c.push.new.self.items c.span-item.result c.in-Ok.contents c.loop-span.invariant.reads c.loop-span-test.true
           c.span-item.is c.in-Ok.ensures.0 c.in-Ok.ensures.1 c.in_ok-push-in-Ok.ensures.items;
-      first = lent_known 0 source c.span-item.result c.in-Ok.contents c.known-known.result.first lent
+      first = read_known 0 source c.span-item.result c.in-Ok.contents c.known-known.result.first contents_are
           c.known-known.ensures.offset c.known-known.ensures.line;
-      last = lent_last 0 source c.span-item.result c.in-Ok.contents c.known-known.result lent
+      last = read_last 0 source c.span-item.result c.in-Ok.contents c.known-known.result contents_are
           c.known-known.ensures.offset c.known-known.ensures.line c.known-known.ensures.last;
     }
 

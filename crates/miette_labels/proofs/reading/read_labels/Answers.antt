@@ -1,6 +1,6 @@
 use Rattle.std.proofs.Common.{length, ◌<◌, refl, slice_index_or}
-use Rattle.miette_labels.specs.views.Reads.{IsLent, IsRead}
-use Rattle.miette_labels.proofs.KnownLabels.{lent_known, lent_last, start_known}
+use Rattle.miette_labels.specs.views.Reads.{AreContents, IsRead}
+use Rattle.miette_labels.proofs.KnownLabels.{read_known, read_last, start_known}
 use Rattle.miette_labels.proofs.RefusedLabel.{all_read, none_read, own_read, read_more, refused_here}
 use Rattle.miette_labels.proofs.reading.read_labels.Goals as goal
 
@@ -52,15 +52,15 @@ loop-turn-preserved g c =
     c.in-Ok.ensures.1 c.lines_around-lines.ensures c.some_own-own.ensures in
     let source = g.S.SourceCode.source c.args.source.now in
     let lines = c.lines_around-lines.result in
-    let lent : IsLent lines source c.inner.result.now c.in-Ok.contents =
+    let contents_are : AreContents lines source c.inner.result.now c.in-Ok.contents =
     record { accepted = c.in-Ok.ensures.0; is = c.in-Ok.ensures.1 } in
     record {
       reads = read_more c.args.context source c.args.labels.now c.args.order.now c.loop-turn.turn-index
           c.loop-turn.reads.items c.push.new.self.items (record { index = 0; offset = 0 }) _
           c.loop-turn.invariant.reads c.loop-turn-test.true refl own c.in_ok-push-in-Ok.ensures.items;
-      first = lent_known lines source c.inner.result.now c.in-Ok.contents c.known-known.result.first lent
+      first = read_known lines source c.inner.result.now c.in-Ok.contents c.known-known.result.first contents_are
           c.known-known.ensures.offset c.known-known.ensures.line;
-      last = lent_last lines source c.inner.result.now c.in-Ok.contents c.known-known.result lent
+      last = read_last lines source c.inner.result.now c.in-Ok.contents c.known-known.result contents_are
           c.known-known.ensures.offset c.known-known.ensures.line c.known-known.ensures.last;
     }
 

@@ -14,8 +14,8 @@ returns-then-before-gt0 g c =
     (subst (λ (s : Span). s.offset ≤ length source.bytes) placed c.in-Ok.ensures.0.begins)
     (c.in-Ok.ensures.1 ∙ ap (contents 1 source) placed)
     (c.saturating_sub-before.ensures
-    ∙ ap (λ o. offset - o) (c.offset.ensures ∙ ap (λ (s : Span). s.offset) c.span-lent.ensures))
-    (c.len.ensures ∙ ap (λ (s : Span). s.len) c.span-lent.ensures) c.if-before-gt0.true
+    ∙ ap (λ o. offset - o) (c.offset.ensures ∙ ap (λ (s : Span). s.offset) c.span-span.ensures))
+    (c.len.ensures ∙ ap (λ (s : Span). s.len) c.span-span.ensures) c.if-before-gt0.true
 
 pub returns-else-before-gt0 : goal.returns-else-before-gt0
 returns-else-before-gt0 g c =
@@ -27,7 +27,7 @@ returns-else-before-gt0 g c =
     (subst (λ (s : Span). s.offset ≤ length source.bytes) placed c.in-Ok.ensures.0.begins)
     (c.in-Ok.ensures.1 ∙ ap (contents 1 source) placed)
     (c.saturating_sub-before.ensures
-    ∙ ap (λ o. offset - o) (c.offset.ensures ∙ ap (λ (s : Span). s.offset) c.span-lent.ensures)) c.if-before-gt0.false
+    ∙ ap (λ o. offset - o) (c.offset.ensures ∙ ap (λ (s : Span). s.offset) c.span-span.ensures)) c.if-before-gt0.false
 
 pub returns-in-Err : goal.returns-in-Err
 returns-in-Err g c =

@@ -13,17 +13,17 @@ use Rattle.miette_snippet_rules.specs.rules.SnippetLayout.{settings_around}
 use Rattle.miette_snippet_rules.specs.views.Settings.{settings_of}
 use Rattle.miette_label_rules.specs.views.GivenLabels.{drawn_of}
 use Rattle.miette_snippet_rules.specs.rules.Highlighting.{leaves_plain, follows}
-use Rattle.miette_frames.specs.views.LentRows.{PutsRows, lent_snippet}
+use Rattle.miette_frames.specs.views.ContentsRows.{PutsRows, contents_snippet}
 use Rattle.miette_labels.specs.views.Placing.{placed_of, placed_from}
 use Rattle.miette_labels.specs.views.Primary.{PointsTo}
 use Rattle.miette_labels.proofs.GroupsOfReads.{are_grouped}
-use Rattle.miette_labels.proofs.KnownLabels.{lent_known, lent_last}
-use Rattle.miette_drawing.proofs.ReadRows.{lent_texts}
+use Rattle.miette_labels.proofs.KnownLabels.{read_known, read_last}
+use Rattle.miette_drawing.proofs.ReadRows.{contents_texts}
 use Rattle.miette_highlight.specs.rules.HighlighterCalls.{Call, Leads, restarted}
 use Rattle.miette_labels.proofs.GroupsOfReads.{reads_rise}
 use Rattle.miette_folds.proofs.LineNumbers.{are_numbered}
 use Rattle.miette_layout.proofs.SnippetSequence.{none_drawn, drawn_more, all_drawn, gives_rows, gives_none, drawn_is}
-use Rattle.miette_layout.proofs.SnippetSequence.{placed_rise, place_ordered, groups_lent, puts_around, none_grouped}
+use Rattle.miette_layout.proofs.SnippetSequence.{placed_rise, place_ordered, groups_contents, puts_around, none_grouped}
 use Rattle.miette_layout.proofs.SnippetSequence.{gives_unread}
 use Rattle.miette_layout.proofs.snippets.read_snippets.Goals as goal
 
@@ -37,8 +37,8 @@ place_of-requires-clause-first g c =
     let context = c.args.settings.now.layout.now.context_lines in
     let ls = in_order c.args.given.now.labels.now in
     let group = c.group-item.result in
-    lent_known (group_context context ls) source group.span group.contents c.known.result.first
-    (groups_lent context source ls c.deref-group-items.result.now c.loop-group.group-index group
+    read_known (group_context context ls) source group.span group.contents c.known.result.first
+    (groups_contents context source ls c.deref-group-items.result.now c.loop-group.group-index group
     c.loop-group.invariant.grouped c.loop-group-test.true c.group-item.is)
     c.known.ensures.offset c.known.ensures.line
 
@@ -48,8 +48,8 @@ place_of-requires-clause-last g c =
     let context = c.args.settings.now.layout.now.context_lines in
     let ls = in_order c.args.given.now.labels.now in
     let group = c.group-item.result in
-    lent_last (group_context context ls) source group.span group.contents c.known.result
-    (groups_lent context source ls c.deref-group-items.result.now c.loop-group.group-index group
+    read_last (group_context context ls) source group.span group.contents c.known.result
+    (groups_contents context source ls c.deref-group-items.result.now c.loop-group.group-index group
     c.loop-group.invariant.grouped c.loop-group-test.true c.group-item.is)
     c.known.ensures.offset c.known.ensures.line c.known.ensures.last
 
@@ -89,7 +89,7 @@ push_snippet-requires-clause-numbered g c =
     let ls = in_order c.args.given.now.labels.now in
     let group = c.group-item.result in
     are_numbered (group_context context ls) source group.span group.contents c.in_ok-spreads.spreads
-    (groups_lent context source ls c.deref-group-items.result.now c.loop-group.group-index group
+    (groups_contents context source ls c.deref-group-items.result.now c.loop-group.group-index group
     c.loop-group.invariant.grouped c.loop-group-test.true c.group-item.is)
     (c.in_ok-spreads.ensures.lines source c.requires.each)
 
@@ -128,21 +128,21 @@ loop-group-preserved g c =
     ∙ spreads_are s.layout.label_lines s.layout.context_lines source given.labels.now given.reads.now c.requires.order
     c.requires.each in
     let told = subst (λ xs. PutsRows (leaves_plain g.H.Highlighter.is_blank c.loop-group.highlighter) happen
-    (lent_texts group.contents) (lent_snippet s xs drawn group.contents place) c.loop-group.page
+    (contents_texts group.contents) (contents_snippet s xs drawn group.contents place) c.loop-group.page
     c.push_snippet.new.page) folded c.in_ok-push_snippet.ensures.rows in
-    let rows = subst (λ b. PutsRows b happen (lent_texts group.contents)
-    (lent_snippet s spreads drawn group.contents place) c.loop-group.page c.push_snippet.new.page)
+    let rows = subst (λ b. PutsRows b happen (contents_texts group.contents)
+    (contents_snippet s spreads drawn group.contents place) c.loop-group.page c.push_snippet.new.page)
     c.loop-group.invariant.stays told in
     let around =
-    puts_around s (group_context s.layout.context_lines ls) blank happen (lent_texts group.contents) spreads
+    puts_around s (group_context s.layout.context_lines ls) blank happen (contents_texts group.contents) spreads
     drawn group.contents place c.loop-group.page c.push_snippet.new.page rows in
     record {
       grouped = c.loop-group.invariant.grouped;
       drawn = drawn_more (settings_around s ls) spreads source given.labels.now blank begun was now
           c.deref-group-items.result.now c.loop-group.group-index group c.args.page c.loop-group.page
           c.push_snippet.new.page drawn place c.loop-group.invariant.drawn c.loop-group-test.true c.group-item.is
-          (groups_lent s.layout.context_lines source ls c.deref-group-items.result.now c.loop-group.group-index group
-          c.loop-group.invariant.grouped c.loop-group-test.true c.group-item.is)
+          (groups_contents s.layout.context_lines source ls c.deref-group-items.result.now c.loop-group.group-index
+          group c.loop-group.invariant.grouped c.loop-group-test.true c.group-item.is)
           (drawn_is s source given.labels.now given.reads.now c.in_ok-end.end c.deref-2.result.now c.requires.order
           c.requires.each c.in_ok-end.ensures
           (ap (map placed_of) c.deref-2.ensures.value ∙ c.in_ok-placed.ensures ∙

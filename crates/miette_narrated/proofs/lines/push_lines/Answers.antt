@@ -10,7 +10,7 @@ use Rattle.miette_narrated.proofs.lines.push_lines.Goals as goal
 
 pub loop-line-init : goal.loop-line-init
 loop-line-init c = record {
-  left = left_first (ranges_of c.args.walk.now.order.placed.now) c.args.lent.now _ _
+  left = left_first (ranges_of c.args.walk.now.order.placed.now) c.args.contents.now _ _
       (string_bytes c.args.out.now) (search rules) (search rules);
   order = refl;
   at = c.requires.at;
@@ -35,12 +35,12 @@ push_shown-requires-clause-order c =
 pub loop-line-preserved : goal.loop-line-preserved
 loop-line-preserved c =
     let l = c.loop-line in
-    let lent = c.args.lent.now in
+    let contents = c.args.contents.now in
     let told = ranges_of c.args.walk.now.order.placed.now in
     let given = subst (λ (r : Option LineOfText). GivesLine l.line-iterator r c.next.new.self) c.in-Some.is
     c.next.ensures.steps in
     record {
-      left = left_more told lent l.before c.in_ok-number.number l.line-iterator c.next.new.self c.in-Some.line _
+      left = left_more told contents l.before c.in_ok-number.number l.line-iterator c.next.new.self c.in-Some.line _
           (narrated_line c.narrated_line-it.result) (string_bytes l.out) (string_bytes c.push_shown.new.out) _
           l.invariant.left
           given.0 given.1 c.in_ok-number.ensures (search rules) c.narrated_line-it.ensures
@@ -57,4 +57,4 @@ returns-clause-rows c =
     let told = ranges_of c.args.walk.now.order.placed.now in
     let given = subst (λ (r : Option LineOfText). GivesLine l.line-iterator r c.next.new.self) c.in-None.is
     c.next.ensures.steps in
-    left_none told c.args.lent.now l.before l.line-iterator (string_bytes l.out) _ l.invariant.left given.0
+    left_none told c.args.contents.now l.before l.line-iterator (string_bytes l.out) _ l.invariant.left given.0

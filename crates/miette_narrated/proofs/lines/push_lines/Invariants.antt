@@ -8,9 +8,9 @@ use Rattle.miette_narrated.proofs.lines.push_lines.Given as goal
 
 abbrev pub invariant-loop-line : goal.invariant-loop-line
 invariant-loop-line l = record {
-  left : AreLeft (ranges_of l.fn.walk.order.placed.now) l.lent l.before l.line-iterator (string_bytes l.out)
-      (string_bytes l.fn.out ++ rows_of_lines (ranges_of l.fn.walk.order.placed.now) l.lent (l.lent.line + 1)
-      (lines_of_contents l.lent));
+  left : AreLeft (ranges_of l.fn.walk.order.placed.now) l.contents l.before l.line-iterator (string_bytes l.out)
+      (string_bytes l.fn.out ++ rows_of_lines (ranges_of l.fn.walk.order.placed.now) l.contents (l.contents.line + 1)
+      (lines_of_contents l.contents));
   order : l.walk.order ≡ l.fn.walk.order;
   at : IsUnderWay l.walk;
 }

@@ -8,12 +8,12 @@ use Rattle.miette_narrated.proofs.snippets.push_begin.Goals as goal
 
 pub returns : goal.returns
 returns c =
-    let lent = c.args.lent.now in
+    let contents = c.args.contents.now in
     on_ok_weaker c.push_str-2.result (λ h. begin_put (string_bytes c.args.out.now) (string_bytes c.push_str.new.self)
     (string_bytes c.push_name.new.out) (string_bytes c.push_place.new.out) (string_bytes c.push_place-2.new.out)
     (string_bytes c.push_str-2.new.self)
-    (codes "Begin snippet") (name_text lent.name) (codes " starting at line ") (decimal (lent.line + 1))
-    (codes ", column ") (decimal (lent.column + 1))
+    (codes "Begin snippet") (name_text contents.name) (codes " starting at line ") (decimal (contents.line + 1))
+    (codes ", column ") (decimal (contents.column + 1))
     c.in_ok-push_str.ensures.bytes
     (c.in_ok-push_name.ensures ∙ ap (λ n. string_bytes c.push_str.new.self ++ name_text n) c.name.ensures)
     (c.in_ok-push_place.ensures ∙ ap (λ n. string_bytes c.push_name.new.out

@@ -9,9 +9,9 @@ use Rattle.miette_narrated.proofs.snippets.push_snippet.Goals as goal
 
 pub returns-clause-rows : goal.returns-clause-rows
 returns-clause-rows c =
-    let lent = c.args.lent.now in
+    let contents = c.args.contents.now in
     let told = ranges_of c.args.walk.now.order.placed.now in
     on_ok_weaker c.push_lines.result (λ h. then (string_bytes c.args.out.now) (string_bytes c.push_begin.new.out)
-    (string_bytes c.push_lines.new.out) (begin_rows lent)
-    (rows_of_lines told lent (lent.line + 1) (lines_of_contents lent))
+    (string_bytes c.push_lines.new.out) (begin_rows contents)
+    (rows_of_lines told contents (contents.line + 1) (lines_of_contents contents))
     c.in_ok-push_begin.ensures h) c.push_lines.ensures.rows

@@ -2,7 +2,7 @@ use Rattle.std.proofs.Common.{◌≡◌, ℕ, List, [], ap, ◌∙◌, arith, re
 use Rattle.std.specs.Prelude.{unwrap_or}
 use Rattle.miette_protocol.specs.rules.Reading.{Contents, Source}
 use Rattle.miette_tree.specs.views.Owned.{shown_source}
-use Rattle.miette_tree.proofs.WholeReads.{nowhere, lent_whole}
+use Rattle.miette_tree.proofs.WholeReads.{nowhere, contents_whole}
 use Rattle.miette_sarif.proofs.Reading.{seen_read, unwrapped}
 use Rattle.miette_sarif.proofs.seen.see.Goals as goal
 use denote.Ref.{Bor}
@@ -12,7 +12,7 @@ returns-in_ok-text-in-Ok g c =
     let source : Source = shown_source g.S.SourceCode.source c.args.source in
     let begin : c.from.result ≡ nowhere = search rules in
     let whole : c.in_ok-text-in-Ok.text ≡ source.bytes =
-    c.in_ok-text-in-Ok.ensures ∙ lent_whole source 0 _ _ _ refl begin c.in-Ok.ensures.1 c.data.ensures
+    c.in_ok-text-in-Ok.ensures ∙ contents_whole source 0 _ _ _ refl begin c.in-Ok.ensures.1 c.data.ensures
     (omega (arith, c.data.type_inv.1)) in
     let name : c.unwrap_or-name.result.now ≡ unwrap_or source.name [] =
     ap (λ (b : Bor (List ℕ)). b.now) c.unwrap_or-name.ensures ∙ unwrapped c.name.result _ refl

@@ -16,10 +16,10 @@ returns-clause-around c =
     (ap (λ xs. take (behind - first) (drop first xs)) c.deref.ensures.value))
 
 pub returns-clause-numbered : goal.returns-clause-numbered
-returns-clause-numbered c = λ lent each.
+returns-clause-numbered c = λ contents each.
     let all = c.self.inside.all.items in
     let first = c.touching-near.result.first in
     let many = c.touching-near.result.behind - first in
-    some_numbered lent all (take many (drop first c.deref.result.now)) first many
+    some_numbered contents all (take many (drop first c.deref.result.now)) first many
     (ap (λ xs. take many (drop first xs)) c.deref.ensures.value)
-    (subst (λ (xs : List MadeSpread). All (IsNumbered lent) xs) (sym c.self.view_is) each)
+    (subst (λ (xs : List MadeSpread). All (IsNumbered contents) xs) (sym c.self.view_is) each)

@@ -7,5 +7,5 @@ use Rattle.miette_tree.proofs.tree.Report.related.Goals as goal
 pub returns-in-Some-clause-value : goal.returns-in-Some-clause-value
 returns-in-Some-clause-value g c =
     let value = tree_of g.D.Diagnostic.meaning g.S.SourceCode.source in
-    let lent = ap (λ list. trees (map value list)) c.as_slice.ensures.value in
-    lent ∙ search (rules, the_lemmas)
+    let same = ap (λ list. trees (map value list)) c.as_slice.ensures.value in
+    same ∙ search (rules, the_lemmas)

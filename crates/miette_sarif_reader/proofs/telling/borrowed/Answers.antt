@@ -1,7 +1,7 @@
 use Rattle.std.proofs.Common.{◌++◌, [], ◌∷◌, ap₂, sym, ◌∙◌}
 use Rattle.std.proofs.lemmas.List.{take_all}
 use Rattle.miette_readers.proofs.Steps.{next_taken}
-use Rattle.miette_sarif_reader.proofs.telling.lent.Goals as goal
+use Rattle.miette_sarif_reader.proofs.telling.borrowed.Goals as goal
 
 pub loop-spot-preserved : goal.loop-spot-preserved
 loop-spot-preserved c =

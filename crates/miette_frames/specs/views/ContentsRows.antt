@@ -32,14 +32,14 @@ abbrev pub texts_in : ℕ → List ℕ → List Line → List (List ℕ)
 texts_in start bytes lines = map (λ line. decoded_text (text_in start bytes line)) lines
 
 -- the rows of a snippet, with its frame
-abbrev pub lent_snippet : SnippetSettings → List Spread → List DrawnLabel → Contents → Option Place → List (List
+abbrev pub contents_snippet : SnippetSettings → List Spread → List DrawnLabel → Contents → Option Place → List (List
     Highlight) → List Row
-lent_snippet s spreads drawn lent place pieces =
-    top_row s lent place
-    ∷ rows_of_lines (left_out s lent.line (lines_of_contents lent) spreads) false
-    (snippet_context s (number_width lent) (gutter_columns drawn (lines_of_contents lent)) drawn
-    (cells_in s lent.span.offset lent.bytes)) (lent.line + 1) pieces (lines_of_contents lent)
-    ++ bottom_row s (number_width lent) ∷ []
+contents_snippet s spreads drawn contents place pieces =
+    top_row s contents place
+    ∷ rows_of_lines (left_out s contents.line (lines_of_contents contents) spreads) false
+    (snippet_context s (number_width contents) (gutter_columns drawn (lines_of_contents contents)) drawn
+    (cells_in s contents.span.offset contents.bytes)) (contents.line + 1) pieces (lines_of_contents contents)
+    ++ bottom_row s (number_width contents) ∷ []
 
 -- A page has got rows with some pieces, which a highlighter answered for these texts by calls that happen.
 pub record PutsRows (blank : Bool) (happen : List Call → Type 0) (texts : List (List ℕ))
