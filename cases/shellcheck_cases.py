@@ -10,7 +10,7 @@ from json_changes import changed
 from programs import HERE
 
 FOLDER = os.path.join(HERE, "shellcheck")
-NAMES = ["quotes", "broken", "wide", "old", "script"]
+NAMES = ["quotes", "broken", "wide", "old", "script", "returns"]
 BAD = [b'{"comments":[{}]}\n', b'{"comments":[{"message":"m"},{"message":7}]}\n', b'{"comments":[]\n']
 BAD += [b'{"comments":{}}\n']
 OTHER = [b'{"comments":[]}\n', b'{"comments":[{"message":"m"}]}\n', b'{ "comments": []}\n', b"[ 50%] Testing\n"]
@@ -42,7 +42,7 @@ def other_value(dice, key, old):
     near = [max(0, old - 2), old + 1, old + 30] if isinstance(old, int) else []
     given = {
         **dict.fromkeys(NUMBERS, [0, 1, 2, 3, 10**6, 2**63, 2**64 - 1, "7", -1, 1.5, None, *near]),
-        "file": ["quotes.sh", "wide.sh", "gone.sh", "short.sh", "/gone.sh", "", 7],
+        "file": ["quotes.sh", "wide.sh", "returns.sh", "gone.sh", "short.sh", "/gone.sh", "", 7],
         "code": [0, 1000, 2**64 - 1, -1, 1.5, "2086", None],
         "level": ["error", "warning", "info", "style", "loud", "", 3],
         "message": ["m", "two\nrows", ""],

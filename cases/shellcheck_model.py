@@ -1,8 +1,6 @@
 """shellcheck_model.py: a model of how ShellCheck's comments become reports (docs/RULES.md, 'What is read of
 ShellCheck'), made without the programs: each comment is put in rustc's form, of which readers_model.py makes the
 report."""
-import re
-
 from gcc_model import said
 from readers_model import member, objects, report_of, text
 
@@ -14,15 +12,14 @@ class NoReports(Exception):
 
 
 def offset(data, line, column):
-    """The byte of a column of a line, both from 1, columns in characters; after the line's text its end. Lines end with
-    LF, CR LF or a lone CR."""
-    ends = list(re.finditer(rb"\r\n|\n|\r", data))
-    starts = [0, *(it.end() for it in ends)]
-    if not 1 <= line <= len(starts) or column < 1:
+    """The byte of a column of a line, both from 1, columns in characters; after the line's text its end. LF alone ends
+    a line, and a CR is a character."""
+    lines = data.split(b"\n")
+    if not 1 <= line <= len(lines) or column < 1:
         return None
-    text_end = [*(it.start() for it in ends), len(data)][line - 1]
-    shown = data[starts[line - 1] : text_end].decode(errors="surrogateescape")
-    return starts[line - 1] + len(shown[: column - 1].encode(errors="surrogateescape"))
+    start = sum(len(it) + 1 for it in lines[: line - 1])
+    shown = lines[line - 1].decode(errors="surrogateescape")
+    return start + len(shown[: column - 1].encode(errors="surrogateescape"))
 
 
 def span(name, value, files):

@@ -272,10 +272,11 @@ def terminal_tried():
 def live_tried():
     """What compilers and linters write now, where they are there."""
     of_gcc = ["-Wall", "-fanalyzer", "-fdiagnostics-format=json", "-c", "broken.c", "leak.c"]
+    of_shellcheck = ["-f", "json1", "quotes.sh", "wide.sh", "broken.sh", "returns.sh"]
     runs = [
         ("rustc", "rustc", FOLDER, ["--edition", "2021", "--error-format=json", "--emit=metadata", "multi.rs"]),
         ("gcc", "gcc", gcc_cases.FOLDER, of_gcc),
-        ("shellcheck", "shellcheck", shellcheck_cases.FOLDER, ["-f", "json1", "quotes.sh", "wide.sh", "broken.sh"]),
+        ("shellcheck", "shellcheck", shellcheck_cases.FOLDER, of_shellcheck),
         ("clang-16", "sarif", gcc_cases.FOLDER, ["-Wall", "-fdiagnostics-format=sarif", "-c", "broken.c"]),
         ("flawfinder", "sarif", sarif_read_cases.FOLDER, ["--sarif", "unsafe.c"]),
     ]

@@ -1,1 +1,2 @@
 pub mod CommentsHold
+mod ColumnSteps

@@ -1,6 +1,7 @@
 //! Reports from the JSON that ShellCheck writes.
 #![tactic(auto)]
 
+mod columns;
 pub mod laws;
 mod places;
 mod proposals;

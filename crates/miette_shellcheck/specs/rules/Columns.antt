@@ -1,15 +1,28 @@
--- Lines and columns as ShellCheck counts them: both from 1, columns in characters. Lines end as those of pictures do.
-use Rattle.std.specs.Prelude.{ℕ, ◌+◌, ◌-◌, List, Option, None, ◌==◌, if◌then◌else◌, length, min, drop, option_map}
-use Rattle.miette_positions.specs.declared.place.PositionEncoding.TheVariants.{Utf32}
-use Rattle.miette_positions.specs.rules.Regions.{stop_at}
-use Rattle.miette_readers.specs.rules.LineStarts.{start_of}
+-- Lines and columns as ShellCheck counts them: both from 1, columns in characters. LF alone ends a line: a CR is one of
+-- its characters.
+use Rattle.std.specs.Prelude.{ℕ, zero, suc, ◌+◌, ◌-◌, List, [], ◌∷◌, Option, None, Some, ◌||◌, ◌==◌, if◌then◌else◌}
+use Rattle.std.specs.Prelude.{drop, option_map}
+use Rattle.miette_cells.specs.rules.Cells.{Character, characters}
+use Rattle.miette_source_lines.specs.rules.Lines.{LF}
 
--- `count` characters after the beginning of a line: after the line's text its end
+-- where the line begins that stands `lines` lines after the first one of bytes that begin at an offset
+abbrev pub line_behind : ℕ → List ℕ → ℕ → Option ℕ
+line_behind at bytes zero = Some at
+line_behind at [] (suc k) = None
+line_behind at (b ∷ bs) (suc k) = line_behind (at + 1) bs (if b == LF then k else suc k)
+
+-- `count` characters after an offset, over the characters there: after the text of their first line that text's end
+abbrev pub characters_on : ℕ → ℕ → List Character → ℕ
+characters_on at count [] = at
+characters_on at count (c ∷ cs) =
+    if (count == 0) || (c.code == LF) then at else characters_on (at + c.bytes) (count - 1) cs
+
 abbrev pub characters_behind : List ℕ → ℕ → ℕ → ℕ
-characters_behind bytes start count =
-    min (start + (stop_at Utf32 (drop start bytes) (record { line = 0; column = count })).offset) (length bytes)
+characters_behind bytes at count = characters_on at count (characters (drop at bytes))
 
 -- the offset of a column of a line; neither is counted from 0
 abbrev pub offset_at : List ℕ → ℕ → ℕ → Option ℕ
-offset_at bytes line column =
-    if column == 0 then None else option_map (λ start. characters_behind bytes start (column - 1)) (start_of bytes line)
+offset_at bytes zero column = None
+offset_at bytes (suc line) zero = None
+offset_at bytes (suc line) (suc column) =
+    option_map (λ start. characters_behind bytes start column) (line_behind 0 bytes line)
