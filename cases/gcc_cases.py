@@ -9,10 +9,11 @@ from json_changes import changed
 from programs import HERE
 
 FOLDER = os.path.join(HERE, "gcc")
-NAMES = ["broken", "ends", "fatal", "hidden", "leak", "notes", "paths"]
+NAMES = ["broken", "ends", "fatal", "hidden", "leak", "marked", "notes", "paths"]
 # the members of a diagnostic that are read
 READ = ("kind", "message", "option", "option_url", "column-origin", "locations", "children", "fixits", "path")
-KINDS = ["error", "fatal error", "sorry, unimplemented", "permerror", "warning", "pedwarn", "note", "debug", 3]
+KINDS = ["error", "fatal error", "internal compiler error", "sorry, unimplemented", "permerror", "warning", "pedwarn", "note",
+         "debug", 3]
 BAD = [b'[{"kind":"error"}]\n', b'[{"message":"m"},{"message":7}]\n', b'[{"message":"m"}\n', b'[{"message":"m"}] x\n']
 OTHER = [b"[]\n", b'[{"message":"m"}]\n', b"[ {}]\n", b"[1]\n", b"compilation terminated.\n"]
 

@@ -14,9 +14,9 @@ class NoReports(Exception):
 
 def offset(data, line, before):
     """The byte of a line (from 1) with `before` bytes in front of it, at most the end of the line's text. Lines end
-    with LF, CR LF or a lone CR, as GCC counts them."""
+    with LF, CR LF or a lone CR, and the first begins after a byte order mark, as GCC counts them."""
     ends = list(re.finditer(rb"\r\n|\n|\r", data))
-    starts = [0, *(it.end() for it in ends)]
+    starts = [3 if data.startswith(b"\xef\xbb\xbf") else 0, *(it.end() for it in ends)]
     if not 1 <= line <= len(starts):
         return None
     text_ends = [*(it.start() for it in ends), len(data)]

@@ -111,6 +111,13 @@ def cut_rows(given):
     return b"".join(given[:end] + b'\n"\n' for end in range(1, len(given), 50))
 
 
+def logs_in(rows):
+    """The logs that stand in what a tool wrote, each in a row or over all of it."""
+    with contextlib.suppress(ValueError):
+        return [json.loads(rows)]
+    return [json.loads(row) for row in rows.splitlines() if row.startswith(b'{"')]
+
+
 def of_tools(folder):
     """What clang 16 wrote of `gcc/broken.c`, in a folder `file:///project/`, and flawfinder of `unsafe.c`."""
     clang, flawfinder = recorded("clang.txt"), recorded("flawfinder.sarif")
@@ -176,7 +183,8 @@ def is_read(path):
 
 def hostile(dice, count):
     """Logs of runs with one result, that are changed by chance."""
-    found = [{**run, "results": [it]} for name in LOGS for run in log(name)["runs"] for it in run["results"]]
+    values = [*(log(name) for name in LOGS), *logs_in(recorded("clang.txt")), *logs_in(recorded("flawfinder.sarif"))]
+    found = [{**run, "results": [it]} for value in values for run in value["runs"] for it in run["results"]]
     one = partial(changed, dice, is_read=is_read, other_value=other_value)
     logs = ([one(dice.choice(found)) for _ in range(dice.choice([1, 1, 2, 4]))] for _ in range(count))
     return b"".join(row_of({"runs": runs}) for runs in logs)

@@ -157,10 +157,11 @@ def other_value(dice, key, old):
         "is_primary": [True, False, None, "yes"],
         "suggested_replacement": ["", "x", None, 3],
         "suggestion_applicability": ["MaybeIncorrect", "MachineApplicable", "HasPlaceholders", None, 9],
-        "level": ["error", "warning", "note", "help", "failure-note", 3],
+        "level": ["error", "error: internal compiler error", "warning", "note", "help", "failure-note", 3],
         "message": ["m", "two\nrows", ""],
         "span": [None, 5, "x", [], {}],
         "expansion": [None, 5, "x", {}],
+        "macro_decl_name": ["m!", "#[derive(Debug)]", "#[test]", "m", None, 5],
         "spans": [[], None, "x", [5], {}],
         "children": [[], None, "x", [None], {}],
     }

@@ -1,11 +1,34 @@
 //! Lines and columns as GCC counts them.
 
-ghost use Rattle.std.specs.Prelude.{◌≡◌, ◌≤◌, ◌+◌, length};
-ghost use Rattle.miette_gcc.specs.rules.Lines.{offset_at, text_end_from, within_line};
+ghost use Rattle.std.specs.Prelude.{◌≡◌, ◌≤◌, ◌+◌, IfSome, length};
+ghost use Rattle.miette_gcc.specs.rules.Lines.{begin_of, first_begin, offset_at, text_end_from, within_line};
 
 use miette_protocol::source::IndexedSource;
 use miette_readers::line_starts::start_of;
 use miette_source_lines::lines::first_line;
+
+/// Where the first line begins: after a byte order mark.
+fn first_begin(bytes: &[u8]) -> usize
+    ensures begin { result ≡ first_begin bytes.now }
+    ensures within { result ≤ length bytes.now }
+{
+    if bytes.starts_with(b"\xEF\xBB\xBF") {
+        3
+    } else {
+        0
+    }
+}
+
+/// Where a line begins, the first with 1. Nothing, where there is no such line.
+fn begin_of(source: &IndexedSource, line: u64) -> Option<usize>
+    ensures begin { result ≡ begin_of source.now line }
+    ensures within { IfSome result (λ begin. begin ≤ length source.now) }
+{
+    if line == 1 {
+        return Some(first_begin(source.bytes()));
+    }
+    start_of(source, line)
+}
 
 /// Where the text of the line ends that begins at an offset.
 fn text_end_from(bytes: &[u8], start: usize) -> usize
@@ -39,6 +62,6 @@ pub(crate) fn offset_at(
 ) -> Option<usize>
     ensures { result ≡ offset_at source.now line (before + further) }
 {
-    let start = start_of(source, line)?;
+    let start = begin_of(source, line)?;
     Some(within_line(source.bytes(), start, before, further))
 }

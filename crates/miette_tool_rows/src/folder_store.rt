@@ -1,6 +1,7 @@
 //! The files of a folder, written in place of those that are there.
 
-ghost use Rattle.std.specs.Prelude.{◌≡◌};
+ghost use Rattle.std.specs.Prelude.{◌≡◌, OnOk};
+ghost use Rattle.std.specs.Io.KnownBytes.{Appends};
 ghost use Rattle.std.specs.Option.{option_copied};
 
 use crate::folder::{bytes_at, path_in};
@@ -47,13 +48,14 @@ fn permissions_of<H: rt::Files>(host: &H, path: &str) -> Option<Permissions> {
     }
 }
 
-/// Writes all of a new file, which gets these permissions.
-fn fill<F: Write + OpenFile + Drop>(
-    file: F,
+/// Writes the whole text to a new file, which gets these permissions.
+fn fill<F: Write + OpenFile>(
+    file: &mut F,
     permissions: Permissions,
     text: &[u8],
-) -> io::Result<()> {
-    let mut file = file;
+) -> io::Result<()>
+    ensures ok { OnOk result (Appends (F.contents file.old) (F.contents file.new) text.now) }
+{
     file.write_all(text)?;
     file.set_permissions(permissions)?;
     file.sync_all()
@@ -71,10 +73,12 @@ fn write_over<H: rt::Files>(
     let Some(permissions) = permissions_of(host, path) else {
         return Ok(false);
     };
-    let Ok(file) = File::create_new(host, beside.as_str()) else {
+    let Ok(mut file) = File::create_new(host, beside.as_str()) else {
         return Ok(false);
     };
-    if fill(file, permissions, text).is_ok() && fs::rename(host, beside.as_str(), path).is_ok() {
+    if fill(&mut file, permissions, text).is_ok()
+        && fs::rename(host, beside.as_str(), path).is_ok()
+    {
         return Ok(true);
     }
     let _ = fs::remove_file(host, beside.as_str());

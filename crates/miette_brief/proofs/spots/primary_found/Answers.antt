@@ -16,10 +16,10 @@ returns-then-is_label g c =
 
 pub returns : goal.returns
 returns g c =
-    IfOk-weaker c.chosen_found.result _ _ (λ first is.
+    IfOk-weaker c.chosen_found-2.result _ _ (λ first is.
     primary_first (option_map (shown_source g.S.SourceCode.source) c.args.source)
     (map (λ turn. label_at c.args.labels.now turn.index) c.args.order.now)
     (map (section_of g.S.SourceCode.source) c.args.further.now) c.marked_span-marked_own.result
     c.first_span-first_own.result c.in_ok-marked.marked first c.marked_span-marked_own.ensures
     c.first_span-first_own.ensures c.in_ok-marked.ensures (sym c.is_label.ensures ∙ c.if-is_label.false) is)
-    c.chosen_found.ensures
+    c.chosen_found-2.ensures

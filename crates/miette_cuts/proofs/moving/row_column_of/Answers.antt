@@ -21,13 +21,13 @@ loop-place-preserved c = record {
 
 pub returns-then-left-columns-clause-column : goal.returns-then-left-columns-clause-column
 returns-then-left-columns-clause-column c =
-    IfOk-weaker c.sum-2.result _ _ (λ inside is.
+    IfOk-weaker c.sum.result _ _ (λ inside is.
     place_here c.args.dots c.args.cut.now c.loop-place.place c.args.column c.column_within.result inside _
     c.loop-place-test.true c.loop-place.invariant.before c.if-left-columns.true c.column_within.ensures
-    is c.loop-place.invariant.place) c.sum-2.ensures
+    is c.loop-place.invariant.place) c.sum.ensures
 
 pub returns-clause-column : goal.returns-clause-column
 returns-clause-column c =
-    IfOk-weaker c.sum.result _ _ (λ after is.
+    IfOk-weaker c.sum-2.result _ _ (λ after is.
     place_end c.args.dots c.args.cut.now c.loop-place.place c.args.column after c.loop-place-test.false
-    c.loop-place.invariant.before is c.loop-place.invariant.place) c.sum.ensures
+    c.loop-place.invariant.before is c.loop-place.invariant.place) c.sum-2.ensures
