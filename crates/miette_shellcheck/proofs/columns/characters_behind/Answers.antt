@@ -1,4 +1,4 @@
-use Rattle.std.proofs.Common.{ℕ, List, ◌≡◌, ◌+◌, ◌<◌, ◌≤◌, ◌∙◌, ap, arith, length, sym}
+use Rattle.std.proofs.Common.{ℕ, List, ◌<◌, ◌∙◌, ap, arith, length, sym}
 use Rattle.std.proofs.lemmas.List.{length-drop}
 use Rattle.bstr.specs.Utf8.{decoded, or_replacement}
 use Rattle.miette_shellcheck.proofs.ColumnSteps.{ended, line_ends, next_character, none_left}
