@@ -49,11 +49,7 @@ fn permissions_of<H: rt::Files>(host: &H, path: &str) -> Option<Permissions> {
 }
 
 /// Writes the whole text to a new file, which gets these permissions.
-fn fill<F: Write + OpenFile>(
-    file: &mut F,
-    permissions: Permissions,
-    text: &[u8],
-) -> io::Result<()>
+fn fill<F: Write + OpenFile>(file: &mut F, permissions: Permissions, text: &[u8]) -> io::Result<()>
     ensures ok { OnOk result (Appends (F.contents file.old) (F.contents file.new) text.now) }
 {
     file.write_all(text)?;
