@@ -29,7 +29,8 @@ use Rattle.miette_picture_rules.specs.rules.Sources.{LabelledSource}
 use Rattle.miette_picture_rules.specs.rules.Text.{report_text}
 use Rattle.miette_wrap_rules.specs.laws.Tame.{IsTame}
 use Rattle.miette_picture_rules.specs.views.Handling.{Handling, draws_plain, without_highlighter}
-use Rattle.callers.specs.Sums.{CauseStands, CauseStays, EndStandsBehind, IsCut, IsLeftOut, RowsStand, narrow, sum_file}
+use Rattle.callers.specs.Sums.{CauseStands, CauseStays, EndStandsBehind, IsLeftOut, LongIsCut, RowsStand}
+use Rattle.callers.specs.Sums.{narrow, sum_file}
 use Rattle.callers.specs.Sums.{sum_labels}
 use Rattle.callers.specs.Sums.{cause_arrow, depth_file, depth_labels, sum_tree}
 
@@ -45,7 +46,7 @@ known P h t p q all =
 
 -- ---- lines that are cut, and lines that fit
 
-pub is_cut : AllByRecursion (HoldsOfPrinted CutsAreExact narrow) (diagnostics_of narrow sum_tree) → IsCut
+pub is_cut : AllByRecursion (HoldsOfPrinted CutsAreExact narrow) (diagnostics_of narrow sum_tree) → LongIsCut
 unfolding ends_line pieces_from char_width
 is_cut all =
     let long : cells_width 0 (cells_under narrow sum_file 6) ≡ 31 = refl in

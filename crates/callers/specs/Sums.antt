@@ -88,7 +88,7 @@ CauseStands text = (rows : List (List ℕ)) → AreAmong cause_text (cause_arrow
     → StandsIn (encode_utf8_all (indented_rows (spaces 6) rows)) text
 
 -- the long line is cut, the first one of the call isn't
-pub record IsCut : Type 0 where
+pub record LongIsCut : Type 0 where
   pub long : cut_under narrow sum_file sum_labels 6 ≢ None
   pub short : cut_under narrow sum_file sum_labels 0 ≡ None
 

@@ -11,7 +11,7 @@ ghost use Rattle.miette_picture_rules.specs.rules.PrintedDiagnostics.{diagnostic
 ghost use Rattle.miette_picture_rules.specs.rules.Text.{report_text};
 ghost use Rattle.miette_picture_rules.specs.views.Handling.{draws_plain, without_highlighter};
 ghost use Rattle.miette_tree.specs.views.Report.{tree_of};
-ghost use Rattle.callers.specs.Sums.{CauseStands, CauseStays, EndStandsBehind, IsCut, IsLeftOut, RowsStand};
+ghost use Rattle.callers.specs.Sums.{CauseStands, CauseStays, EndStandsBehind, IsLeftOut, LongIsCut, RowsStand};
 ghost use Rattle.callers.specs.Sums.{NamesRows, depth_tree, narrow};
 ghost use Rattle.callers.specs.Sums.{printed_cause, printed_sum, sum_tree};
 
@@ -83,7 +83,7 @@ pub fn draw_sum(alloc: Global, report: &Report) -> Result<String, RenderError>
     // so do those of its cause that have room, below the first, under the arrow: by `levels_law`
     ensures under { IfOk result (λ text. CauseStands (string_bytes text)) }
     // its long line is cut, the first line of the call isn't: by `cuts`
-    ensures cut { IfOk result (λ text. IsCut) }
+    ensures cut { IfOk result (λ text. LongIsCut) }
     // its cause is drawn as without a limit: by `fits`
     ensures cause { IfOk result (λ text. CauseStays) }
     // the label at the end stands after what is shown of the long line: by `ends`

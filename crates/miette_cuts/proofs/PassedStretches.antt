@@ -5,15 +5,15 @@ use Rattle.std.proofs.lemmas.Bool.{ltb-true, ltb-false}
 use Rattle.std.proofs.lemmas.List.{at_drop_all, map-append, take_more}
 use Rattle.miette_snippet_rules.specs.declared.marks.Mark.{Mark}
 use Rattle.miette_snippet_rules.specs.declared.stretch.Stretch.{Stretch}
-use Rattle.miette_cuts.specs.declared.moving.Place.{Place}
+use Rattle.miette_cuts.specs.declared.moving.RowPlace.{RowPlace}
 use Rattle.miette_cuts.specs.steps.Cut.{made_columns, made_column, made_mark}
 use Rattle.miette_cuts.specs.steps.Moving.{IsPlace}
 use Rattle.miette_basics.proofs.Cases.{by_cases}
 use Rattle.miette_cuts.proofs.CutStretches.{column_here, column_past}
 
 -- the place before the first of them
-pub place_first : (dots : ℕ) (cut : List Stretch) (place : Place) → place.passed ≡ 0 → place.before ≡ 0 → place.row ≡ 0
-    → IsPlace dots cut place
+pub place_first : (dots : ℕ) (cut : List Stretch) (place : RowPlace) → place.passed ≡ 0 → place.before ≡ 0
+    → place.row ≡ 0 → IsPlace dots cut place
 place_first dots cut place p b r = record {
   stand = λ column le.
       let left : column ≡ column - place.before = omega (arith, b) in
@@ -24,25 +24,25 @@ place_first dots cut place p b r = record {
 }
 
 -- the one from which a column is looked for
-pub place_found : (dots : ℕ) (cut : List Stretch) (place at : Place) (column : ℕ)
+pub place_found : (dots : ℕ) (cut : List Stretch) (place at : RowPlace) (column : ℕ)
     → (column < place.before → at ≡ record { passed = 0; before = 0; row = 0 }) → (place.before ≤ column → at ≡ place) →
     IsPlace dots cut place → IsPlace dots cut at × (at.before ≤ column)
 place_found dots cut place at column anew on h =
     by_cases {C = IsPlace dots cut at × (at.before ≤ column)} (ltb column place.before)
     (λ y.
     let first : at ≡ record { passed = 0; before = 0; row = 0 } = anew (ltb-true column place.before y) in
-    let none : at.before ≡ 0 = ap (λ (p : Place). p.before) first in (
-      place_first dots cut at (ap (λ (p : Place). p.passed) first) none (ap (λ (p : Place). p.row) first),
+    let none : at.before ≡ 0 = ap (λ (p : RowPlace). p.before) first in (
+      place_first dots cut at (ap (λ (p : RowPlace). p.passed) first) none (ap (λ (p : RowPlace). p.row) first),
       omega (arith, none),
     ))
     (λ n.
     let le : place.before ≤ column = ltb-false column place.before n in
     let same : at ≡ place = on le in
-    let own : at.before ≡ place.before = ap (λ (p : Place). p.before) same in
-    (subst (λ (p : Place). IsPlace dots cut p) (sym same) h, omega (arith, own, le)))
+    let own : at.before ≡ place.before = ap (λ (p : RowPlace). p.before) same in
+    (subst (λ (p : RowPlace). IsPlace dots cut p) (sym same) h, omega (arith, own, le)))
 
 -- the place after one more
-pub place_more : (dots : ℕ) (cut : List Stretch) (place next : Place) (d : Stretch) → place.passed < length cut
+pub place_more : (dots : ℕ) (cut : List Stretch) (place next : RowPlace) (d : Stretch) → place.passed < length cut
     → next.passed ≡ place.passed + 1 → next.before ≡ place.before + (get_or cut place.passed d).columns →
     next.row ≡ place.row + made_columns dots (get_or cut place.passed d) → IsPlace dots cut place → IsPlace dots cut
     next
@@ -60,7 +60,7 @@ place_more dots cut place next d lt p b r h = record {
 }
 
 -- a column of the next one
-pub place_here : (dots : ℕ) (cut : List Stretch) (place : Place) (column own found : ℕ) (d : Stretch)
+pub place_here : (dots : ℕ) (cut : List Stretch) (place : RowPlace) (column own found : ℕ) (d : Stretch)
     → place.passed < length cut
     → place.before ≤ column → column - place.before < (get_or cut place.passed d).columns →
     own ≡ cond (get_or cut place.passed d).shown (column - place.before) 0 → found ≡ place.row + own →
@@ -71,7 +71,7 @@ place_here dots cut place column own found d lt b inside o f h =
     (sym (h.stand column b))
 
 -- a column after all of them
-pub place_end : (dots : ℕ) (cut : List Stretch) (place : Place) (column found : ℕ) → length cut ≤ place.passed
+pub place_end : (dots : ℕ) (cut : List Stretch) (place : RowPlace) (column found : ℕ) → length cut ≤ place.passed
     → place.before
     ≤ column → found ≡ place.row + (column - place.before) → IsPlace dots cut place → found ≡ made_column dots cut
     column

@@ -13,7 +13,7 @@ use Rattle.miette_cells.specs.views.Printable.{plain_cells}
 use Rattle.miette_cells.specs.views.Walking.{ComeFirst}
 use Rattle.miette_snippet_rules.specs.rules.CutLines.{is_within}
 use Rattle.miette_snippet_rules.proofs.CutColumns.{AreColumns, columns_from as cells_stand}
-use Rattle.miette_snippet_rules.specs.declared.line_text.LineText.{LineText}
+use Rattle.miette_snippet_rules.specs.declared.line_bytes.LineBytes.{LineBytes}
 use Rattle.miette_snippet_rules.specs.views.LineTexts.{text_cells}
 use Rattle.miette_cuts.specs.declared.counting.Count.{Count}
 use Rattle.miette_cuts.specs.declared.nearness.Room.{Room}
@@ -32,7 +32,7 @@ stand_from column [] h = tt
 stand_from column (c ∷ cs) h = (h.0, h.1, stand_from c.until cs h.2)
 
 -- those of a text
-pub text_stands : (text : LineText) (cells : List Cell) → cells ≡ text_cells text → StandFrom 0 cells
+pub text_stands : (text : LineBytes) (cells : List Cell) → cells ≡ text_cells text → StandFrom 0 cells
 text_stands text cells is =
     subst (λ (cs : List Cell). StandFrom 0 cs) (sym is) (stand_from 0 (text_cells text)
     (cells_stand width_of text.tab false text.start 0 (characters text.bytes.now)))

@@ -15,7 +15,7 @@ pub use crate::nearness::Room;
 use crate::reach::{cut_around, cut_in, room_for};
 use miette_cells::cells::Walk;
 use miette_line_columns::passing::{Passage, pass_cells, pass_plain};
-use miette_snippet_rules::line_text::LineText;
+use miette_snippet_rules::line_bytes::LineBytes;
 use miette_snippet_rules::marks::Mark;
 use miette_snippet_rules::stretch::Cut;
 use std::alloc::{AllocError, Global};
@@ -42,7 +42,7 @@ fn columns_of_line(walk: Walk<'_>) -> Result<usize, AllocError>
 // The stretches of a line's text with these ends, where it has more columns than the limit.
 fn cut_within(
     alloc: Global,
-    text: &LineText,
+    text: &LineBytes,
     ends: &[usize],
     limit: usize,
     dots: usize,
@@ -68,7 +68,7 @@ fn cut_within(
 /// the largest `usize`.
 pub fn cut_at_ends(
     alloc: Global,
-    text: &LineText,
+    text: &LineBytes,
     ends: &[usize],
     most: Option<usize>,
     dots: usize,
@@ -85,7 +85,7 @@ pub fn cut_at_ends(
 
 /// Whether a line's text has more columns than a row of at most `limit` may have; a limit below 8 counts as 8.
 /// `AllocError` where a column is past the largest `usize`.
-pub fn is_wide(text: &LineText, limit: usize) -> Result<bool, AllocError>
+pub fn is_wide(text: &LineBytes, limit: usize) -> Result<bool, AllocError>
     requires { text.now.start + length text.now.bytes.now < 2 ^ 64 }
     ensures { IfOk result (λ wide. wide ≡ nat_lt (limit_of limit) (cells_width 0 (text_cells text.now))) }
 {
@@ -100,7 +100,7 @@ pub fn is_wide(text: &LineText, limit: usize) -> Result<bool, AllocError>
 /// past the largest `usize`.
 pub fn reach_of_ends(
     alloc: Global,
-    text: &LineText,
+    text: &LineBytes,
     ends: &[usize],
     limit: usize,
     dots: usize,
@@ -120,7 +120,7 @@ pub fn reach_of_ends(
 /// where memory is refused, or a column or a count is past the largest `usize`.
 pub fn cut_in_room(
     alloc: Global,
-    text: &LineText,
+    text: &LineBytes,
     ends: &[usize],
     room: &Room,
 ) -> Result<Cut, AllocError>

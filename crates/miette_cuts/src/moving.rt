@@ -12,14 +12,14 @@ use std::alloc::{AllocError, Global};
 
 // A place between the stretches of a line: how many are passed, their columns, and those that they have in the row.
 #[derive(Clone, Copy, Drop)]
-struct Place {
+struct RowPlace {
     passed: usize,
     before: usize,
     row: usize,
 }
 
 // The place before the first stretch.
-const START: Place = Place {
+const START: RowPlace = RowPlace {
     passed: 0,
     before: 0,
     row: 0,
@@ -33,7 +33,7 @@ fn column_within(stretch: &Stretch, column: usize) -> usize
 }
 
 // The place from which a column is looked for: this one, or the first one where the column stands in front of it.
-fn place_for(place: &Place, column: usize) -> Place
+fn place_for(place: &RowPlace, column: usize) -> RowPlace
     ensures anew { column < place.now.before → result ≡ record { passed = 0; before = 0; row = 0 } }
     ensures on { place.now.before ≤ column → result ≡ place.now }
 {
@@ -44,7 +44,7 @@ fn place_for(place: &Place, column: usize) -> Place
 // column's stretch: columns that ascend pass each stretch once.
 fn row_column_of(
     cut: &[Stretch],
-    place: &mut Place,
+    place: &mut RowPlace,
     column: usize,
     dots: usize,
 ) -> Result<usize, AllocError>
@@ -71,7 +71,7 @@ fn row_column_of(
 // A mark in the row of a line's stretches.
 fn row_mark_of<'a>(
     cut: &[Stretch],
-    place: &mut Place,
+    place: &mut RowPlace,
     mark: &Mark<'a>,
     dots: usize,
 ) -> Result<Mark<'a>, AllocError>

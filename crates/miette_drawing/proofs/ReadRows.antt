@@ -37,7 +37,7 @@ use Rattle.miette_snippet_rules.specs.rules.Highlighting.{piece_of}
 use Rattle.miette_frames.specs.views.ContentsRows.{cells_in, text_in, texts_in, contents_snippet, PutsRows}
 use Rattle.miette_frames.specs.views.Widths.{width_of_count, gutter_of}
 use Rattle.miette_labels.specs.views.Placing.{Placed, placed_of, placed_one, placed_from}
-use Rattle.miette_labels.specs.views.Placing.{end_drawn, is_told}
+use Rattle.miette_labels.specs.views.Placing.{begins_at_end, end_drawn}
 use Rattle.miette_labels.specs.views.Reads.{IsRead}
 use Rattle.miette_source_lines.specs.views.Walking.{line_of_text}
 use Rattle.miette_labels.specs.views.Sweeping.{is_one, is_multi, AreSorted}
@@ -189,8 +189,8 @@ told_snippet before top bottom body =
 -- placed labels come by offset
 
 -- a label further on is placed further on
-lower_le : (ends : Bool) (n a b : ℕ) → a ≤ b → b ≤ n → cond (is_told (end_told ends n) a) (a - 1) a
-    ≤ cond (is_told (end_told ends n) b) (b - 1) b
+lower_le : (ends : Bool) (n a b : ℕ) → a ≤ b → b ≤ n → cond (begins_at_end (end_told ends n) a) (a - 1) a
+    ≤ cond (begins_at_end (end_told ends n) b) (b - 1) b
 lower_le false n a b le top = le
 lower_le true n a b le top =
     by_cases {C = cond (eqb a n) (a - 1) a ≤ cond (eqb b n) (b - 1) b} (eqb a n)
@@ -208,7 +208,8 @@ placed_ascends : (ends : Bool) (styles : List Style) (context : ℕ) (source : S
     (reads : List ReadLabel) (ps : List PlacedLabel) → All (IsRead context source labels) reads →
     Rises (λ r. r.span.offset) from reads →
     map placed_of ps ≡ placed_from (end_told ends (length source.bytes)) styles i labels reads →
-    Rises (λ (p : PlacedLabel). p.start) (cond (is_told (end_told ends (length source.bytes)) from) (from - 1) from) ps
+    Rises (λ (p : PlacedLabel). p.start)
+    (cond (begins_at_end (end_told ends (length source.bytes)) from) (from - 1) from) ps
     × AllByRecursion (λ (p : PlacedLabel). p.start ≤ p.after) ps
 placed_ascends ends styles context source labels from i [] [] h up is = (tt, tt)
 placed_ascends ends styles context source labels from i [] (p ∷ ps) h up is = absurd (cc)
@@ -220,12 +221,12 @@ placed_ascends ends styles context source labels from i (r ∷ rs) (p ∷ ps) h 
     (All-tail (IsRead context source labels) r rs h) up.1 (ap (drop 1) is) in
     let first : placed_of p ≡ placed_one end styles i labels r =
     ap (λ xs. slice_index_or xs 0 (placed_of p)) is in
-    let start : p.start ≡ cond (is_told end r.span.offset) (r.span.offset - 1) r.span.offset =
+    let start : p.start ≡ cond (begins_at_end end r.span.offset) (r.span.offset - 1) r.span.offset =
     ap (λ (x : Placed). x.start) first in
-    let after : p.after ≡ cond (is_told end r.span.offset) (r.span.offset - 1) (end_drawn r) =
+    let after : p.after ≡ cond (begins_at_end end r.span.offset) (r.span.offset - 1) (end_drawn r) =
     ap (λ (x : Placed). x.after) first in
     let low = lower_le ends (length source.bytes) from r.span.offset up.0 own.accepted.begins in
-    let high = placed_after (is_told end r.span.offset) r.span.offset (end_drawn r) (omega arith) in (
+    let high = placed_after (begins_at_end end r.span.offset) r.span.offset (end_drawn r) (omega arith) in (
       (
         omega (arith, start, low),
         subst (λ (n : ℕ). Rises (λ (q : PlacedLabel). q.start) n ps) (sym start) next.0,
@@ -238,7 +239,7 @@ pub placed_sorted : (ends : Bool) (styles : List Style) (context : ℕ) (source 
     map (read_of labels) reads ≡ in_order labels →
     map placed_of ps ≡ placed_from (end_told ends (length source.bytes)) styles 0 labels reads → AreSorted ps
 placed_sorted ends styles context source labels reads ps h e is =
-    let from : ℕ = cond (is_told (end_told ends (length source.bytes)) 0) (0 - 1) 0 in
+    let from : ℕ = cond (begins_at_end (end_told ends (length source.bytes)) 0) (0 - 1) 0 in
     let both = placed_ascends ends styles context source labels 0 0 reads ps h
     (reads_ascend context source labels reads e h) is in
     record {

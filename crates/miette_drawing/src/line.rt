@@ -33,7 +33,7 @@ use miette_marks::ends::ends_of;
 use miette_marks::marks::marks_on;
 use miette_page::canvas::Canvas;
 use miette_page::page::{PLAIN, Page};
-use miette_snippet_rules::line_text::LineText;
+use miette_snippet_rules::line_bytes::LineBytes;
 use miette_snippet_rules::marks::Mark;
 use miette_snippet_rules::stretch::Cut;
 use std::alloc::{AllocError, Global};
@@ -58,7 +58,7 @@ fn push_number_row<O: Canvas>(
     page: &mut Page<O>,
     context: &LineContext,
     shown: &ShownLine,
-    text: &LineText,
+    text: &LineBytes,
     cut: &Cut,
 ) -> Outcome
     requires { text.now.start + length text.now.bytes.now < 2 ^ 64 }
@@ -116,7 +116,7 @@ fn marks_alone<'a>(
 fn cut_of(
     alloc: Global,
     context: &LineContext,
-    text: &LineText,
+    text: &LineBytes,
     marks: &[Mark],
 ) -> Result<Cut, AllocError>
     requires start { text.now.start ≡ context.now.line.start }
@@ -182,7 +182,7 @@ pub(crate) fn push_line_or_break<O: Canvas>(
         return push_break(page, context, shown);
     }
     let whole = marks_alone(alloc, context, shown)?;
-    let text = LineText {
+    let text = LineBytes {
         start: context.line.start,
         bytes: shown.text,
         tab: context.frame.settings.layout.tab_width,

@@ -81,7 +81,7 @@ pub struct Snippet<'a> {
 
 /// A sweep over labels, and the offset to which it has come.
 #[derive(Drop)]
-pub struct Passage<'a> {
+pub struct SweepPosition<'a> {
     /// What the sweep knows there.
     pub sweep: Sweep<'a>,
     /// The offset.
@@ -141,18 +141,18 @@ fn seek<'a>(
     alloc: Global,
     labels: &[PlacedLabel<'a>],
     place: usize,
-    passage: &mut Passage<'a>,
+    position: &mut SweepPosition<'a>,
 ) -> Outcome
     requires sorted { AreSorted labels.now }
-    requires at { IsAt labels.now passage.old.at passage.old.sweep.next passage.old.sweep.running.items }
-    ensures { OnOk result (IsAt labels.now place passage.new.sweep.next passage.new.sweep.running.items) }
+    requires at { IsAt labels.now position.old.at position.old.sweep.next position.old.sweep.running.items }
+    ensures { OnOk result (IsAt labels.now place position.new.sweep.next position.new.sweep.running.items) }
 {
-    let mut from = passage.at;
+    let mut from = position.at;
     if place < from {
-        passage.sweep = Sweep::new(alloc);
+        position.sweep = Sweep::new(alloc);
         from = 0;
     }
-    pass_over(labels, from, place, &mut passage.sweep)
+    pass_over(labels, from, place, &mut position.sweep)
 }
 
 // The rows of a snippet's lines, in the highlighter's pieces, which is asked for those that are left out too. Where
@@ -283,24 +283,24 @@ pub fn push_snippet<'a, H: Highlighter, O: Canvas>(
     page: &mut Page<O>,
     drawing: &Drawing<'a>,
     highlighter: &mut Option<H>,
-    passage: &mut Passage<'a>,
+    position: &mut SweepPosition<'a>,
     snippet: &Snippet<'_>,
 ) -> Outcome
     requires sorted { AreSorted drawing.now.placed.now }
-    requires at { IsAt drawing.now.placed.now passage.old.at passage.old.sweep.next passage.old.sweep.running.items }
+    requires at { IsAt drawing.now.placed.now position.old.at position.old.sweep.next position.old.sweep.running.items }
     requires numbered { AreNumbered snippet.now.contents.now drawing.now.spreads.now }
     ensures rows { OnOk result (PutsSnippet (leaves_plain H.is_blank highlighter.old)
         (λ calls. AreCallsOn H.may_follow highlighter.old highlighter.new (restarted snippet.now.contents.now ∷ calls))
         drawing.now snippet.now page.old page.new) }
     ensures stays { leaves_plain H.is_blank highlighter.new ≡ leaves_plain H.is_blank highlighter.old }
-    ensures at { OnOk result (IsAt drawing.now.placed.now passage.new.at passage.new.sweep.next
-        passage.new.sweep.running.items) }
+    ensures at { OnOk result (IsAt drawing.now.placed.now position.new.at position.new.sweep.next
+        position.new.sweep.running.items) }
 {
     let start = snippet.contents.span().offset();
     let end = sum(start, snippet.contents.data().len())?;
-    seek(drawing.settings.alloc, drawing.placed, start, passage)?;
+    seek(drawing.settings.alloc, drawing.placed, start, position)?;
     restart(highlighter, snippet.contents);
-    push_framed(page, drawing, highlighter, &mut passage.sweep, snippet)?;
-    passage.at = end;
+    push_framed(page, drawing, highlighter, &mut position.sweep, snippet)?;
+    position.at = end;
     Ok(())
 }

@@ -22,7 +22,7 @@ use Rattle.miette_cells.proofs.Plaining.{plain_byte, printable_taken}
 use Rattle.miette_snippet_rules.specs.rules.Highlighting.{highlight_of}
 use Rattle.miette_snippet_rules.specs.rules.PrintedCells.{cells_beyond, cells_within, line_runs, printed_cells}
 use Rattle.miette_snippet_rules.specs.rules.PrintedCells.{text_bytes}
-use Rattle.miette_snippet_rules.specs.declared.line_text.LineText.{LineText}
+use Rattle.miette_snippet_rules.specs.declared.line_bytes.LineBytes.{LineBytes}
 use Rattle.miette_line_columns.specs.views.Passing.{ComeFrom}
 use Rattle.miette_snippet_rules.specs.views.Cuts.{made_runs}
 use Rattle.miette_snippet_rules.specs.declared.stretch.Stretch.{Stretch}
@@ -95,7 +95,7 @@ pub record AreAlike (spans : List Span) (at end : ℕ) (found : MadePainted) : T
   pub within : at + found.bytes ≤ end
   pub alike : (x : ℕ) → at ≤ x → x < at + found.bytes → list_any (holds_byte (byte_at x)) spans ≡ found.changed
 
-found_run : (text : LineText) (spans : List Span) (at : ℕ) (found : MadePainted)
+found_run : (text : LineBytes) (spans : List Span) (at : ℕ) (found : MadePainted)
     → list_all is_printable text.bytes.now ≡ true → text.start ≤ at
     → AreAlike spans at (text.start + length text.bytes.now) found
     → painted spans (cells_past text at) ≡ onto found (painted spans (cells_past text (at + found.bytes)))
@@ -115,7 +115,7 @@ plain_come o c [] = tt
 plain_come o c (b ∷ bs) = (omega arith, omega arith, plain_come (o + 1) (c + 1) bs)
 
 -- the bytes from an offset on, where spans that end before it are dropped
-pub run_next : (text : LineText) (left spans : List Span) (at : ℕ) (next : MadePainted)
+pub run_next : (text : LineBytes) (left spans : List Span) (at : ℕ) (next : MadePainted)
     → list_all is_printable text.bytes.now ≡ true → text.start ≤ at → AlikeFrom at left spans
     → AreAlike left at (text.start + length text.bytes.now) next
     → onto next (painted left (cells_past text (at + next.bytes))) ≡ painted spans (cells_past text at)
@@ -125,7 +125,7 @@ run_next text left spans at next h from alike is =
     (plain_come at (at - text.start) (drop (at - text.start) text.bytes.now))
 
 -- all of them
-pub run_first : (text : LineText) (spans : List Span) (first : MadePainted)
+pub run_first : (text : LineBytes) (spans : List Span) (first : MadePainted)
     → list_all is_printable text.bytes.now ≡ true
     → AreAlike spans text.start (text.start + length text.bytes.now) first
     → onto first (painted spans (cells_past text (text.start + first.bytes)))
@@ -136,7 +136,7 @@ run_first text spans first h is =
     ∙ ap (λ k. painted spans (plain_cells text.start k (drop k text.bytes.now))) none
 
 -- none is left
-pub none_past : (text : LineText) (at : ℕ) → text.start + length text.bytes.now ≤ at → cells_past text at ≡ []
+pub none_past : (text : LineBytes) (at : ℕ) → text.start + length text.bytes.now ≤ at → cells_past text at ≡ []
 none_past text at le =
     ap (plain_cells at (at - text.start))
     (drop_all (at - text.start) text.bytes.now (omega (arith, le)))

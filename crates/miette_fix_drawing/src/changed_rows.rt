@@ -26,17 +26,17 @@ use miette_frames::frame::Frame;
 use miette_line_printing::dots::dots_in;
 use miette_page::canvas::Canvas;
 use miette_page::page::Page;
-use miette_snippet_rules::line_text::LineText;
+use miette_snippet_rules::line_bytes::LineBytes;
 use miette_snippet_rules::options::SnippetSettings;
 use miette_snippet_rules::stretch::Cut;
 use std::alloc::AllocError;
 
 // The text of a changed line.
-fn text_in<'a>(settings: &SnippetSettings<'_>, line: &ChangedLine<'a>) -> LineText<'a>
+fn text_in<'a>(settings: &SnippetSettings<'_>, line: &ChangedLine<'a>) -> LineBytes<'a>
     ensures text { text_cells result ≡ line_cells (settings_of settings.now) line.now.start line.now.text.now }
     ensures within { result.start + length result.bytes.now ≤ line.now.start + length line.now.text.now }
 {
-    LineText {
+    LineBytes {
         start: line.start,
         bytes: text_of(line.text),
         tab: settings.layout.tab_width,

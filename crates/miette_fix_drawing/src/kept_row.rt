@@ -17,7 +17,7 @@ use miette_line_printing::dots::dots_in;
 use miette_line_printing::printing::push_shown_text;
 use miette_page::canvas::Canvas;
 use miette_page::page::Page;
-use miette_snippet_rules::line_text::LineText;
+use miette_snippet_rules::line_bytes::LineBytes;
 
 /// The row of an unchanged line, with its number in the source: ` 12 │ text`. `AllocError` where memory is refused, or
 /// a number or a column is past the largest `usize`.
@@ -33,7 +33,7 @@ pub fn push_kept_row<O: Canvas>(
 {
     let number = sum(at.old_line, 1)?;
     let settings = &frame.settings;
-    let text = LineText {
+    let text = LineBytes {
         start: at.old_offset,
         bytes: text_of(line),
         tab: settings.layout.tab_width,

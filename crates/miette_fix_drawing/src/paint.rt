@@ -16,7 +16,7 @@ use miette_basics::sums::sum;
 use miette_cells::cells::{Cell, Walk};
 use miette_page::page::PLAIN;
 use miette_protocol::protocol::SourceSpan;
-use miette_snippet_rules::line_text::LineText;
+use miette_snippet_rules::line_bytes::LineBytes;
 use miette_style::style::Style;
 use std::alloc::{AllocError, Global};
 
@@ -108,7 +108,7 @@ pub fn pieces_of(
     alloc: Global,
     style: Style,
     spans: &[SourceSpan],
-    text: &LineText,
+    text: &LineBytes,
 ) -> Result<Vec<(usize, Style)>, AllocError>
     requires apart { AreApart spans.now }
     requires fits { text.now.start + length text.now.bytes.now < 2 ^ 64 }

@@ -25,7 +25,7 @@ use miette_line_printing::printing::push_shown_text;
 use miette_page::canvas::Canvas;
 use miette_page::page::{PLAIN, Page};
 use miette_protocol::protocol::SourceSpan;
-use miette_snippet_rules::line_text::LineText;
+use miette_snippet_rules::line_bytes::LineBytes;
 use miette_snippet_rules::stretch::Cut;
 use miette_style::style::Style;
 use miette_style::theme::GraphicalTheme;
@@ -69,7 +69,7 @@ fn pieces_past(
     alloc: Global,
     style: Style,
     spans: &[SourceSpan],
-    text: &LineText,
+    text: &LineBytes,
     first: Painted,
 ) -> Result<Vec<(usize, Style)>, AllocError>
     requires apart { AreApart spans.now }
@@ -99,7 +99,7 @@ fn printable_pieces(
     alloc: Global,
     style: Style,
     spans: &[SourceSpan],
-    text: &LineText,
+    text: &LineBytes,
 ) -> Result<Vec<(usize, Style)>, AllocError>
     requires apart { AreApart spans.now }
     requires fits { text.now.start + length text.now.bytes.now < 2 ^ 64 }
@@ -120,7 +120,7 @@ pub(crate) fn changed_pieces(
     alloc: Global,
     style: Style,
     spans: &[SourceSpan],
-    text: &LineText,
+    text: &LineBytes,
 ) -> Result<Vec<(usize, Style)>, AllocError>
     requires apart { AreApart spans.now }
     requires fits { text.now.start + length text.now.bytes.now < 2 ^ 64 }
@@ -163,7 +163,7 @@ fn push_pieces<O: Canvas>(page: &mut Page<O>, text: &[u8], pieces: &[(usize, Sty
 /// or a count of bytes is past the largest `usize`.
 pub(crate) fn push_changed_text<O: Canvas>(
     page: &mut Page<O>,
-    text: &LineText,
+    text: &LineBytes,
     pieces: &[(usize, Style)],
     cut: &Cut,
     theme: &GraphicalTheme,

@@ -42,7 +42,7 @@ pub(crate) enum Kind {
 
 /// A line that is shown, with its terminator, and the line that goes with it, if there is one.
 #[derive(Clone, Copy)]
-pub(crate) struct ShownLine<'a> {
+pub(crate) struct SegmentLine<'a> {
     pub(crate) kind: Kind,
     pub(crate) text: &'a [u8],
     pub(crate) other: Option<OtherText<'a>>,
@@ -122,7 +122,7 @@ fn other_text(other: Option<&[u8]>, away: usize) -> Option<OtherText<'_>>
 
 impl<'a> Segment<'a> {
     /// Takes the first line off, if there is one. `AllocError` where a count of bytes is past the largest `usize`.
-    pub(crate) fn next(&mut self) -> Result<Option<ShownLine<'a>>, AllocError>
+    pub(crate) fn next(&mut self) -> Result<Option<SegmentLine<'a>>, AllocError>
         ensures lines { IfOk result (λ line.
             lines_of_segment self.old ≡ shown_before line (lines_of_segment self.new)) }
         ensures fewer { IfOk result (λ line.
@@ -135,7 +135,7 @@ impl<'a> Segment<'a> {
         };
         let other = next_line(&mut self.others);
         self.away = away_past(kind, away, other)?;
-        Ok(Some(ShownLine {
+        Ok(Some(SegmentLine {
             kind,
             text,
             other: other_text(other, away),
@@ -144,7 +144,7 @@ impl<'a> Segment<'a> {
 }
 
 /// Where stands what comes after a line.
-pub(crate) fn past(at: &Standing, line: &ShownLine) -> Result<Standing, AllocError>
+pub(crate) fn past(at: &Standing, line: &SegmentLine) -> Result<Standing, AllocError>
     ensures { IfOk result (λ behind. standing_of behind ≡ past (standing_of at.now) (line_of_shown line.now)) }
 {
     let size = line.text.len();
@@ -161,7 +161,7 @@ pub(crate) fn past(at: &Standing, line: &ShownLine) -> Result<Standing, AllocErr
 }
 
 // The number of a line.
-fn number_of(at: &Standing, line: &ShownLine) -> Result<usize, AllocError>
+fn number_of(at: &Standing, line: &SegmentLine) -> Result<usize, AllocError>
     ensures { IfOk result (λ number. number ≡ number_of (standing_of at.now) (line_of_shown line.now)) }
 {
     match line.kind {
@@ -253,7 +253,7 @@ fn push_changed_line<O: Canvas>(
     page: &mut Page<O>,
     drawing: &DiffDrawing,
     at: &Standing,
-    line: &ShownLine,
+    line: &SegmentLine,
 ) -> Outcome
     requires deleted { AreApart drawing.now.deleted.now }
     requires inserted { AreApart drawing.now.inserted.now }
@@ -281,7 +281,7 @@ fn push_line<O: Canvas>(
     page: &mut Page<O>,
     drawing: &DiffDrawing,
     at: &Standing,
-    line: &ShownLine,
+    line: &SegmentLine,
 ) -> Result<Standing, AllocError>
     requires deleted { AreApart drawing.now.deleted.now }
     requires inserted { AreApart drawing.now.inserted.now }

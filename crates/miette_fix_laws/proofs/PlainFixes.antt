@@ -34,7 +34,7 @@ use Rattle.miette_style.specs.declared.style.Style.{Style}
 use Rattle.miette_style.specs.rules.Styles.{plain}
 use Rattle.miette_style.specs.rules.Themes.{Styles, Theme}
 use Rattle.miette_row_laws.specs.laws.Clean.{AreCleanDrawings, IsClean, IsCleanCode, IsCleanSource}
-use Rattle.miette_row_laws.specs.laws.PlainStyles.{AreAllPlain, ArePlain, IsPlainRow, restyled}
+use Rattle.miette_row_laws.specs.laws.PlainStyles.{AreAllPlain, ArePlain, IsPlainRow, restyled_snippets}
 use Rattle.miette_row_laws.proofs.PlainLabels.{filter_plain, marks_plain}
 use Rattle.miette_row_laws.proofs.CleanTexts.{AreCleanCells, clean_append, clean_cells, clean_characters, clean_cons}
 use Rattle.miette_row_laws.proofs.CleanTexts.{clean_copies, clean_decimal, clean_replicate, clean_take}
@@ -348,8 +348,8 @@ module _ (P : Type 0) where
 pub plain_fix : (P : Type 0) (s : SnippetSettings) (styles : Styles) → ArePlain styles
     → (P → AreCleanDrawings s.theme.characters) → (source : Source) (fails : Bool) (edits : List Replacement)
     → (P → IsCleanSource source) → (P → AreCleanEdits edits)
-    → PlainRows P (fix_rows (restyled s styles) source fails edits) (fix_rows s source fails edits)
+    → PlainRows P (fix_rows (restyled_snippets s styles) source fails edits) (fix_rows s source fails edits)
 plain_fix P s styles are_plain clean source fails edits h k =
-    subst (λ u. PlainRows P (fix_rows (restyled s u) source fails edits) (fix_rows s source fails edits))
+    subst (λ u. PlainRows P (fix_rows (restyled_snippets s u) source fails edits) (fix_rows s source fails edits))
     (sym (are_plain_styles styles are_plain))
     (plain_fix_with P s styles.highlights are_plain.highlights clean source fails edits h k)

@@ -11,7 +11,7 @@ ghost use Rattle.miette_fixes.specs.rules.Edits.{Replacement};
 ghost use Rattle.miette_page.specs.rules.Rows.{glyphs_of};
 ghost use Rattle.miette_protocol.specs.rules.Reading.{Source};
 ghost use Rattle.miette_row_laws.specs.laws.Clean.{AreCleanDrawings, IsClean, IsCleanRow, IsCleanSource};
-ghost use Rattle.miette_row_laws.specs.laws.PlainStyles.{ArePlain, IsPlainRow, restyled};
+ghost use Rattle.miette_row_laws.specs.laws.PlainStyles.{ArePlain, IsPlainRow, restyled_snippets};
 ghost use Rattle.miette_snippet_rules.specs.rules.Settings.{SnippetSettings};
 ghost use Rattle.miette_style.specs.rules.Themes.{Styles};
 
@@ -19,11 +19,11 @@ ghost use Rattle.miette_style.specs.rules.Themes.{Styles};
 pub fn fix_rows_turn_plain()
     ensures same { (s : SnippetSettings) (styles : Styles) (source : Source) (fails : Bool)
         (edits : List Replacement) → ArePlain styles →
-        map glyphs_of (fix_rows (restyled s styles) source fails edits)
+        map glyphs_of (fix_rows (restyled_snippets s styles) source fails edits)
         ≡ map glyphs_of (fix_rows s source fails edits) }
     ensures plain { (s : SnippetSettings) (styles : Styles) (source : Source) (fails : Bool)
         (edits : List Replacement) → ArePlain styles →
-        AllByRecursion IsPlainRow (fix_rows (restyled s styles) source fails edits) }
+        AllByRecursion IsPlainRow (fix_rows (restyled_snippets s styles) source fails edits) }
 {}
 
 /// Where the characters that are drawn, the source with its name and the texts of the edits hold no escape, no row of

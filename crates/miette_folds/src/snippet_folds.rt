@@ -10,7 +10,7 @@ ghost use Rattle.miette_folds.specs.views.Spreads.{AreNumbered};
 ghost use Rattle.miette_folds.specs.views.NearFolds.{AreStops, first_begun};
 
 use crate::folds::{Fold, LineStart, Spread, fold_list};
-use crate::windows::{Bounds, bounds_of, touching};
+use crate::windows::{ContextReach, bounds_of, touching};
 use miette_protocol::source::MietteSpanContents;
 use miette_source_lines::lines::LineOfText;
 use std::alloc::{AllocError, Global};
@@ -21,7 +21,7 @@ use std::marker::Model;
 pub struct Folds {
     all: Vec<Fold>,
     stops: Vec<LineStart>,
-    bounds: Bounds,
+    bounds: ContextReach,
 }
 
 impl Model for Folds {
@@ -39,7 +39,7 @@ impl Model for Folds {
 
 /// The labels that a line may touch, and where the nearest context of those after them begins.
 #[derive(Clone, Copy)]
-pub struct Near<'a> {
+pub struct FoldsNear<'a> {
     /// These labels, one after the other.
     pub folds: &'a [Fold],
     /// Where the line begins on which the nearest context of the labels after them does.
@@ -109,7 +109,7 @@ impl Folds {
     }
 
     /// The labels that a line may touch.
-    pub fn around_line(&self, line: &LineOfText) -> Near<'_>
+    pub fn around_line(&self, line: &LineOfText) -> FoldsNear<'_>
         ensures around { (test : MadeFold → Bool) →
             list_any (λ f. is_around_fold (line_of_text line.now) f && test f) result.folds.now
             ≡ list_any (λ f. is_around_fold (line_of_text line.now) f && test f) self.now }
@@ -117,7 +117,7 @@ impl Folds {
             ≡ nearest_stop (line_of_text line.now) None self.now }
     {
         let near = touching(&self.bounds, line.start, line.end);
-        Near {
+        FoldsNear {
             folds: &self.all[near.first..near.behind],
             stop: stop_behind(&self.stops, near.behind),
         }

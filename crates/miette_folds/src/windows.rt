@@ -13,7 +13,7 @@ use std::marker::Model;
 
 /// How far the contexts of labels go.
 #[derive(Drop)]
-pub struct Bounds {
+pub struct ContextReach {
     /// How far those of the labels up to each one go at most.
     pub untils: Vec<usize>,
     /// Where those of the labels from each one on begin at least, the last label first.
@@ -33,7 +33,7 @@ pub struct Window {
 #[derive(Drop)]
 pub struct Spreads {
     all: Vec<Spread>,
-    bounds: Bounds,
+    bounds: ContextReach,
 }
 
 impl Model for Spreads {
@@ -82,10 +82,10 @@ fn froms_of(alloc: Global, labels: &[Spread]) -> Result<Vec<usize>, AllocError>
 }
 
 /// How far the contexts of these labels go. `AllocError` where memory is refused.
-pub fn bounds_of(alloc: Global, labels: &[Spread]) -> Result<Bounds, AllocError>
+pub fn bounds_of(alloc: Global, labels: &[Spread]) -> Result<ContextReach, AllocError>
     ensures { IfOk result (λ bounds. AreBounds labels.now bounds.untils.items bounds.froms.items) }
 {
-    Ok(Bounds {
+    Ok(ContextReach {
         untils: untils_of(alloc, labels)?,
         froms: froms_of(alloc, labels)?,
     })
@@ -122,7 +122,7 @@ fn many_behind(froms: &[usize], end: usize) -> usize
 }
 
 /// The labels that may touch the bytes from one offset up to another, by how far their contexts go.
-pub fn touching(bounds: &Bounds, start: usize, end: usize) -> Window
+pub fn touching(bounds: &ContextReach, start: usize, end: usize) -> Window
     ensures { (labels : List MadeSpread) → AreBounds labels bounds.now.untils.items bounds.now.froms.items →
         IsWindow start end labels result.first result.behind }
 {

@@ -12,7 +12,7 @@ use Rattle.miette_label_rules.specs.rules.Contexts.{contents, end_of_span}
 use Rattle.miette_label_rules.specs.rules.Labels.{DrawnLabel, drawn_from, drawn_label, style_at, parts_of}
 use Rattle.miette_label_rules.specs.views.GivenLabels.{label_at, text_at, drawn_of}
 use Rattle.miette_labels.specs.views.Reads.{IsRead}
-use Rattle.miette_labels.specs.views.Placing.{end_drawn, is_told, placed_of, placed_one, placed_from}
+use Rattle.miette_labels.specs.views.Placing.{begins_at_end, end_drawn, placed_of, placed_one, placed_from}
 use Rattle.miette_labels.specs.views.Placing.{drawn_placed}
 use Rattle.miette_label_rules.specs.declared.placed.PlacedLabel.{PlacedLabel}
 use Rattle.miette_basics.proofs.Cases.{by_cases}
@@ -43,7 +43,7 @@ text_is (l ∷ ls) (suc i) = text_is ls i
 abbrev pub end_told : Bool → ℕ → Option ℕ
 end_told ends n = cond ends (Some n) None
 
-behind_is : (ends : Bool) (n offset : ℕ) → is_told (end_told ends n) offset ≡ (ends && eqb offset n)
+behind_is : (ends : Bool) (n offset : ℕ) → begins_at_end (end_told ends n) offset ≡ (ends && eqb offset n)
 behind_is true n offset = refl
 behind_is false n offset = refl
 

@@ -3,7 +3,7 @@
 ghost use Rattle.std.specs.Prelude.{option_copied, ◌≡◌, map, IfOk};
 ghost use Rattle.miette_label_rules.specs.rules.Labels.{style_at};
 ghost use Rattle.miette_label_rules.specs.views.GivenLabels.{text_at};
-ghost use Rattle.miette_labels.specs.views.Placing.{placed_of, placed_from, placed_one, end_drawn, is_told};
+ghost use Rattle.miette_labels.specs.views.Placing.{placed_of, placed_from, placed_one, end_drawn, begins_at_end};
 ghost use Rattle.miette_labels.specs.views.Placing.{reads_before, told_end};
 
 use crate::reading::ReadLabel;
@@ -58,8 +58,8 @@ pub fn told_end(reads: &[ReadLabel<'_>]) -> Result<Option<usize>, AllocError>
 }
 
 // Whether a label begins where the source is told to end.
-fn is_told(end: Option<usize>, offset: usize) -> bool
-    ensures { result ≡ is_told end offset }
+fn begins_at_end(end: Option<usize>, offset: usize) -> bool
+    ensures { result ≡ begins_at_end end offset }
 {
     match end {
         Some(end) => offset == end,
@@ -88,7 +88,7 @@ fn placed_one<'a>(
     ensures { IfOk result (λ placed. placed_of placed ≡ placed_one end styles.now i labels.now read.now) }
 {
     let offset = read.span.offset();
-    let behind = is_told(end, offset);
+    let behind = begins_at_end(end, offset);
     let before = offset.saturating_sub(1);
     let drawn = drawn_end(read)?;
     let (start, after) = if behind {

@@ -8,11 +8,11 @@ use lib.Seq.{take-append_seam, drop-append_seam}
 use Rattle.std.specs.declared.alloc.Global.{Global}
 use Rattle.std.specs.Io.KnownBytes.{Consumes, IsAtEnd}
 use Rattle.miette_language_server.specs.rules.Frames.{Frame, cut}
-use Rattle.miette_language_server.specs.views.Answered.{IsCut, IsFirstFrame, IsHeader}
+use Rattle.miette_language_server.specs.views.Answered.{IsBody, IsFirstFrame, IsHeader}
 
 -- what is there ends early
 pub too_short : (old mid new : Option (List ℕ)) (body : List ℕ) (n : ℕ) → Consumes old mid body → Consumes mid new []
-    → IsAtEnd new → length body < n → IsCut old new n None
+    → IsAtEnd new → length body < n → IsBody old new n None
 too_short None mid new body n c d e lt = tt
 too_short (Some xs) None new body n c d e lt = absurd c
 too_short (Some xs) (Some ys) None body n c d e lt = absurd d
@@ -35,7 +35,7 @@ abbrev pub cut_at : ℕ × List ℕ → Option Frame
 cut_at it = cut it.0 it.1
 
 pub frame_read : (old mid new : Option (List ℕ)) (n : ℕ) (o : Option (Vec ℕ Global)) → IsHeader old mid (Some n)
-    → IsCut mid new n o → IsFirstFrame old new o
+    → IsBody mid new n o → IsFirstFrame old new o
 frame_read None mid new n o h c = tt
 frame_read (Some xs) None new n o h c = absurd h
 frame_read (Some xs) (Some ys) new n None h c = ap (option_and_then cut_at) h ∙ cut_short n ys c

@@ -4,7 +4,7 @@ ghost use Rattle.std.specs.Prelude.{◌≡◌, ◌↔◌, ◌⊎◌, ◌++◌, �
 ghost use Rattle.std.specs.Io.KnownBytes.{Appends};
 ghost use Rattle.miette_devices.specs.views.Device.{TakesBeginning};
 ghost use Rattle.miette_language_server.specs.rules.Frames.{framed, header_text};
-ghost use Rattle.miette_language_server.specs.views.Answered.{IsCut, IsFirstFrame, IsHeader, IsNext};
+ghost use Rattle.miette_language_server.specs.views.Answered.{IsBody, IsFirstFrame, IsHeader, IsNext};
 
 use crate::client::Client;
 use crate::fields::{is_empty_row, row_length};
@@ -80,7 +80,7 @@ fn read_body<R: Read, W>(
     requires sound { client.old.reader.failed ≡ false }
     requires sent { client.old.writer.is_sent ≡ true }
     ensures body { IfOk result
-        (IsCut (R.remaining client.old.reader.inner) (R.remaining client.new.reader.inner) size) }
+        (IsBody (R.remaining client.old.reader.inner) (R.remaining client.new.reader.inner) size) }
     ensures failed { IsTrue client.new.reader.failed ↔ (result ≡ Err Fault.Read) }
     ensures others { OnErr result ((result ≡ Err Fault.Read) ⊎ (result ≡ Err Fault.Memory)) }
     ensures writer { client.new.writer ≡ client.old.writer }

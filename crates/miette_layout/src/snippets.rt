@@ -12,7 +12,7 @@ ghost use Rattle.miette_label_rules.specs.rules.Groups.{in_order};
 ghost use Rattle.miette_snippet_rules.specs.rules.Highlighting.{leaves_plain};
 
 use crate::ends::asks_for_end;
-use miette_drawing::snippet::{Drawing, Passage, Snippet, push_snippet};
+use miette_drawing::snippet::{Drawing, Snippet, SweepPosition, push_snippet};
 use miette_folds::spreads::spreads;
 use miette_frames::frame::{Frame, push_refused_row};
 use miette_highlight::highlight::Highlighter;
@@ -90,7 +90,7 @@ fn read_snippets<'a, 'b, S: SourceCode, H: Highlighter, O: Canvas + Drop>(
         spreads: &spreads,
     };
     let mut page = page;
-    let mut passage = Passage {
+    let mut position = SweepPosition {
         sweep: Sweep::new(alloc),
         at: 0,
     };
@@ -104,7 +104,7 @@ fn read_snippets<'a, 'b, S: SourceCode, H: Highlighter, O: Canvas + Drop>(
             contents: &group.contents,
             place: place.begins(),
         };
-        push_snippet(&mut page, &drawing, highlighter, &mut passage, &snippet)?;
+        push_snippet(&mut page, &drawing, highlighter, &mut position, &snippet)?;
     }
     Ok(Some(page))
 }

@@ -20,7 +20,7 @@ use Rattle.miette_snippet_rules.specs.rules.PrintedCells.{line_runs, printed_gly
 use Rattle.miette_snippet_rules.proofs.RowTokens.{then, told-append}
 use Rattle.miette_snippet_rules.specs.declared.stretch.Stretch.{Stretch as MadeStretch}
 use Rattle.miette_snippet_rules.specs.views.Cuts.{cut_cells}
-use Rattle.miette_line_printing.specs.steps.PlainCut.{plain_run, plain_told}
+use Rattle.miette_line_printing.specs.steps.PlainCut.{plain_stretch, plain_told}
 use Rattle.miette_snippet_rules.proofs.PlainCells.{printable_cells, cell_of_byte, dropped}
 use Rattle.miette_snippet_rules.specs.rules.Highlighting.{highlight_of}
 use Rattle.miette_style.specs.declared.style.Style.{Style}
@@ -66,8 +66,8 @@ plain_shown run o c before (s ∷ later) bs h =
     let below : plain_told run later (drop s.cells bs) ≡ row_tokens rest =
     plain_shown run (o + s.cells) (c + s.cells) (before + s.bytes) later (drop s.cells bs) (dropped s.cells bs h)
     ∙ ap (λ cells. row_tokens (cut_cells run [] (before + s.bytes) later cells)) (sym (drop_plain s.cells o c bs)) in
-    let here : plain_run run s bs ≡ row_tokens own =
-    by_cases {C = plain_run run s bs ≡ row_tokens own} s.shown
+    let here : plain_stretch run s bs ≡ row_tokens own =
+    by_cases {C = plain_stretch run s bs ≡ row_tokens own} s.shown
     (λ y. rw y (ap (styled_tokens plain) (sym (plain_codes o c (take s.cells bs) (printable_taken s.cells bs h))
     ∙ ap (λ cells. map (λ (p : Glyph). p.code) (printed_cells cells)) (sym (take_plain s.cells o c bs)))
     ∙ sym (append-nil (styled_tokens plain (map (λ (p : Glyph). p.code)
@@ -86,13 +86,13 @@ printable_ascii (b ∷ bs) h zero = let p = plain_byte b (and_parts (is_printabl
 printable_ascii (b ∷ bs) h (suc i) = printable_ascii bs (and_parts (is_printable b) (list_all is_printable bs) h).1 i
 
 pub stretch_plain : (run : Run) (s : MadeStretch) (own bytes : List ℕ) (p q r : Printout) → s.shown ≡ true → own
-    ≡ take s.cells bytes → q ≡ p ⊕ begins plain ∷ [] → r ≡ q ⊕ text_tokens own → r ≡ p ⊕ plain_run run s bytes
+    ≡ take s.cells bytes → q ≡ p ⊕ begins plain ∷ [] → r ≡ q ⊕ text_tokens own → r ≡ p ⊕ plain_stretch run s bytes
 stretch_plain run s own bytes p q r shown o hq hr =
     then p (begins plain ∷ []) (text_tokens own) hq hr ∙ ap (λ xs. p ⊕ styled_tokens plain xs) o
     ∙ ap (λ b. p ⊕ cond b (styled_tokens plain (take s.cells bytes)) (row_tokens (run ∷ []))) (sym shown)
 
 pub stretch_dotted : (run : Run) (s : MadeStretch) (bytes : List ℕ) (p q : Printout) → s.shown ≡ false → q ≡ p
-    ⊕ row_tokens (run ∷ []) → q ≡ p ⊕ plain_run run s bytes
+    ⊕ row_tokens (run ∷ []) → q ≡ p ⊕ plain_stretch run s bytes
 stretch_dotted run s bytes p q left hq =
     hq ∙ ap (λ b. p ⊕ cond b (styled_tokens plain (take s.cells bytes)) (row_tokens (run ∷ []))) (sym left)
 
@@ -110,13 +110,13 @@ drop_least (suc n) (b ∷ bs) = let less : min (suc n) (suc (length bs)) ≡ suc
 
 pub plain_more : (run : Run) (cut : List MadeStretch) (i : ℕ) (d : MadeStretch) (rest later : List ℕ)
     (p q whole : Printout) → i < length cut → later ≡ drop (get_or cut i d).cells rest → q ≡ p
-    ⊕ plain_run run (get_or cut i d) rest →
+    ⊕ plain_stretch run (get_or cut i d) rest →
     p ⊕ plain_told run (drop i cut) rest ≡ whole → q ⊕ plain_told run (drop (i + 1) cut) later ≡ whole
 plain_more run cut i d rest later p q whole lt l hq inv =
     let s : MadeStretch = get_or cut i d in
     ap (λ xs. q ⊕ plain_told run (drop (i + 1) cut) xs) l
     ∙ ap (λ x. x ⊕ plain_told run (drop (i + 1) cut) (drop s.cells rest)) hq
-    ∙ put_append p (plain_run run s rest) (plain_told run (drop (i + 1) cut) (drop s.cells rest))
+    ∙ put_append p (plain_stretch run s rest) (plain_told run (drop (i + 1) cut) (drop s.cells rest))
     ∙ ap (λ xs. p ⊕ plain_told run xs rest) (sym (at_drop_more (λ (xs : List MadeStretch). xs) cut i d lt)) ∙ inv
 
 pub plain_end : (run : Run) (cut : List MadeStretch) (i : ℕ) (rest : List ℕ) (p whole : Printout) → length cut ≤ i → p

@@ -6,7 +6,7 @@ ghost use Rattle.miette_page.specs.views.Printouts.{◌⊕◌};
 ghost use Rattle.miette_cells.specs.views.Printable.{is_printable};
 ghost use Rattle.miette_style.specs.rules.Themes.{theme_of};
 ghost use Rattle.miette_snippet_rules.specs.rules.CutLines.{dots};
-ghost use Rattle.miette_line_printing.specs.steps.PlainCut.{plain_run, plain_told};
+ghost use Rattle.miette_line_printing.specs.steps.PlainCut.{plain_stretch, plain_told};
 
 use crate::dots::push_dots;
 use crate::tabs::push_ascii;
@@ -25,7 +25,7 @@ fn push_plain_stretch<O: Canvas>(
 ) -> Result<(), AllocError>
     requires { list_all is_printable own.now ≡ true }
     ensures { OnOk result ((bytes : List ℕ) → own.now ≡ take stretch.now.cells bytes →
-        page.new ≡ page.old ⊕ plain_run (dots (theme_of theme.now)) stretch.now bytes) }
+        page.new ≡ page.old ⊕ plain_stretch (dots (theme_of theme.now)) stretch.now bytes) }
 {
     if !stretch.shown {
         return push_dots(page, theme);

@@ -19,7 +19,7 @@ use miette_cells::cells::Walk;
 use miette_cells::plain::all_printable;
 use miette_page::canvas::Canvas;
 use miette_page::page::{PLAIN, Page};
-use miette_snippet_rules::line_text::LineText;
+use miette_snippet_rules::line_bytes::LineBytes;
 use miette_snippet_rules::stretch::Cut;
 use miette_style::style::Style;
 use miette_style::theme::GraphicalTheme;
@@ -45,7 +45,7 @@ fn push_line_text<O: Canvas>(
 // ASCII; else character by character.
 fn push_text<O: Canvas>(
     page: &mut Page<O>,
-    text: &LineText,
+    text: &LineBytes,
     pieces: &[(usize, Style)],
 ) -> Result<(), AllocError>
     requires { text.now.start + length text.now.bytes.now < 2 ^ 64 }
@@ -72,7 +72,7 @@ fn push_text<O: Canvas>(
 /// refused, or a column or a count of bytes is past the largest `usize`.
 pub fn push_shown_text<O: Canvas>(
     page: &mut Page<O>,
-    text: &LineText,
+    text: &LineBytes,
     pieces: &[(usize, Style)],
     cut: &Cut,
     theme: &GraphicalTheme,

@@ -7,7 +7,7 @@ use Rattle.miette_basics.specs.rules.Lists.{is_nil}
 use Rattle.miette_label_rules.specs.rules.Groups.{in_order, put_label}
 use Rattle.miette_protocol.specs.views.Meaning.{Label}
 use Rattle.miette_sarif.specs.rules.Findings.{Mark, SeenSource}
-use Rattle.miette_sarif.specs.rules.Marks.{Group, Picked, first_picked, is_told, mark_over}
+use Rattle.miette_sarif.specs.rules.Marks.{Group, Picked, first_picked, mark_over, says_something}
 use Rattle.miette_sarif.specs.rules.Marks.{marks_from, marks_in, marks_of, other_marks, pick, pick_in, pick_label}
 use Rattle.miette_sarif.specs.rules.Marks.{pick_over, picked_or, primary_in, primary_mark}
 use Rattle.miette_log_laws.proofs.Lists.{all_split}
@@ -21,7 +21,7 @@ GroupSays P g = AllByRecursion (Says P g.over) g.labels
 
 -- it holds of marks that say nothing
 abbrev pub HoldsOfNone : (Mark → Type 0) → Type 0
-HoldsOfNone P = (m : Mark) → is_told m ≡ false → P m
+HoldsOfNone P = (m : Mark) → says_something m ≡ false → P m
 
 -- ---- marks of labels
 
@@ -29,15 +29,15 @@ nil_is : (xs : List ℕ) → is_nil xs ≡ true → xs ≡ []
 nil_is [] e = refl
 nil_is (x ∷ xs) e = cc
 
-pub untold_text : (m : Mark) → is_told m ≡ false → m.text ≡ []
+pub untold_text : (m : Mark) → says_something m ≡ false → m.text ≡ []
 untold_text m e =
     nil_is m.text (and_parts (is_none m.place) (is_nil m.text) (not-false (is_none m.place && is_nil m.text) e)).1
 
-pub untold_place : (m : Mark) → is_told m ≡ false → is_none m.place ≡ true
+pub untold_place : (m : Mark) → says_something m ≡ false → is_none m.place ≡ true
 untold_place m e = (and_parts (is_none m.place) (is_nil m.text) (not-false (is_none m.place && is_nil m.text) e)).0
 
 mark_says : (P : Mark → Type 0) (over : Option SeenSource) (l : Label) (later : List Mark) (ls : List Label) (b : Bool)
-    → is_told (mark_over over l) ≡ b → HoldsOfNone P → (AllByRecursion P later → AllByRecursion (Says P over) ls)
+    → says_something (mark_over over l) ≡ b → HoldsOfNone P → (AllByRecursion P later → AllByRecursion (Says P over) ls)
     → AllByRecursion P (if b then mark_over over l ∷ later else later) → AllByRecursion (Says P over) (l ∷ ls)
 mark_says P over l later ls true e quiet f h = (h.0, f h.1)
 mark_says P over l later ls false e quiet f h = (quiet (mark_over over l) e, f h)
@@ -46,7 +46,8 @@ marks_say : (P : Mark → Type 0) (over : Option SeenSource) (ls : List Label) �
     → AllByRecursion P (marks_from over ls) → AllByRecursion (Says P over) ls
 marks_say P over [] quiet h = tt
 marks_say P over (l ∷ ls) quiet h =
-    mark_says P over l (marks_from over ls) ls (is_told (mark_over over l)) refl quiet (marks_say P over ls quiet) h
+    mark_says P over l (marks_from over ls) ls (says_something (mark_over over l)) refl quiet
+    (marks_say P over ls quiet) h
 
 pub groups_say : (P : Mark → Type 0) (gs : List Group) → HoldsOfNone P → AllByRecursion P (marks_of gs)
     → AllByRecursion (GroupSays P) gs

@@ -15,7 +15,7 @@ use Rattle.miette_protocol.specs.rules.Reading.{Source, Span}
 use Rattle.miette_protocol.specs.views.Meaning.{Label}
 use Rattle.miette_sarif.specs.rules.Artifacts.{Artifacts}
 use Rattle.miette_sarif.specs.rules.Findings.{Area, Mark, Proposed, Replaced, SeenSource, SourceName}
-use Rattle.miette_sarif.specs.rules.Marks.{Group, Picked, area_at, area_over, first_picked, is_told}
+use Rattle.miette_sarif.specs.rules.Marks.{Group, Picked, area_at, area_over, first_picked, says_something}
 use Rattle.miette_sarif.specs.rules.Marks.{mark_over, marks_from, marks_in, marks_of, other_marks, pick, pick_in}
 use Rattle.miette_sarif.specs.rules.Marks.{pick_label, pick_over, picked_or, primary_in, primary_mark}
 use Rattle.miette_sarif.specs.rules.Proposals.{Joined, joined, joined_from, later_end, listed_fix, meets, proposal_in}
@@ -74,7 +74,7 @@ module _ (files : List ℕ → Option Source) (a : Artifacts) where
       → AllByRecursion (IsMarkOver files a) (marks_from over ls)
   marks_are over [] h = tt
   marks_are over (l ∷ ls) h =
-      mark_kept over l (marks_from over ls) (is_told (mark_over over l)) h (marks_are over ls h)
+      mark_kept over l (marks_from over ls) (says_something (mark_over over l)) h (marks_are over ls h)
 
   -- labels are over a source that is there
   abbrev pub IsGroupThere : Group → Type 0

@@ -13,7 +13,7 @@ ghost use Rattle.miette_marks.specs.steps.Ends.{has_end, spread_end};
 
 use crate::marks::Columns;
 use miette_label_rules::placed::PlacedLabel;
-use miette_snippet_rules::line_text::LineText;
+use miette_snippet_rules::line_bytes::LineBytes;
 use miette_snippet_rules::marks::Mark;
 use miette_source_lines::lines::LineOfText;
 use std::alloc::{AllocError, Global};
@@ -126,7 +126,7 @@ fn push_spread_ends(
 pub fn ends_of(
     alloc: Global,
     line: &LineOfText,
-    text: &LineText,
+    text: &LineBytes,
     marks: &[Mark<'_>],
     spread: &[PlacedLabel<'_>],
 ) -> Result<Vec<usize>, AllocError>

@@ -4,7 +4,7 @@ use Rattle.std.proofs.Common.{if◌then◌else◌}
 use Rattle.miette_wrap_rules.specs.views.Plans.{cuts_hyphens}
 use Rattle.miette_runs.specs.rules.Sequences.{tokens, erase}
 use Rattle.miette_wrap_rules.specs.laws.Tame.{IsTame, AllTame}
-use Rattle.miette_runs.specs.rules.Runs.{Fragment, HaveNoEscape, plain_run, print}
+use Rattle.miette_runs.specs.rules.Runs.{Fragment, HaveNoEscape, made_plain, print}
 use Rattle.miette_runs.specs.rules.Cutting.{without_leading, without_trailing}
 use Rattle.miette_wrap_rules.specs.rules.Wrapping.{Plan, wrapped_text}
 use Rattle.miette_runs.specs.rules.Cells.{columns_of}
@@ -26,7 +26,7 @@ pub record ErasesTo (x y : List ℕ) : Type 0 where
 -- The first runs hold no escape, and the second are the same in plain styles.
 pub record AreInPlain (xs ys : List Fragment) : Type 0 where
   pub clean : HaveNoEscape xs
-  pub same : map plain_run xs ≡ ys
+  pub same : map made_plain xs ≡ ys
 
 pub erases-to : {x y z : List ℕ} → ErasesTo x y → y ≡ z → ErasesTo x z
 erases-to h e = record { tame = h.tame; same = h.same ∙ e }
@@ -110,11 +110,11 @@ module _ (laws : TextLaws) where
   erases-feed = erases-clean line_feed refl
 
   pub erases-rows : (rs : List (List Fragment)) → HaveNoEscapes rs
-      → ErasesTo (rows_text rs) (rows_text (map (map plain_run) rs))
+      → ErasesTo (rows_text rs) (rows_text (map (map made_plain) rs))
   erases-rows [] h = erases-clean [] refl
   erases-rows (r ∷ rs) h =
-      erases-append (print r ++ line_feed) (print (map plain_run r) ++ line_feed) (rows_text rs)
-      (rows_text (map (map plain_run) rs))
-      (erases-append (print r) (print (map plain_run r)) line_feed line_feed
-      (erases-print r (map plain_run r) (record { clean = h.0; same = refl })) erases-feed)
+      erases-append (print r ++ line_feed) (print (map made_plain r) ++ line_feed) (rows_text rs)
+      (rows_text (map (map made_plain) rs))
+      (erases-append (print r) (print (map made_plain r)) line_feed line_feed
+      (erases-print r (map made_plain r) (record { clean = h.0; same = refl })) erases-feed)
       (erases-rows rs h.1)

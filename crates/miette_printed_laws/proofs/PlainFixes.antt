@@ -8,7 +8,7 @@ use Rattle.miette_protocol.specs.rules.Reading.{Source}
 use Rattle.miette_row_laws.specs.laws.Clean.{AreCleanDrawings, IsClean, IsCleanRow, IsCleanSource}
 use Rattle.miette_row_laws.specs.laws.PlainStyles as row_laws
 use Rattle.miette_row_laws.specs.laws.PlainStyles.{ArePlain, IsPlainRow}
-use Rattle.miette_runs.specs.rules.Runs.{plain_run}
+use Rattle.miette_runs.specs.rules.Runs.{made_plain}
 use Rattle.miette_snippet_rules.specs.rules.Settings as snippets
 use Rattle.miette_style.specs.rules.Themes.{Styles}
 use Rattle.miette_tree.specs.rules.Diagnosis.{Diagnosis}
@@ -24,11 +24,11 @@ use Rattle.miette_printed_laws.proofs.PlainSnippets.{rows_in_plain, clean_rows, 
 pub record FixLaws : Type 0 where
   pub same : (s : snippets.SnippetSettings) (styles : Styles) (source : Source) (fails : Bool)
       (edits : List Replacement) → ArePlain styles →
-      map glyphs_of (fix_rows (row_laws.restyled s styles) source fails edits) ≡ map glyphs_of (fix_rows s source fails
-      edits)
+      map glyphs_of (fix_rows (row_laws.restyled_snippets s styles) source fails edits)
+      ≡ map glyphs_of (fix_rows s source fails edits)
   pub plain : (s : snippets.SnippetSettings) (styles : Styles) (source : Source) (fails : Bool)
       (edits : List Replacement) → ArePlain styles →
-      AllByRecursion IsPlainRow (fix_rows (row_laws.restyled s styles) source fails edits)
+      AllByRecursion IsPlainRow (fix_rows (row_laws.restyled_snippets s styles) source fails edits)
   pub clean : (s : snippets.SnippetSettings) (source : Source) (fails : Bool) (edits : List Replacement) →
       AreCleanDrawings s.theme.characters → IsCleanSource source →
       AllByRecursion (λ (edit : Replacement). IsClean edit.text) edits
@@ -37,11 +37,11 @@ pub record FixLaws : Type 0 where
 module _ (laws : FixLaws) where
   fix_plain : (s : Settings) (styles : Styles) (source : Option Source) (fails : Bool) (edits : List Replacement)
       → ArePlain styles → rows_text (rows_of_fix (restyled s styles) source fails edits)
-      ≡ rows_text (map (map plain_run) (rows_of_fix s source fails edits))
+      ≡ rows_text (map (map made_plain) (rows_of_fix s source fails edits))
   fix_plain s styles None fails edits are_plain = refl
   fix_plain s styles (Some source) fails edits are_plain =
       let l = snippet_settings s in
-      plain_rows (fix_rows (row_laws.restyled l styles) source fails edits)
+      plain_rows (fix_rows (row_laws.restyled_snippets l styles) source fails edits)
       (laws.plain l styles source fails edits are_plain)
       ∙ ap text_of (laws.same l styles source fails edits are_plain)
       ∙ sym (rows_in_plain (fix_rows l source fails edits))

@@ -5,7 +5,7 @@ use Rattle.std.specs.List.{AllByRecursion}
 use Rattle.std.proofs.lemmas.List.{map-append}
 use Rattle.miette_protocol.specs.views.Meaning.{Label}
 use Rattle.miette_protocol.specs.rules.Reading.{Source}
-use Rattle.miette_runs.specs.rules.Runs.{HaveNoEscape, print, printed_run, plain_run, Fragment}
+use Rattle.miette_runs.specs.rules.Runs.{HaveNoEscape, print, printed_run, made_plain, Fragment}
 use Rattle.miette_style.specs.rules.Styles.{plain}
 use Rattle.miette_style.specs.rules.Escapes.{no_escape}
 use Rattle.miette_label_rules.specs.rules.Answers as snippet_answers
@@ -37,11 +37,11 @@ use Rattle.miette_picture_rules.proofs.RowTexts.{codes_of, rows-appended, run_co
 pub record LayoutLaws : Type 0 where
   pub same : (s : snippets.SnippetSettings) (styles : Styles) (source : Source) (labels : List Label)
       (answers : snippet_answers.Answers) → ArePlain styles →
-      option_map (map glyphs_of) (snippet_rows (row_laws.restyled s styles) source labels
+      option_map (map glyphs_of) (snippet_rows (row_laws.restyled_snippets s styles) source labels
       (row_laws.unhighlighted_answer answers)) ≡ option_map (map glyphs_of) (snippet_rows s source labels answers)
   pub plain : (s : snippets.SnippetSettings) (styles : Styles) (source : Source) (labels : List Label)
       (answers : snippet_answers.Answers) → ArePlain styles →
-      IfSome (snippet_rows (row_laws.restyled s styles) source labels (row_laws.unhighlighted_answer answers))
+      IfSome (snippet_rows (row_laws.restyled_snippets s styles) source labels (row_laws.unhighlighted_answer answers))
       (AllByRecursion IsPlainRow)
   pub clean : (s : snippets.SnippetSettings) (source : Source) (labels : List Label) (answers : snippet_answers.Answers)
       →
@@ -55,7 +55,7 @@ plain_print [] = refl
 plain_print (c ∷ text) = refl
 
 -- in plain, a row prints its characters
-row_in_plain : (row : Row) → print (map plain_run (runs_of_row row)) ≡ codes_of (glyphs_of row)
+row_in_plain : (row : Row) → print (map made_plain (runs_of_row row)) ≡ codes_of (glyphs_of row)
 row_in_plain [] = refl
 row_in_plain (run ∷ row) = ap₂ (λ x y. x ++ y) (plain_print (run_text run) ∙ run_codes run) (row_in_plain row)
     ∙ sym (map-append (λ p. p.code) run.glyphs (glyphs_of row))
@@ -72,7 +72,7 @@ abbrev pub text_of : List (List Glyph) → List ℕ
 text_of [] = []
 text_of (pieces ∷ more) = codes_of pieces ++ line_feed ++ text_of more
 
-pub rows_in_plain : (rows : List Row) → rows_text (map (map plain_run) (map runs_of_row rows)) ≡ text_of
+pub rows_in_plain : (rows : List Row) → rows_text (map (map made_plain) (map runs_of_row rows)) ≡ text_of
     (map glyphs_of rows)
 rows_in_plain [] = refl
 rows_in_plain (row ∷ rows) = ap₂ (λ x y. x ++ line_feed ++ y) (row_in_plain row) (rows_in_plain rows)
@@ -85,7 +85,7 @@ plain_rows (row ∷ rows) h = ap₂ (λ x y. x ++ line_feed ++ y) (plain_row row
 abbrev shown_text : Option (List (List Glyph)) → List ℕ
 shown_text rows = text_of (unwrap_or rows [])
 
-shown_in_plain : (rows : Option (List Row)) → rows_text (map (map plain_run) (shown_rows rows))
+shown_in_plain : (rows : Option (List Row)) → rows_text (map (map made_plain) (shown_rows rows))
     ≡ shown_text (option_map (map glyphs_of) rows)
 shown_in_plain None = refl
 shown_in_plain (Some rows) = rows_in_plain rows
@@ -173,11 +173,11 @@ escapes-appended (x ∷ xs) ys h k = (h.0, escapes-appended xs ys h.1 k)
 source_plain : LayoutLaws → (s : Settings) (styles : Styles) (source : Option Source) (labels : List Label)
     (a : SourceAnswer) → ArePlain styles
     → rows_text (source_rows (restyled s styles) source labels (unhighlighted_answer a))
-    ≡ rows_text (map (map plain_run) (source_rows s source labels a))
+    ≡ rows_text (map (map made_plain) (source_rows s source labels a))
 source_plain laws s styles None labels a are_plain = refl
 source_plain laws s styles (Some source) labels a are_plain =
     let l = end_settings (snippet_settings s) a.end_fails source labels in
-    plain_shown (snippet_rows (row_laws.restyled l styles) source labels (row_laws.unhighlighted_answer a))
+    plain_shown (snippet_rows (row_laws.restyled_snippets l styles) source labels (row_laws.unhighlighted_answer a))
     (laws.plain l styles source labels a are_plain)
     ∙ ap shown_text (laws.same l styles source labels a are_plain)
     ∙ sym (shown_in_plain (snippet_rows l source labels a))
@@ -188,7 +188,7 @@ source_clean laws s it a h k = clean_over laws s it.source it.labels a h k.0 k.1
 
 over_plain : LayoutLaws → (s : Settings) (styles : Styles) (sources : List LabelledSource) (a : SourceAnswers)
     → ArePlain styles → rows_text (rows_over (restyled s styles) sources (map unhighlighted_answer a))
-    ≡ rows_text (map (map plain_run) (rows_over s sources a))
+    ≡ rows_text (map (map made_plain) (rows_over s sources a))
 over_plain laws s styles [] a are_plain = refl
 over_plain laws s styles (it ∷ more) a are_plain =
     let n = length it.labels in
@@ -202,8 +202,8 @@ over_plain laws s styles (it ∷ more) a are_plain =
     (ap (λ b. rows_text (rows_over (restyled (after_labels n s) (styles_after n styles)) more b))
     (sym (later-unhighlighted-sources a))
     ∙ over_plain laws (after_labels n s) (styles_after n styles) more (drop 1 a) (plain_after n styles are_plain))
-    ∙ sym (rows-appended (map (map plain_run) own) (map (map plain_run) rest))
-    ∙ ap rows_text (sym (map-append (map plain_run) own rest))
+    ∙ sym (rows-appended (map (map made_plain) own) (map (map made_plain) rest))
+    ∙ ap rows_text (sym (map-append (map made_plain) own rest))
 
 over_clean : LayoutLaws → (s : Settings) (sources : List LabelledSource) (a : SourceAnswers) → AreCleanSettings s
     → AllByRecursion IsCleanOver sources → HaveNoEscapes (rows_over s sources a)
@@ -218,7 +218,7 @@ over_clean laws s (it ∷ more) a h k =
 
 drawn_plain : LayoutLaws → (s : Settings) (styles : Styles) (source : Option Source) (m : Diagnosis) (a : Answer)
     → ArePlain styles → rows_text (drawn_rows (restyled s styles) source m (unhighlighted a))
-    ≡ rows_text (map (map plain_run) (drawn_rows s source m a))
+    ≡ rows_text (map (map made_plain) (drawn_rows s source m a))
 drawn_plain laws s styles source m a are_plain = over_plain laws (drawn_with m.snippets s) styles (sources_of source m)
     a.sources
     are_plain

@@ -38,7 +38,7 @@ use Rattle.miette_printed_laws.proofs.Unhighlighted.{first-unhighlighted, later-
 abbrev pub AreRowsKept : Type 0
 AreRowsKept = (s : snippets.SnippetSettings) (styles : Styles) (source : Source) (labels : List Label)
     (answers : snippet_answers.Answers) → row_laws.ArePlain styles →
-    option_map (map glyphs_of) (snippet_rows (row_laws.restyled s styles) source labels
+    option_map (map glyphs_of) (snippet_rows (row_laws.restyled_snippets s styles) source labels
     (row_laws.unhighlighted_answer answers)) ≡ option_map (map glyphs_of) (snippet_rows s source labels answers)
 
 some_kept : (plain rows : Option (List Row)) → option_map (map glyphs_of) plain ≡ option_map (map glyphs_of) rows
@@ -54,13 +54,13 @@ no_styles_after n =
 
 module _ (kept : AreRowsKept) where
   rows_kept : (l : snippets.SnippetSettings) (source : Option Source) (labels : List Label) (a : SourceAnswer)
-      → HasRows l source labels a → HasRows (row_laws.plain_settings l) source labels (unhighlighted_answer a)
+      → HasRows l source labels a → HasRows (row_laws.plain_snippet_settings l) source labels (unhighlighted_answer a)
   rows_kept l None labels a h = tt
   rows_kept l (Some source) labels a h =
       some_kept _ _ (kept (end_settings l a.end_fails source labels) no_styles source labels a none_are_plain) h
 
   no_pieces : (l : snippets.SnippetSettings) (source : Option Source) (labels : List Label) (a : SourceAnswer)
-      → HasPieces (row_laws.plain_settings l) true source labels (unhighlighted_answer a)
+      → HasPieces (row_laws.plain_snippet_settings l) true source labels (unhighlighted_answer a)
   no_pieces l None labels a = tt
   no_pieces l (Some source) labels a =
       none_have (group_context (end_lines l.layout a.end_fails source labels) (in_order labels)) true source
@@ -68,7 +68,7 @@ module _ (kept : AreRowsKept) where
 
   answer_possible : (l : snippets.SnippetSettings) (blank : Bool) (source : Option Source) (labels : List Label)
       (reads : Bool) (a : SourceAnswer) → IsAnswerOf l blank source labels reads a →
-      IsAnswerOf (row_laws.plain_settings l) true source labels reads (unhighlighted_answer a)
+      IsAnswerOf (row_laws.plain_snippet_settings l) true source labels reads (unhighlighted_answer a)
   answer_possible l blank source labels reads a h = record {
     read = λ e. ap unhighlighted_answer (h.read e);
     plain = λ b. refl;
@@ -79,23 +79,25 @@ module _ (kept : AreRowsKept) where
   -- over each source; the highlights that follow are as plain as those before
   over_possible : (l : snippets.SnippetSettings) (blank : Bool) (sources : List LabelledSource) (a : SourceAnswers)
       → AreAnswersOver l blank sources a
-      → AreAnswersOver (row_laws.plain_settings l) true sources (map unhighlighted_answer a)
+      → AreAnswersOver (row_laws.plain_snippet_settings l) true sources (map unhighlighted_answer a)
   over_possible l blank [] a h = tt
   over_possible l blank (it ∷ more) a h = (
-    subst (IsAnswerOf (row_laws.plain_settings l) true it.source it.labels (always_reads it.source it.labels))
+    subst (IsAnswerOf (row_laws.plain_snippet_settings l) true it.source it.labels (always_reads it.source it.labels))
         (first-unhighlighted-source a)
         (answer_possible l blank it.source it.labels (always_reads it.source it.labels) (first_source a) h.0),
-    subst (λ styles. AreAnswersOver (row_laws.restyled l styles) true more (drop 1 (map unhighlighted_answer a)))
+    subst (λ styles. AreAnswersOver (row_laws.restyled_snippets l styles) true more
+        (drop 1 (map unhighlighted_answer a)))
         (sym (no_styles_after (length it.labels)))
-        (subst (λ later. AreAnswersOver (row_laws.plain_settings l) true more later) (later-unhighlighted-sources a)
+        (subst (λ later. AreAnswersOver (row_laws.plain_snippet_settings l) true more later)
+        (later-unhighlighted-sources a)
         (over_possible (snippets_after (length it.labels) l) blank more (drop 1 a) h.1)),
   )
 
   own_possible : (l : snippets.SnippetSettings) (blank : Bool) (source : Option Source) (m : Diagnosis) (a : Answers)
       → IsAnswer l blank source m (own_answer a) →
-      IsAnswer (row_laws.plain_settings l) true source m (own_answer (unhighlighted_answers a))
+      IsAnswer (row_laws.plain_snippet_settings l) true source m (own_answer (unhighlighted_answers a))
   own_possible l blank source m a h =
-      subst (IsAnswer (row_laws.plain_settings l) true source m) (own-unhighlighted a) (record {
+      subst (IsAnswer (row_laws.plain_snippet_settings l) true source m) (own-unhighlighted a) (record {
         sources = over_possible (snippets_with m.snippets l) blank (sources_of source m) (own_answer a).sources
             h.sources;
         fixes = h.fixes;
@@ -105,33 +107,34 @@ module _ (kept : AreRowsKept) where
     causes_possible : (l : snippets.SnippetSettings) (blank : Bool) (inherited : Option Source) (c : Cause)
         (a : Answers)
         → AreCauseAnswers l blank inherited c a →
-        AreCauseAnswers (row_laws.plain_settings l) true inherited c (unhighlighted_answers a)
+        AreCauseAnswers (row_laws.plain_snippet_settings l) true inherited c (unhighlighted_answers a)
     causes_possible l blank inherited (texts ts) a h = tt
     causes_possible l blank inherited (diagnostic (tree m own c r)) a h =
         let source = effective own inherited in (
           own_possible l blank source m a h.0,
-          subst (AreRelatedAnswers (row_laws.plain_settings l) true source r) (related-unhighlighted a)
+          subst (AreRelatedAnswers (row_laws.plain_snippet_settings l) true source r) (related-unhighlighted a)
               (related_possible l blank source r (related_answers a) h.1),
-          subst (AreCauseAnswers (row_laws.plain_settings l) true inherited c) (cause-unhighlighted a)
+          subst (AreCauseAnswers (row_laws.plain_snippet_settings l) true inherited c) (cause-unhighlighted a)
               (causes_possible l blank inherited c (cause_answers a) h.2),
         )
 
     related_possible : (l : snippets.SnippetSettings) (blank : Bool) (inherited : Option Source) (ts : Trees)
         (more : RelatedAnswers) → AreRelatedAnswers l blank inherited ts more →
-        AreRelatedAnswers (row_laws.plain_settings l) true inherited ts (unhighlighted_related_answers more)
+        AreRelatedAnswers (row_laws.plain_snippet_settings l) true inherited ts (unhighlighted_related_answers more)
     related_possible l blank inherited no_trees more h = tt
     related_possible l blank inherited (more_trees (tree m own c r) ts) more h =
         let source = effective own inherited in
         let a = first_answers more in (
-          subst (λ b. IsAnswer (row_laws.plain_settings l) true source m (own_answer b)) (first-unhighlighted more)
+          subst (λ b. IsAnswer (row_laws.plain_snippet_settings l) true source m (own_answer b))
+              (first-unhighlighted more)
               (own_possible l blank source m a h.0),
-          subst (AreCauseAnswers (row_laws.plain_settings l) true source c)
+          subst (AreCauseAnswers (row_laws.plain_snippet_settings l) true source c)
               (cause-unhighlighted a ∙ ap cause_answers (first-unhighlighted more))
               (causes_possible l blank source c (cause_answers a) h.1),
-          subst (AreRelatedAnswers (row_laws.plain_settings l) true source r)
+          subst (AreRelatedAnswers (row_laws.plain_snippet_settings l) true source r)
               (related-unhighlighted a ∙ ap related_answers (first-unhighlighted more))
               (related_possible l blank source r (related_answers a) h.2),
-          subst (AreRelatedAnswers (row_laws.plain_settings l) true inherited ts) (later-unhighlighted more)
+          subst (AreRelatedAnswers (row_laws.plain_snippet_settings l) true inherited ts) (later-unhighlighted more)
               (related_possible l blank inherited ts (later_answers more) h.3),
         )
 
@@ -140,8 +143,8 @@ module _ (kept : AreRowsKept) where
   answers_possible s blank (tree m own c r) a h =
       let l = snippet_settings s in (
         own_possible l blank own m a h.0,
-        λ chain. subst (AreCauseAnswers (row_laws.plain_settings l) true own c) (cause-unhighlighted a)
+        λ chain. subst (AreCauseAnswers (row_laws.plain_snippet_settings l) true own c) (cause-unhighlighted a)
             (causes_possible l blank own c (cause_answers a) (h.1 chain)),
-        subst (AreRelatedAnswers (row_laws.plain_settings l) true own r) (related-unhighlighted a)
+        subst (AreRelatedAnswers (row_laws.plain_snippet_settings l) true own r) (related-unhighlighted a)
             (related_possible l blank own r (related_answers a) h.2),
       )

@@ -4,7 +4,7 @@ use Rattle.miette_runs.specs.rules.Sequences.{tokens, erase}
 use Rattle.miette_wrap_rules.specs.laws.Tame.{IsTame, AllTame}
 use Rattle.miette_style.specs.rules.Escapes.{no_escape}
 use Rattle.miette_wrap_rules.specs.rules.ColouredTexts as coloured
-use Rattle.miette_runs.specs.rules.Runs.{Fragment, Styled, HaveNoEscape, plain_run, print}
+use Rattle.miette_runs.specs.rules.Runs.{Fragment, Styled, HaveNoEscape, made_plain, print}
 use Rattle.miette_style.specs.rules.Styles.{plain}
 use Rattle.miette_runs.specs.rules.Cutting.{without_leading, without_trailing}
 use Rattle.miette_wrap_rules.specs.rules.Wrapping.{Plan, wrapped_text}
@@ -13,7 +13,7 @@ use Rattle.miette_runs.specs.rules.Cells.{columns_of}
 pub record TextLaws : Type 0 where
   pub wrapped-tame : (p : Plan (List ℕ)) (text : List ℕ) → AllTame p text → IsTame (wrapped_text p text)
   pub erase-wrapped : (p : Plan (List ℕ)) (text : List ℕ) → AllTame p text → erase (wrapped_text p text)
-      ≡ wrapped_text (coloured.colourless p) (erase text)
+      ≡ wrapped_text (coloured.plain_plan p) (erase text)
   pub append-tame : (x y : List ℕ) → IsTame x → IsTame y → IsTame (x ++ y)
   pub erase-append : (x y : List ℕ) → IsTame x → IsTame y → erase (x ++ y) ≡ erase x ++ erase y
   pub leading-tame : (text : List ℕ) → IsTame text → IsTame (without_leading text)
@@ -21,7 +21,7 @@ pub record TextLaws : Type 0 where
   pub trailing-tame : (text : List ℕ) → IsTame text → IsTame (without_trailing text)
   pub trailing-erase : (text : List ℕ) → IsTame text → erase (without_trailing text) ≡ without_trailing (erase text)
   pub print-tame : (runs : List Fragment) → HaveNoEscape runs → IsTame (print runs)
-  pub print-erase : (runs : List Fragment) → HaveNoEscape runs → erase (print runs) ≡ print (map plain_run runs)
+  pub print-erase : (runs : List Fragment) → HaveNoEscape runs → erase (print runs) ≡ print (map made_plain runs)
   pub erase-columns : (text : List ℕ) → IsTame text → columns_of (tokens (erase text)) ≡ columns_of (tokens text)
 
 -- a text that holds no escape is that of one plain run

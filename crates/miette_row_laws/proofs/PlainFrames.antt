@@ -15,7 +15,7 @@ use Rattle.miette_row_laws.specs.laws.Clean.{IsClean, IsCleanText, IsCleanLabel,
 use Rattle.miette_row_laws.specs.laws.Clean.{AreCleanDrawings}
 use Rattle.miette_label_rules.specs.rules.Contexts.{contents, lines_of_contents}
 use Rattle.miette_snippet_rules.specs.rules.Drawing.{marked_rows}
-use Rattle.miette_row_laws.specs.laws.PlainStyles.{AreAllPlain, restyled}
+use Rattle.miette_row_laws.specs.laws.PlainStyles.{AreAllPlain, restyled_snippets}
 use Rattle.miette_snippet_rules.specs.rules.Folds.{Spread}
 use Rattle.miette_snippet_rules.specs.rules.Frames.{Place, text_or_none, refused_row, number_start}
 use Rattle.miette_snippet_rules.specs.rules.Frames.{other_start, break_start, place_text, location, location_of}
@@ -59,7 +59,7 @@ pub record IsCleanRefusal (refused : Refusal) : Type 0 where
 
 -- in plain styles with these highlights
 abbrev pub plain_with : List Style → SnippetSettings → SnippetSettings
-plain_with hs s = restyled s (plain_styles hs)
+plain_with hs s = restyled_snippets s (plain_styles hs)
 
 module _ (P : Type 0) (s : SnippetSettings) (hs : List Style) (are_plain : AreAllPlain hs)
     (clean : P → AreCleanDrawings s.theme.characters) where

@@ -14,7 +14,8 @@ use Rattle.miette_snippet_rules.specs.rules.Frames.{refused_row}
 use Rattle.miette_snippet_rules.specs.rules.Settings.{SnippetSettings}
 use Rattle.miette_snippet_rules.specs.rules.SnippetLayout.{settings_around, rows_unless, snippet_rows}
 use Rattle.miette_row_laws.specs.laws.Clean.{AreCleanDrawings, IsCleanLabel, IsCleanRow, IsCleanSource}
-use Rattle.miette_row_laws.specs.laws.PlainStyles.{AreAllPlain, ArePlain, IsPlainRow, restyled, unhighlighted_answer}
+use Rattle.miette_row_laws.specs.laws.PlainStyles.{AreAllPlain, ArePlain, IsPlainRow, restyled_snippets}
+use Rattle.miette_row_laws.specs.laws.PlainStyles.{unhighlighted_answer}
 use Rattle.miette_row_laws.proofs.PlainLabels.{ordered_clean}
 use Rattle.miette_row_laws.proofs.PlainRows.{PlainRows, rows_nil, rows_cons}
 use Rattle.miette_row_laws.proofs.PlainFrames.{IsCleanRefusal, plain_with, plain_all, plain_refused, refusal_clean}
@@ -65,9 +66,9 @@ module _ (P : Type 0) (s : SnippetSettings) (hs : List Style) (are_plain : AreAl
 pub plain_snippets : (P : Type 0) (s : SnippetSettings) (styles : Styles) → ArePlain styles
     → (P → AreCleanDrawings s.theme.characters) → (source : Source) (labels : List Label) (answers : Answers)
     → (P → IsCleanSource source) → (P → AllByRecursion IsCleanLabel labels)
-    → PlainGiven P (snippet_rows (restyled s styles) source labels (unhighlighted_answer answers))
+    → PlainGiven P (snippet_rows (restyled_snippets s styles) source labels (unhighlighted_answer answers))
     (snippet_rows s source labels answers)
 plain_snippets P s styles are_plain clean source labels answers h k =
-    subst (λ u. PlainGiven P (snippet_rows (restyled s u) source labels (unhighlighted_answer answers))
+    subst (λ u. PlainGiven P (snippet_rows (restyled_snippets s u) source labels (unhighlighted_answer answers))
     (snippet_rows s source labels answers)) (sym (are_plain_styles styles are_plain))
     (plain_snippets_with P s styles.highlights are_plain.highlights clean source labels answers h k)

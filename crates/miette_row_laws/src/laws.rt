@@ -12,7 +12,7 @@ ghost use Rattle.miette_row_laws.specs.laws.Ends.{with_ends};
 ghost use Rattle.miette_row_laws.specs.laws.Cuts.{AreAsWide, AreMoved, Fits, GroupsFit, IsCutBy, IsCutByReach};
 ghost use Rattle.miette_row_laws.specs.laws.Cuts.{IsSameAt, IsWithin, most_columns, pieces_shown, without_limit};
 ghost use Rattle.miette_row_laws.specs.laws.LabelMarks.{StandAtColumns, StandPast, StandUnder};
-ghost use Rattle.miette_row_laws.specs.laws.PlainStyles.{ArePlain, IsPlainRow, restyled, unhighlighted_answer};
+ghost use Rattle.miette_row_laws.specs.laws.PlainStyles.{ArePlain, IsPlainRow, restyled_snippets, unhighlighted_answer};
 ghost use Rattle.miette_style.specs.rules.Themes.{Styles, Theme};
 ghost use Rattle.miette_page.specs.rules.Rows.{Run, columns_of, glyphs_of};
 ghost use Rattle.miette_label_rules.specs.rules.Answers.{Answers, Highlight};
@@ -187,11 +187,12 @@ pub fn texts_hang()
 pub fn rows_turn_plain()
     ensures same { (s : SnippetSettings) (styles : Styles) (source : Source) (labels : List Label)
         (answers : Answers) → ArePlain styles →
-        option_map (map glyphs_of) (snippet_rows (restyled s styles) source labels (unhighlighted_answer answers))
+        option_map (map glyphs_of)
+        (snippet_rows (restyled_snippets s styles) source labels (unhighlighted_answer answers))
         ≡ option_map (map glyphs_of) (snippet_rows s source labels answers) }
     ensures plain { (s : SnippetSettings) (styles : Styles) (source : Source) (labels : List Label)
         (answers : Answers) → ArePlain styles →
-        IfSome (snippet_rows (restyled s styles) source labels (unhighlighted_answer answers))
+        IfSome (snippet_rows (restyled_snippets s styles) source labels (unhighlighted_answer answers))
         (AllByRecursion IsPlainRow) }
 {}
 

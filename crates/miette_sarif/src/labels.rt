@@ -3,7 +3,7 @@
 ghost use Rattle.std.specs.Prelude.{◌≡◌, ◌++◌, None, OnOk, map, position};
 ghost use Rattle.std.specs.Option.{option_map};
 ghost use Rattle.miette_label_rules.specs.rules.Groups.{in_order};
-ghost use Rattle.miette_sarif.specs.rules.Marks.{is_told, mark_over, mark_or, marks_from, marks_in};
+ghost use Rattle.miette_sarif.specs.rules.Marks.{mark_over, mark_or, marks_from, marks_in, says_something};
 ghost use Rattle.miette_sarif.specs.rules.Marks.{marks_of, pick, pick_in, primary_in};
 ghost use Rattle.miette_sarif.specs.steps.Picking.{is_asked};
 ghost use Rattle.miette_sarif.specs.views.Found.{mark_of};
@@ -104,8 +104,8 @@ pub(crate) fn sort(labels: &mut Vec<&LabeledSpan>) -> Result<(), AllocError>
 }
 
 // Whether a mark tells anything.
-fn is_told(mark: &Mark<'_>) -> bool
-    ensures { result ≡ is_told (mark_of mark.now) }
+fn says_something(mark: &Mark<'_>) -> bool
+    ensures { result ≡ says_something (mark_of mark.now) }
 {
     mark.place.is_some() || !mark.text.is_empty()
 }
@@ -121,7 +121,7 @@ fn push_marks<'a>(
 {
     for label in labels {
         let mark = mark_over(seen, *label);
-        if is_told(&mark) {
+        if says_something(&mark) {
             marks.push(mark)?;
         }
     }

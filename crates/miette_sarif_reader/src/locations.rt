@@ -10,7 +10,7 @@ ghost use Rattle.miette_sarif_reader.specs.views.Grounds.{ground_in};
 
 use crate::ground::{Ground, item_at};
 use crate::lines::FileLines;
-use crate::regions::{is_told, start_column, start_line, stretch_in};
+use crate::regions::{has_begin, start_column, start_line, stretch_in};
 use miette_readers::files::Files;
 use miette_readers::members::{object_at, text_at, whole_at};
 use miette_readers::place::{Place, Stretch, Told};
@@ -139,7 +139,11 @@ fn physical(location: &Value) -> Option<&Value>
 fn with_begin(region: &Value) -> Option<&Value>
     ensures { option_map (λ v. view v.now) result ≡ with_begin (view region.now) }
 {
-    if is_told(region) { Some(region) } else { None }
+    if has_begin(region) {
+        Some(region)
+    } else {
+        None
+    }
 }
 
 /// The region of a location.

@@ -6,7 +6,7 @@ ghost use Rattle.miette_positions.specs.rules.Stops.{units};
 ghost use Rattle.miette_readers.specs.views.Values.{texts};
 ghost use Rattle.miette_sarif_reader.specs.rules.Newlines.{text_size};
 ghost use Rattle.miette_sarif_reader.specs.rules.Regions.{byte_stretch, char_stretch, column_at, count_at, encoding_of};
-ghost use Rattle.miette_sarif_reader.specs.rules.Regions.{end_columns, end_line, has_chars, has_line, is_told};
+ghost use Rattle.miette_sarif_reader.specs.rules.Regions.{end_columns, end_line, has_begin, has_chars, has_line};
 ghost use Rattle.miette_sarif_reader.specs.rules.Regions.{line_stretch, offset_at, start_column, start_line};
 ghost use Rattle.miette_sarif_reader.specs.rules.Regions.{stretch_by_bytes, stretch_by_chars, stretch_in, units_behind};
 
@@ -232,8 +232,8 @@ fn has_chars(region: &Value) -> bool
 }
 
 /// Whether it is said where it begins.
-pub(crate) fn is_told(region: &Value) -> bool
-    ensures { result ≡ is_told (view region.now) }
+pub(crate) fn has_begin(region: &Value) -> bool
+    ensures { result ≡ has_begin (view region.now) }
 {
     has_line(region) || (has_chars(region) || whole_at(region, "byteOffset").is_some())
 }

@@ -2,7 +2,7 @@
 
 ghost use Rattle.std.specs.Prelude.{◌≡◌, ◌++◌, IfOk, OnErr, OnOk, chars, encode_utf8_all, string_bytes};
 ghost use Rattle.miette_runs.specs.rules.Sequences.{erase};
-ghost use Rattle.miette_wrap_rules.specs.rules.ColouredTexts.{AppendsErasing, AreColoured, colourless};
+ghost use Rattle.miette_wrap_rules.specs.rules.ColouredTexts.{AppendsErasing, AreColoured, plain_plan};
 ghost use Rattle.miette_wrap_rules.specs.rules.Wrapping.{wrapped_text};
 ghost use Rattle.miette_wrap_rules.specs.views.Plans.{options_plan};
 
@@ -45,7 +45,7 @@ pub fn fill(text: &str, options: &WrapOptions<'_>, out: &mut String) -> Result<(
         ≡ string_bytes out.old ++ encode_utf8_all (wrapped_text (options_plan options.now) (chars text.now))) }
     ensures colours { OnOk result (AreColoured (options_plan options.now) (chars text.now) →
         AppendsErasing (string_bytes out.old) (string_bytes out.new)
-        (encode_utf8_all (wrapped_text (colourless (options_plan options.now)) (erase (chars text.now))))) }
+        (encode_utf8_all (wrapped_text (plain_plan (options_plan options.now)) (erase (chars text.now))))) }
     ensures err { OnErr result (string_bytes out.new ≡ string_bytes out.old) }
 {
     let wrapped = wrapped_text(*out.allocator(), options, text)?;

@@ -70,31 +70,31 @@ kind_of c =
 abbrev is_usual : ℕ → Bool
 is_usual c = is_plain c || is_point c
 
-abbrev is_told : ℕ → LineBreak → Bool
-is_told c class =
+abbrev is_as_kind : ℕ → LineBreak → Bool
+is_as_kind c class =
     (line_break_number class == line_break_number (class_of (kind_of c)))
     && (beq (is_space c) (is_gap (kind_of c)) && (beq (is_hyphen c) (is_dash (kind_of c))
     && beq (is_point c) (is_stop (kind_of c))))
 
-usual-tests : (c : ℕ) → c < 128 → (not (is_usual c) || is_told c (line_break c)) ≡ true
+usual-tests : (c : ℕ) → c < 128 → (not (is_usual c) || is_as_kind c (line_break c)) ≡ true
 unfolding ucd_breaks
-usual-tests c below = Stepped-below line_break line_break_stepped (λ x v. not (is_usual x) || is_told x v) 128
+usual-tests c below = Stepped-below line_break line_break_stepped (λ x v. not (is_usual x) || is_as_kind x v) 128
     refl c below
 
 usual-below : (c : ℕ) → is_usual c ≡ true → c < 128
 usual-below c h = grind (arith, nat_tests)
 
-record Told (c : ℕ) : Type 0 where
+record AsKind (c : ℕ) : Type 0 where
   pub class : character_of c ≡ record { class = class_of (kind_of c); is_wide = false; is_future_emoji = false }
   pub gap : is_space c ≡ is_gap (kind_of c)
   pub dash : is_hyphen c ≡ is_dash (kind_of c)
   pub point : is_point c ≡ is_stop (kind_of c)
 
-told : (c : ℕ) → is_usual c ≡ true → Told c
-told c h =
+as_kind : (c : ℕ) → is_usual c ≡ true → AsKind c
+as_kind c h =
     let below = usual-below c h in
-    let t : is_told c (line_break c) ≡ true =
-    ap (λ b. not b || is_told c (line_break c)) (sym h) ∙ usual-tests c below in
+    let t : is_as_kind c (line_break c) ≡ true =
+    ap (λ b. not b || is_as_kind c (line_break c)) (sym h) ∙ usual-tests c below in
     let p = and_parts (line_break_number (line_break c) == line_break_number (class_of (kind_of c)))
     (beq (is_space c) (is_gap (kind_of c))
     && (beq (is_hyphen c) (is_dash (kind_of c)) && beq (is_point c) (is_stop (kind_of c)))) t in
@@ -209,8 +209,8 @@ starts-same : (k : Kind) (b c : ℕ) (before : List ℕ) → is_usual b ≡ true
     state_of (b ∷ before) ≡ at (next k (kind_of b)) (is_gap (kind_of b)) →
     starts_word UnicodeBreakProperties (b ∷ before) c ≡ starts_word AsciiSpace (b ∷ before) c
 starts-same k b c before u h e =
-    let s = told b u in
-    let t = told c (usual_behind b c h) in
+    let s = as_kind b u in
+    let t = as_kind c (usual_behind b c h) in
     let m = kind_of b in
     let n = kind_of c in
     let apart : (is_gap m && is_stop n) ≡ false = ap₂ (λ x y. x && y) (sym s.gap) (sym t.point) ∙ no_point b c h in
@@ -227,7 +227,7 @@ pieces-same k sp last before (c ∷ cs) e h =
     let p = and_parts (is_plain x || (is_point x && not (is_space last))) (plain_behind x (codes_of cs)) h in
     let u = usual_behind last x p.0 in
     let f : state_of (x ∷ before) ≡ at (next k (kind_of x)) (is_gap (kind_of x)) =
-    state-step x before ∙ ap₂ state_behind e (told x u).class ∙ behind-kind k (kind_of x) sp in
+    state-step x before ∙ ap₂ state_behind e (as_kind x u).class ∙ behind-kind k (kind_of x) sp in
     ap₂ (λ (b : Bool) ps. if b then (c ∷ []) ∷ ps else onto c ps) (ends-same k x before cs u p.1 f)
     (pieces-same (next k (kind_of x)) (is_gap (kind_of x)) x (x ∷ before) cs f p.1)
   where

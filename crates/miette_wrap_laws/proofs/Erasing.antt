@@ -5,7 +5,7 @@ use Rattle.miette_runs.specs.rules.Sequences.{Token, Character, Sequence, tokens
 use Rattle.miette_wrap_rules.specs.laws.Tame.{State, Free, Escaped, Opened, Waiting, Broken, step, state_behind}
 use Rattle.miette_wrap_rules.specs.laws.Tame.{AreTame}
 use Rattle.miette_wrap_rules.specs.laws.Tame.{IsTame, AllTame}
-use Rattle.miette_wrap_rules.specs.rules.ColouredTexts.{colourless}
+use Rattle.miette_wrap_rules.specs.rules.ColouredTexts.{plain_plan}
 use Rattle.miette_wrap_rules.specs.rules.Wrapping.{Plan, map_indents, wrapped_tokens, wrapped_text}
 use Rattle.miette_wrap_laws.proofs.ErasedTokens.{erased}
 use Rattle.miette_wrap_laws.proofs.Parsing.{broken_stays, tokens-spell, erase-spell}
@@ -71,10 +71,10 @@ wrapped-tame p text h = ap (state_behind Free) (tokens-spell Free (wrapped_token
 
 -- Deleting colours commutes with wrapping.
 pub erase-wrapped : (p : Plan (List ℕ)) (text : List ℕ) → AllTame p text → erase (wrapped_text p text)
-    ≡ wrapped_text (colourless p) (erase text)
+    ≡ wrapped_text (plain_plan p) (erase text)
 erase-wrapped p text h =
     erase-spell Free (wrapped_tokens (map_indents tokens p) (tokens text)) (read-tame p text h)
     ∙ ap spell (sym (wrapped-erased (map_indents tokens p) (tokens text)))
-    ∙ wrapped-read (colourless p) (erased (tokens p.first)) (erased (tokens p.further)) (erased (tokens text))
+    ∙ wrapped-read (plain_plan p) (erased (tokens p.first)) (erased (tokens p.further)) (erased (tokens text))
     (erase text) (sym (tokens-erase p.first h.first)) (sym (tokens-erase p.further h.further))
     (sym (tokens-erase text h.inner))

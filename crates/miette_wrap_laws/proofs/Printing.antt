@@ -11,7 +11,7 @@ use Rattle.miette_style.specs.rules.Escapes.{no_escape}
 use Rattle.miette_style.specs.rules.Styles.{plain}
 use Rattle.miette_style.specs.declared.style.Style.{Style}
 use Rattle.miette_runs.specs.rules.Runs.{Fragment, Styled, LinkTo, LinkEnd, printed_run, link_start, printed_text}
-use Rattle.miette_runs.specs.rules.Runs.{print, HaveNoEscape, plain_run, HasNoEscape}
+use Rattle.miette_runs.specs.rules.Runs.{print, HaveNoEscape, made_plain, HasNoEscape}
 use Rattle.miette_style.specs.rules.Codes.{style_codes, colour_start, colour_stop}
 use Rattle.miette_wrap_laws.proofs.ErasedTokens.{erased}
 use Rattle.miette_wrap_laws.proofs.Parsing.{tokens-spell, erase-spell}
@@ -204,7 +204,7 @@ run-tame (Styled s text) h = styled-tame s text h
 run-tame (LinkTo url) h = link-tame url h
 run-tame LinkEnd h = link-tame [] refl
 
-pub run-erase : (s : Fragment) → HasNoEscape s → erase (printed_text s) ≡ printed_text (plain_run s)
+pub run-erase : (s : Fragment) → HasNoEscape s → erase (printed_text s) ≡ printed_text (made_plain s)
 run-erase (Styled s text) h = styled-erase s text h
 run-erase (LinkTo url) h = link-erase url h
 run-erase LinkEnd h = link-erase [] refl
@@ -215,7 +215,7 @@ print-tame [] h = refl
 print-tame (s ∷ ss) h = append-tame (printed_text s) (print ss) (run-tame s h.0) (print-tame ss h.1)
 
 -- Without colours it is what they print in plain styles.
-pub print-erase : (ss : List Fragment) → HaveNoEscape ss → erase (print ss) ≡ print (map plain_run ss)
+pub print-erase : (ss : List Fragment) → HaveNoEscape ss → erase (print ss) ≡ print (map made_plain ss)
 print-erase [] h = refl
 print-erase (s ∷ ss) h =
     erase-append (printed_text s) (print ss) (run-tame s h.0) (print-tame ss h.1)

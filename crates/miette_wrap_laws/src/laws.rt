@@ -3,9 +3,9 @@
 
 ghost use Rattle.std.specs.Prelude.{◌≡◌, ℕ, List, ◌++◌, map, encode_utf8_all};
 ghost use Rattle.miette_runs.specs.rules.Cutting.{without_leading, without_trailing};
-ghost use Rattle.miette_runs.specs.rules.Runs.{HaveNoEscape, Fragment, plain_run, print};
+ghost use Rattle.miette_runs.specs.rules.Runs.{HaveNoEscape, Fragment, made_plain, print};
 ghost use Rattle.miette_runs.specs.rules.Sequences.{Token, erase, tokens};
-ghost use Rattle.miette_wrap_rules.specs.rules.ColouredTexts.{AreColoured, colourless};
+ghost use Rattle.miette_wrap_rules.specs.rules.ColouredTexts.{AreColoured, plain_plan};
 ghost use Rattle.miette_wrap_rules.specs.laws.FilledRows.{IsFilled, IsTrimmed, all_words};
 ghost use Rattle.miette_wrap_rules.specs.laws.Tame.{AllTame, IsTame};
 ghost use Rattle.miette_wrap_rules.specs.rules.Wrapping.{Plan, Word, rows, trimmed_row, wrapped_text};
@@ -15,7 +15,7 @@ ghost use Rattle.miette_runs.specs.rules.Cells.{columns_of};
 pub fn wrapping_law()
     ensures tame { (p : Plan (List ℕ)) (text : List ℕ) → AllTame p text → IsTame (wrapped_text p text) }
     ensures erase { (p : Plan (List ℕ)) (text : List ℕ) → AllTame p text →
-        erase (wrapped_text p text) ≡ wrapped_text (colourless p) (erase text) }
+        erase (wrapped_text p text) ≡ wrapped_text (plain_plan p) (erase text) }
 {}
 
 /// The same of joining.
@@ -35,7 +35,7 @@ pub fn cutting_law()
 /// The same of runs and links, whatever the urls hold but escapes.
 pub fn printing_law()
     ensures tame { (runs : List Fragment) → HaveNoEscape runs → IsTame (print runs) }
-    ensures erase { (runs : List Fragment) → HaveNoEscape runs → erase (print runs) ≡ print (map plain_run runs) }
+    ensures erase { (runs : List Fragment) → HaveNoEscape runs → erase (print runs) ≡ print (map made_plain runs) }
 {}
 
 /// Colours can be deleted from a text's bytes as from its characters.
@@ -51,7 +51,7 @@ pub fn columns_law()
 /// Where every escape belongs to a colour, colours can be deleted before or after wrapping.
 pub fn colours_law()
     ensures { (p : Plan (List ℕ)) (text : List ℕ) → AreColoured p text →
-        erase (wrapped_text p text) ≡ wrapped_text (colourless p) (erase text) }
+        erase (wrapped_text p text) ≡ wrapped_text (plain_plan p) (erase text) }
 {}
 
 /// The rows that words fill, by what holds of them: they hold the words in order, and each word begins a row exactly

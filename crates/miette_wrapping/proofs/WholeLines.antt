@@ -198,7 +198,7 @@ pub last-printed : (indent further : List Token) (text : List ℕ) (n : ℕ) →
 last-printed indent further text n u e h = sym (whole-end indent further (chars text) (no-feed text n u e h))
 
 -- a text cut after its first line feed
-pub record IsCut (text line fed rest : List ℕ) : Type 0 where
+pub record IsCutAtFeed (text line fed rest : List ℕ) : Type 0 where
   pub ending : chars fed ≡ chars line ++ 10 ∷ []
   pub is_first : IsFirstLine (chars text) (chars line) (chars rest)
 
@@ -206,7 +206,7 @@ feed_ascii : IsAscii (10 ∷ [])
 feed_ascii = IsAscii-cons 10 [] (omega arith) IsAscii-nil
 
 pub first-feed : (text fed rest : List ℕ) (n : ℕ) → IsUtf8 text → n ≡ prefix_len is_in_row text → n < length text
-    → fed ≡ take (n + 1) text → rest ≡ drop (n + 1) text → IsCut text (take n text) fed rest
+    → fed ≡ take (n + 1) text → rest ≡ drop (n + 1) text → IsCutAtFeed text (take n text) fed rest
 first-feed text fed rest n u e h a b =
     let front = take n text in
     let behind = drop (n + 1) text in

@@ -5,14 +5,14 @@ use Rattle.miette_label_rules.specs.rules.Answers.{Highlight}
 use Rattle.miette_page.specs.views.Tokens.{Token, styled_tokens}
 use Rattle.miette_cells.specs.rules.Cells.{Cell}
 use Rattle.miette_cells.specs.views.Printable.{plain_cells}
-use Rattle.miette_snippet_rules.specs.declared.line_text.LineText.{LineText}
+use Rattle.miette_snippet_rules.specs.declared.line_bytes.LineBytes.{LineBytes}
 
 -- a cell of the byte at an offset
 abbrev pub byte_at : ℕ → Cell
 byte_at offset = record { code = 32; start = offset; after = offset + 1; from = 0; until = 1 }
 
 -- the cells of a line's text from an offset on
-abbrev pub cells_past : LineText → ℕ → List Cell
+abbrev pub cells_past : LineBytes → ℕ → List Cell
 cells_past text at = plain_cells at (at - text.start) (drop (at - text.start) text.bytes.now)
 
 -- what is printed of bytes in pieces

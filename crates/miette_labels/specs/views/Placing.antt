@@ -25,9 +25,9 @@ told_end [] = None
 told_end (read ∷ reads) = if reads_before read then Some read.span.offset else told_end reads
 
 -- whether that is a label's offset
-abbrev pub is_told : Option ℕ → ℕ → Bool
-is_told None offset = false
-is_told (Some end) offset = offset == end
+abbrev pub begins_at_end : Option ℕ → ℕ → Bool
+begins_at_end None offset = false
+begins_at_end (Some end) offset = offset == end
 
 -- a label as a program places it, with the bytes of its text
 pub record Placed : Type 0 where
@@ -59,11 +59,11 @@ drawn_placed p = record {
 -- a label at the told end stands after the text of the last line, at the byte before
 abbrev pub placed_one : Option ℕ → List Style → ℕ → List Label → ReadLabel → Placed
 placed_one end styles i labels read = record {
-  start = if is_told end read.span.offset then read.span.offset - 1 else read.span.offset;
-  after = if is_told end read.span.offset then read.span.offset - 1 else end_drawn read;
+  start = if begins_at_end end read.span.offset then read.span.offset - 1 else read.span.offset;
+  after = if begins_at_end end read.span.offset then read.span.offset - 1 else end_drawn read;
   style = style_at styles i;
   text = text_at labels read.index;
-  behind = is_told end read.span.offset;
+  behind = begins_at_end end read.span.offset;
 }
 
 abbrev pub placed_from : Option ℕ → List Style → ℕ → List Label → List ReadLabel → List Placed

@@ -25,10 +25,10 @@ abbrev pub IsHeader : Option (List ℕ) → Option (List ℕ) → Option ℕ →
 IsHeader old new size = IsHeaderFrom None [] old new size
 
 -- `n` bytes were read, or are not there
-abbrev pub IsCut : Option (List ℕ) → Option (List ℕ) → ℕ → Option (Vec ℕ Global) → Type 0
-IsCut old new n (Some body) = Consumes old new body.items × (length body.items ≡ n)
-IsCut None new n None = Unit {0}
-IsCut (Some bytes) new n None = length bytes < n
+abbrev pub IsBody : Option (List ℕ) → Option (List ℕ) → ℕ → Option (Vec ℕ Global) → Type 0
+IsBody old new n (Some body) = Consumes old new body.items × (length body.items ≡ n)
+IsBody None new n None = Unit {0}
+IsBody (Some bytes) new n None = length bytes < n
 
 -- a frame was read, or isn't there
 abbrev pub IsFirstFrame : Option (List ℕ) → Option (List ℕ) → Option (Vec ℕ Global) → Type 0

@@ -2,7 +2,7 @@
 -- blank highlighter.
 use Rattle.std.specs.Prelude.{◌≡◌, ℕ, Bool, true, List, [], ◌∷◌, map, Option, IfSome, encode_utf8_all}
 use Rattle.std.specs.List.{AllByRecursion}
-use Rattle.miette_runs.specs.rules.Runs.{plain_run}
+use Rattle.miette_runs.specs.rules.Runs.{made_plain}
 use Rattle.miette_runs.specs.rules.Sequences.{erase}
 use Rattle.miette_tree.specs.rules.Diagnosis.{Diagnosis}
 use Rattle.miette_protocol.specs.rules.Reading.{Source}
@@ -50,7 +50,7 @@ IsRestyledText drawing s t bytes =
 pub record AreSnippets (rows : SnippetRows) : Type 0 where
   pub plain : (s : Settings) (styles : Styles) (source : Option Source) (m : Diagnosis) (a : Answer) →
       ArePlain styles → rows_text (rows (restyled s styles) source m (unhighlighted a))
-      ≡ rows_text (map (map plain_run) (rows s source m a))
+      ≡ rows_text (map (map made_plain) (rows s source m a))
   pub clean : (s : Settings) (source : Option Source) (m : Diagnosis) (a : Answer) →
       AreCleanSettings s → IfSome source IsCleanSource → IsCleanMeaning m →
       HaveNoEscapes (rows s source m a)
@@ -58,7 +58,7 @@ pub record AreSnippets (rows : SnippetRows) : Type 0 where
 -- The same of a fix: it prints the same rows as another one with each style made plain.
 pub record IsPlainFix (plain fix : ShownFix) : Type 0 where
   pub message : plain.message ≡ fix.message
-  pub rows : rows_text plain.rows ≡ rows_text (map (map plain_run) fix.rows)
+  pub rows : rows_text plain.rows ≡ rows_text (map (map made_plain) fix.rows)
 
 abbrev pub ArePlainFixes : List ShownFix → List ShownFix → Type 0
 ArePlainFixes [] [] = Unit {0}

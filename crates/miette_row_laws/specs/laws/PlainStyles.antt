@@ -22,12 +22,12 @@ pub record ArePlain (s : Styles) : Type 0 where
   pub highlights : AreAllPlain s.highlights
 
 -- the same settings in other styles
-abbrev pub restyled : SnippetSettings → Styles → SnippetSettings
-restyled s styles = record s { theme = record s.theme { styles = styles } }
+abbrev pub restyled_snippets : SnippetSettings → Styles → SnippetSettings
+restyled_snippets s styles = record s { theme = record s.theme { styles = styles } }
 
 -- the same settings with every style plain, as in the shipped themes without colours
-abbrev pub plain_settings : SnippetSettings → SnippetSettings
-plain_settings s = restyled s no_styles
+abbrev pub plain_snippet_settings : SnippetSettings → SnippetSettings
+plain_snippet_settings s = restyled_snippets s no_styles
 
 -- the same reads without a highlighter
 abbrev pub unhighlighted_answer : Answers → Answers

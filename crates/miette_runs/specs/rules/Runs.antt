@@ -28,10 +28,10 @@ print [] = []
 print (s ∷ ss) = printed_text s ++ print ss
 
 -- The same in a plain style.
-abbrev pub plain_run : Fragment → Fragment
-plain_run (Styled s text) = Styled plain text
-plain_run (LinkTo url) = LinkTo url
-plain_run LinkEnd = LinkEnd
+abbrev pub made_plain : Fragment → Fragment
+made_plain (Styled s text) = Styled plain text
+made_plain (LinkTo url) = LinkTo url
+made_plain LinkEnd = LinkEnd
 
 -- texts and urls that hold no escape
 abbrev pub HasNoEscape : Fragment → Type 0

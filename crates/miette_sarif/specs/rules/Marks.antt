@@ -46,8 +46,8 @@ abbrev pub mark_over : Option SeenSource → Label → Mark
 mark_over over l = record { place = option_map (λ it. place_in it l.span) over; text = unwrap_or l.text [] }
 
 -- a mark without place and text says nothing
-abbrev pub is_told : Mark → Bool
-is_told m = not (is_none m.place && is_nil m.text)
+abbrev pub says_something : Mark → Bool
+says_something m = not (is_none m.place && is_nil m.text)
 
 -- ---- the labels of a report
 
@@ -78,7 +78,7 @@ groups_of over further m =
 abbrev pub marks_from : Option SeenSource → List Label → List Mark
 marks_from over [] = []
 marks_from over (l ∷ ls) =
-    if is_told (mark_over over l) then mark_over over l ∷ marks_from over ls else marks_from over ls
+    if says_something (mark_over over l) then mark_over over l ∷ marks_from over ls else marks_from over ls
 
 abbrev pub marks_in : Group → List Mark
 marks_in g = marks_from g.over g.labels

@@ -104,8 +104,8 @@ abbrev pub has_bytes : Data → Bool
 has_bytes r = is_some (whole_at (codes "byteOffset") r)
 
 -- whether it is said where a region begins
-abbrev pub is_told : Data → Bool
-is_told r = has_line r || (has_chars r || has_bytes r)
+abbrev pub has_begin : Data → Bool
+has_begin r = has_line r || (has_chars r || has_bytes r)
 
 -- the bytes of a region: by its lines, else by its characters, else by its bytes
 abbrev pub stretch_in : PositionEncoding → List (List ℕ) → List ℕ → Data → Option Stretch

@@ -16,7 +16,7 @@ use Rattle.miette_readers.specs.rules.Reports.{Said}
 use Rattle.miette_readers.specs.rules.Rustc.{maybe_row}
 use Rattle.miette_sarif_reader.specs.rules.Bases.{file_name}
 use Rattle.miette_sarif_reader.specs.rules.Messages.{shown}
-use Rattle.miette_sarif_reader.specs.rules.Regions.{has_line, is_told, start_column, start_line}
+use Rattle.miette_sarif_reader.specs.rules.Regions.{has_begin, has_line, start_column, start_line}
 use Rattle.miette_sarif_reader.specs.rules.Regions.{stretch_in}
 
 -- By what a run's results are read: the files, how columns are counted, what ends lines, the rules of its tool, its
@@ -151,7 +151,7 @@ file_of g l = option_and_then (file_at g) (physical l)
 
 -- a region that says where it begins
 abbrev pub with_begin : Data → Option Data
-with_begin region = if is_told region then Some region else None
+with_begin region = if has_begin region then Some region else None
 
 abbrev pub region_of : Data → Option Data
 region_of l = option_and_then with_begin (option_and_then (object_at (codes "region")) (physical l))

@@ -4,8 +4,8 @@ use Rattle.miette_style.specs.rules.Escapes.{no_escape}
 use Rattle.miette_runs.specs.rules.Sequences.{erase}
 use Rattle.miette_wrap_rules.specs.rules.Wrapping.{Plan, map_indents}
 
-abbrev pub colourless : Plan (List ℕ) → Plan (List ℕ)
-colourless = map_indents erase
+abbrev pub plain_plan : Plan (List ℕ) → Plan (List ℕ)
+plain_plan = map_indents erase
 
 -- Every escape belongs to a colour: none is left without them.
 abbrev pub IsColoured : List ℕ → Type 0

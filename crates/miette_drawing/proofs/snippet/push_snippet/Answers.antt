@@ -15,8 +15,8 @@ use Rattle.miette_drawing.proofs.snippet.push_snippet.Goals as goal
 
 pub push_framed-requires-clause-at : goal.push_framed-requires-clause-at
 push_framed-requires-clause-at g c =
-    subst (λ (n : ℕ). IsAt c.args.drawing.now.placed.now n c.seek.new.passage.sweep.next
-    c.seek.new.passage.sweep.running.items) (c.offset-start.ensures ∙ ap (λ s. s.offset) c.span.ensures)
+    subst (λ (n : ℕ). IsAt c.args.drawing.now.placed.now n c.seek.new.position.sweep.next
+    c.seek.new.position.sweep.running.items) (c.offset-start.ensures ∙ ap (λ s. s.offset) c.span.ensures)
     c.in_ok-seek.ensures
 
 pub returns-clause-rows : goal.returns-clause-rows

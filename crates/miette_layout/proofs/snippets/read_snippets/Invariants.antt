@@ -20,7 +20,7 @@ invariant-loop-group g l = record {
       (leaves_plain g.H.Highlighter.is_blank l.initial.highlighter)
       (follows g.H.Highlighter.may_follow l.initial.highlighter) (follows g.H.Highlighter.may_follow l.highlighter)
       l.group-items l.group-index l.fn.page l.page;
-  state : IsAt l.drawing.placed.now l.passage.at l.passage.sweep.next l.passage.sweep.running.items;
+  state : IsAt l.drawing.placed.now l.position.at l.position.sweep.next l.position.sweep.running.items;
   stays : leaves_plain g.H.Highlighter.is_blank l.highlighter
       ≡ leaves_plain g.H.Highlighter.is_blank l.initial.highlighter;
 }

@@ -1,8 +1,8 @@
 //! What the source has of a line.
 
-/// The text of a line.
+/// The bytes of a line's text.
 #[derive(Clone, Copy)]
-pub struct LineText<'a> {
+pub struct LineBytes<'a> {
     /// The offset of its first byte, in bytes of the source.
     pub start: usize,
     /// Its bytes.
