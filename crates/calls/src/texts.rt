@@ -64,8 +64,8 @@ fn of_runs(alloc: Global, call: Call, row: &mut Rows, runs: Runs) {
 
 static OPTIONS: WrapOptions<'static> = WrapOptions {
     width: 12,
-    first_indent: "* ",
-    further_indent: "| ",
+    initial_indent: "* ",
+    subsequent_indent: "| ",
     break_words: true,
     wrap_lines: true,
     separator: WordSeparator::AsciiSpace,
