@@ -15,8 +15,8 @@ pub fn push_hint(out: &mut String, hint: &str, width: usize) -> Result<(), Alloc
 {
     let options = WrapOptions {
         width,
-        first_indent: "hint: ",
-        further_indent: "      ",
+        initial_indent: "hint: ",
+        subsequent_indent: "      ",
         break_words: true,
         wrap_lines: true,
         separator: WordSeparator::AsciiSpace,

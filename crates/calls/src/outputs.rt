@@ -54,11 +54,11 @@ fn taken(alloc: Global, call: Call, row: &mut Rows, mut output: Output) -> Calle
 }
 
 fn put(call: Call, row: &mut Rows, mut output: Output) {
-    let answer = push(call, &mut output);
+    let answer = push(&mut output, call);
     row.after(answer, &output);
 }
 
-fn push(call: Call, output: &mut Output) -> Result<(), AllocError> {
+fn push(output: &mut Output, call: Call) -> Result<(), AllocError> {
     match call {
         Call::Reserve => output.reserve('x', 3),
         Call::Push => output.push('x'),

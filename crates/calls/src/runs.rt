@@ -48,12 +48,12 @@ fn pushed(alloc: Global, call: Call, row: &mut Rows) -> Called {
     let more = read_text(alloc, "\u{1b}[32mb\u{1b}[0mc")?;
     let mut runs = Runs::new(alloc);
     row.value(&runs);
-    let answer = push(call, &mut runs, &more);
+    let answer = push(&mut runs, call, &more);
     row.after(answer, &runs);
     Ok(())
 }
 
-fn push(call: Call, runs: &mut Runs, more: &Runs) -> Result<(), AllocError> {
+fn push(runs: &mut Runs, call: Call, more: &Runs) -> Result<(), AllocError> {
     match call {
         Call::Push => runs.push('x'),
         Call::PushChars => runs.push_chars(&XY),

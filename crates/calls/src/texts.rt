@@ -64,8 +64,8 @@ fn of_runs(alloc: Global, call: Call, row: &mut Rows, runs: Runs) {
 
 static OPTIONS: WrapOptions<'static> = WrapOptions {
     width: 12,
-    first_indent: "* ",
-    further_indent: "| ",
+    initial_indent: "* ",
+    subsequent_indent: "| ",
     break_words: true,
     wrap_lines: true,
     separator: WordSeparator::AsciiSpace,
@@ -76,13 +76,13 @@ static OPTIONS: WrapOptions<'static> = WrapOptions {
 fn appended(alloc: Global, call: Call, row: &mut Rows) -> Called {
     let mut text = String::from_str(alloc, "> ")?;
     row.value(&text);
-    let answer = append(call, &mut text);
+    let answer = append(&mut text, call);
     row.appended(answer, &text);
     Ok(())
 }
 
 /// What the call answers.
-fn append(call: Call, text: &mut String) -> Result<(), RenderError> {
+fn append(text: &mut String, call: Call) -> Result<(), RenderError> {
     match call {
         Call::AppendWhole => append_whole(text, "a text that is longer than what is there"),
         _ => Ok(fill(TEXT, &OPTIONS, text)?),
@@ -92,13 +92,13 @@ fn append(call: Call, text: &mut String) -> Result<(), RenderError> {
 fn wrapped(alloc: Global, row: &mut Rows) -> Called {
     let mut output = Output::for_runs(alloc);
     row.value(&output);
-    let answer = wrap_text(alloc, &mut output)?;
+    let answer = wrap_text(&mut output, alloc)?;
     row.after(answer, &output);
     Ok(())
 }
 
 /// What the call answers; an error where what it is given can't be made.
-fn wrap_text(alloc: Global, output: &mut Output) -> Result<Result<(), AllocError>, AllocError> {
+fn wrap_text(output: &mut Output, alloc: Global) -> Result<Result<(), AllocError>, AllocError> {
     let text = read_text(alloc, TEXT)?;
     let first = read_text(alloc, "* ")?;
     let further = read_text(alloc, "| ")?;

@@ -38,7 +38,7 @@ fn faults_in<R: Files + Input + AllocGlobal>(rt: &R, names: &[String]) -> Result
     let mut faults = Vec::new(rt.alloc());
     for name in names {
         match SourceText::read(rt, name.as_str(), Some("lisp")) {
-            Ok(file) => push_slips(rt.alloc(), &file, &mut faults)?,
+            Ok(file) => push_slips(&mut faults, rt.alloc(), &file)?,
             Err(report) => faults.push(report)?,
         }
     }
@@ -46,7 +46,7 @@ fn faults_in<R: Files + Input + AllocGlobal>(rt: &R, names: &[String]) -> Result
 }
 
 /// Appends a report of each slip in a file.
-fn push_slips(alloc: Global, file: &SourceText, faults: &mut Vec<Report>) -> Result<()> {
+fn push_slips(faults: &mut Vec<Report>, alloc: Global, file: &SourceText) -> Result<()> {
     let text = file.text();
     for slip in slips_of(alloc, text)?.iter() {
         let report = report_of(alloc, *slip, text.len());

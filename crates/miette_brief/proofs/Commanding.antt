@@ -187,7 +187,7 @@ pub commanded : (chain : Bool) (source : Option Source) (m : Diagnosis) (c : Cau
     → HasAccepted source (in_order (given_labels m.labels)) × FurtherAccepted m.snippets
     → mid ≡ old ++ head_text m.severity site (nonempty m.code)
     → new ≡ mid ++ (message_text chain m c (with_first at its) ++ codes "\n")
-    → AppendsOwn (record { chain = chain; form = Github }) source m c old new
+    → AppendsOwn (record { cause_chain = chain; form = Github }) source m c old new
 commanded chain source m c its at site old mid new ei ea placed accepted e f =
     let all : List Mark = marks source m in
     let chosen : at ≡ primary_at all = ea ∙ ap primary_at ei in
@@ -222,6 +222,6 @@ unread_refused source m its at ei ea unread =
 
 -- ---- forms
 
-pub same_settings : (b : BriefSettings) (chain : Bool) (form : Form) → chain ≡ b.chain → form ≡ b.form
-    → record { chain = chain; form = form } ≡ b
+pub same_settings : (b : BriefSettings) (chain : Bool) (form : Form) → chain ≡ b.cause_chain → form ≡ b.form
+    → record { cause_chain = chain; form = form } ≡ b
 same_settings b chain form e f = rw (e, f) refl

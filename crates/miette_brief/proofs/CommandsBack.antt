@@ -350,8 +350,8 @@ all_read Github chain t a is = record {
 }
 
 pub commands_read : (s : BriefSettings) (t : Tree) (a : Answers) → s.form ≡ Github
-    → AreCommands (report_commands s.chain None a t) (brief s t a)
-commands_read s t a is = all_read s.form s.chain t a is
+    → AreCommands (report_commands s.cause_chain None a t) (brief s t a)
+commands_read s t a is = all_read s.form s.cause_chain t a is
 
 mutual
   pub commands_counted : (chain : Bool) (inherited : Option Source) (a : Answers) (t : Tree)

@@ -213,13 +213,14 @@ rows_for_each Gcc chain t a is =
 rows_for_each Github chain t a is = cc
 
 pub one_for_each : (s : BriefSettings) (t : Tree) (a : Answers) → s.form ≡ Gcc
-    → IsRows (parts s.chain t a) (brief s t a)
-one_for_each s t a is = rows_for_each s.form s.chain t a is
+    → IsRows (parts s.cause_chain t a) (brief s t a)
+one_for_each s t a is = rows_for_each s.form s.cause_chain t a is
 
 pub given_each : (s : BriefSettings) (t : Tree) (text : List ℕ) → s.form ≡ Gcc → IsBrief s t text
-    → HasEachPart s.chain t text
+    → HasEachPart s.cause_chain t text
 given_each s t text is h = record {
   answers = h.answers;
   possible = h.possible;
-  rows = subst (λ (bs : List ℕ). IsRows (parts s.chain t h.answers) bs) (sym h.is) (one_for_each s t h.answers is);
+  rows = subst (λ (bs : List ℕ). IsRows (parts s.cause_chain t h.answers) bs) (sym h.is)
+      (one_for_each s t h.answers is);
 }

@@ -125,7 +125,7 @@ advised at source m given fixes old mid new eh ef e f =
 
 pub own_told : (chain : Bool) (source : Option Source) (m : Diagnosis) (c : Cause) (at : Place)
     (old mid caused new : List ℕ) → AppendsLabelled source m at old mid → AppendsCauses chain at source c mid caused
-    → AppendsAdvice at source m caused new → AppendsOwn (record { chain = chain; form = Gcc }) source m c old new
+    → AppendsAdvice at source m caused new → AppendsOwn (record { cause_chain = chain; form = Gcc }) source m c old new
 own_told chain source m c at old mid caused new head causes advice =
     let rows : List ReportRow = finding_row at m ∷ labelled_rows source m in
     let told : List ReportRow = cause_rows_if chain at source causes.answers c in
@@ -199,14 +199,14 @@ report_told b inherited (tree m s c rs) source related old mid new es er own oth
     let there : AppendsRelated b from rs mid new = subst (λ (ts : Trees). AppendsRelated b from ts mid new) er
     (subst (λ (o : Option Source). AppendsRelated b o related mid new) es others) in
     let answers : Answers = listed (own_answer here.answers) (cause_answers here.answers) there.answers in
-    let own : List ℕ = own_text b.form b.chain from here.answers m c in
-    let more : List ℕ = related_text b.form b.chain from there.answers rs in
+    let own : List ℕ = own_text b.form b.cause_chain from here.answers m c in
+    let more : List ℕ = related_text b.form b.cause_chain from there.answers rs in
     record {
       answers = answers;
       possible = (here.accepted, here.possible, here.causes, there.possible, here.fixes);
       appended = there.appended ∙ ap (λ l. l ++ more) here.appended ∙ append_assoc old own more
-          ∙ ap (λ l. old ++ (l ++ more)) (sym (own_listed b.form b.chain from here.answers there.answers m c))
-          ∙ ap (λ l. old ++ l) (sym (report_joined b.form b.chain inherited answers m s c rs));
+          ∙ ap (λ l. old ++ (l ++ more)) (sym (own_listed b.form b.cause_chain from here.answers there.answers m c))
+          ∙ ap (λ l. old ++ l) (sym (report_joined b.form b.cause_chain inherited answers m s c rs));
     }
 
 -- ---- related reports, one after the other
@@ -215,7 +215,7 @@ report_told b inherited (tree m s c rs) source related old mid new es er own oth
 abbrev pub RelatedSoFar : {R : Type 0} → (R → Tree) → BriefSettings → Option Source → List R → ℕ → List ℕ → List ℕ
     → Type 0
 RelatedSoFar value b inherited rs i old now =
-    ToldSoFar (λ more ts. AllAnswers inherited more ts) (λ more ts. related_text b.form b.chain inherited more ts)
+    ToldSoFar (λ more ts. AllAnswers inherited more ts) (λ more ts. related_text b.form b.cause_chain inherited more ts)
     (trees (map value rs)) (trees (map value (drop i rs))) old now
 
 pub one_more : {R : Type 0} (value : R → Tree) (b : BriefSettings) (inherited : Option Source) (rs : List R) (i : ℕ)
@@ -225,12 +225,12 @@ pub one_more : {R : Type 0} (value : R → Tree) (b : BriefSettings) (inherited 
 one_more value b inherited rs i r old now new test is so_far a =
     let left = trees (map value (drop (i + 1) rs)) in
     one_so_far _ _ (trees (map value rs)) (more_trees (value r) left) left (and_more a.answers) old now new
-    (text_in b.form b.chain inherited a.answers (value r))
+    (text_in b.form b.cause_chain inherited a.answers (value r))
     (subst (λ (ts : Trees). ToldSoFar (λ more ts. AllAnswers inherited more ts)
-    (λ more ts. related_text b.form b.chain inherited more ts) (trees (map value rs)) ts old now)
+    (λ more ts. related_text b.form b.cause_chain inherited more ts) (trees (map value rs)) ts old now)
     (next_of value rs i r test is) so_far)
     (λ more p. (a.possible, p))
-    (λ more. related_joined b.form b.chain inherited (and_more a.answers more) (value r) left)
+    (λ more. related_joined b.form b.cause_chain inherited (and_more a.answers more) (value r) left)
     a.appended
 
 pub all_told : {R : Type 0} (value : R → Tree) (b : BriefSettings) (inherited : Option Source) (rs : List R) (i : ℕ)
@@ -243,8 +243,8 @@ all_told value b inherited rs i old now end so_far =
       answers = so_far.with_rest no_more;
       possible = so_far.possible no_more last;
       appended = sym (append-nil now)
-          ∙ ap (λ l. now ++ l) (sym (none_related b.form b.chain inherited no_more))
-          ∙ ap (λ l. now ++ related_text b.form b.chain inherited no_more (trees (map value l)))
+          ∙ ap (λ l. now ++ l) (sym (none_related b.form b.cause_chain inherited no_more))
+          ∙ ap (λ l. now ++ related_text b.form b.cause_chain inherited no_more (trees (map value l)))
           (sym (drop_all i rs end))
           ∙ so_far.joined no_more;
     }
@@ -354,7 +354,7 @@ is_brief b t text a = record { answers = a.answers; possible = a.possible; is = 
 pub told_brief : (s : BriefSettings) (t : Tree) (text old new : List ℕ) → IsBrief s t text → new ≡ old ++ text
     → ToldReads None t → new ≡ old ++ brief s t unlisted
 told_brief s t text old new h e reads =
-    e ∙ ap (λ x. old ++ x) (h.is ∙ same_text s.form s.chain h.answers t h.possible reads)
+    e ∙ ap (λ x. old ++ x) (h.is ∙ same_text s.form s.cause_chain h.answers t h.possible reads)
 
 pub only_brief : (s : BriefSettings) (t : Tree) (text old new : List ℕ) → IsBrief s t text → new ≡ old ++ text
     → AlwaysReads t → new ≡ old ++ brief s t unlisted

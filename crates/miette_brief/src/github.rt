@@ -211,7 +211,7 @@ pub(crate) fn push_command<'a, D: Diagnostic, S: SourceCode>(
     whole: &Whole<'a>,
 ) -> Result<(), RenderError>
     requires { IsWhole (source_shown S.source source) whole.now }
-    ensures text { OnOk result (AppendsOwn (record { chain = chain; form = Github })
+    ensures text { OnOk result (AppendsOwn (record { cause_chain = chain; form = Github })
         (source_shown S.source source.entry) (head (tree_of D.meaning S.source report.now))
         (cause_of (tree_of D.meaning S.source report.now)) (string_bytes out.old) (string_bytes out.new)) }
     ensures refused { (result ≡ Err RenderError.Refused) →

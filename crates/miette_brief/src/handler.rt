@@ -40,7 +40,7 @@ impl Model for BriefReportHandler {
 
     ghost Value = { BriefSettings };
 
-    ghost view = { λ it. record { chain = it.cause_chain; form = it.form } };
+    ghost view = { λ it. record { cause_chain = it.cause_chain; form = it.form } };
 }
 
 /// As `new`.
@@ -68,20 +68,20 @@ impl BriefReportHandler {
 
     /// The causes of each report are told.
     pub fn with_cause_chain(self) -> Self
-        ensures { result ≡ record self { chain = true } }
+        ensures { result ≡ record self { cause_chain = true } }
     {
         self.telling_causes(true)
     }
 
     /// No causes are told.
     pub fn without_cause_chain(self) -> Self
-        ensures { result ≡ record self { chain = false } }
+        ensures { result ≡ record self { cause_chain = false } }
     {
         self.telling_causes(false)
     }
 
     fn telling_causes(self, cause_chain: bool) -> Self
-        ensures { result ≡ record self { chain = cause_chain } }
+        ensures { result ≡ record self { cause_chain = cause_chain } }
     {
         BriefReportHandler {
             cause_chain,
@@ -100,7 +100,7 @@ impl BriefReportHandler {
     }
 
     fn tells_causes(&self) -> bool
-        ensures { result ≡ self.now.chain }
+        ensures { result ≡ self.now.cause_chain }
     {
         self.cause_chain
     }

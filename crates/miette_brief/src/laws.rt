@@ -23,16 +23,16 @@ ghost use Rattle.miette_brief.specs.laws.ReadBack.{has_no_colon, ReadsBack, posi
 /// each report related to it. None is empty, none holds a control character, and each ends in LF.
 pub fn each_part_has_one_row()
     ensures rows { (s : BriefSettings) (t : Tree) (a : Answers) → s.form ≡ Gcc →
-        IsRows (parts s.chain t a) (brief s t a) }
+        IsRows (parts s.cause_chain t a) (brief s t a) }
     ensures given { (s : BriefSettings) (t : Tree) (text : List ℕ) → s.form ≡ Gcc → IsBrief s t text →
-        HasEachPart s.chain t text }
+        HasEachPart s.cause_chain t text }
 {}
 
 /// In commands of GitHub a report has exactly one row for itself and one for each report related to it. Each row stands
 /// on one line, and its command reads back: its name, its properties, its message.
 pub fn each_diagnostic_has_one_command()
     ensures read { (s : BriefSettings) (t : Tree) (a : Answers) → s.form ≡ Github →
-        AreCommands (report_commands s.chain None a t) (brief s t a) }
+        AreCommands (report_commands s.cause_chain None a t) (brief s t a) }
     ensures many { (chain : Bool) (inherited : Option Source) (t : Tree) (a : Answers) →
         length (report_commands chain inherited a t) ≡ diagnostics_in t }
 {}

@@ -36,8 +36,8 @@ pub(crate) struct Mark<'a, S> {
 
 /// Appends a label.
 fn push_mark<'a, S: SourceCode>(
-    mark: Mark<'a, S>,
     marks: &mut Vec<Mark<'a, S>>,
+    mark: Mark<'a, S>,
 ) -> Result<(), AllocError>
     ensures { OnOk result (map (mark_of S.source) marks.new.items
         ≡ map (mark_of S.source) marks.old.items ++ mark_of S.source mark.entry ∷ []) }
@@ -48,10 +48,10 @@ fn push_mark<'a, S: SourceCode>(
 
 /// Appends labels in this order, each read near the one before; `Refused` where one can't be read.
 fn push_marks<'a, S: SourceCode>(
+    marks: &mut Vec<Mark<'a, S>>,
     source: Option<SourceRef<'a, S>>,
     labels: &'a [LabeledSpan],
     order: &[Turn],
-    marks: &mut Vec<Mark<'a, S>>,
 ) -> Result<(), RenderError>
     requires inside { All (λ turn. turn.index < length labels.now) order.now }
     ensures marks { OnOk result (map (mark_of S.source) marks.new.items ≡ map (mark_of S.source) marks.old.items
@@ -64,16 +64,16 @@ fn push_marks<'a, S: SourceCode>(
     for turn in order {
         let label = label_of(labels, *turn);
         label_place(source, label.inner(), &mut known)?;
-        push_mark(Mark { source, label }, marks)?;
+        push_mark(marks, Mark { source, label })?;
     }
     Ok(())
 }
 
 /// Appends labels by offset; `Refused` where one can't be read.
 fn push_sorted_marks<'a, S: SourceCode>(
+    marks: &mut Vec<Mark<'a, S>>,
     source: Option<SourceRef<'a, S>>,
     labels: &'a [LabeledSpan],
-    marks: &mut Vec<Mark<'a, S>>,
 ) -> Result<(), RenderError>
     ensures marks { OnOk result (map (mark_of S.source) marks.new.items ≡ map (mark_of S.source) marks.old.items
         ++ map (mark_over (source_shown S.source source.entry)) (in_order labels.now)) }
@@ -82,13 +82,13 @@ fn push_sorted_marks<'a, S: SourceCode>(
         accepts (source_shown S.source source.entry) (in_order labels.now) ≡ false }
 {
     let order = by_offset(*marks.allocator(), labels)?;
-    push_marks(source, labels, &order, marks)
+    push_marks(marks, source, labels, &order)
 }
 
 /// Appends those over further sources; `Refused` where one can't be read.
 fn push_further_marks<'a, S: SourceCode>(
-    further: &'a [Snippets<S>],
     marks: &mut Vec<Mark<'a, S>>,
+    further: &'a [Snippets<S>],
 ) -> Result<(), RenderError>
     ensures marks { OnOk result (map (mark_of S.source) marks.new.items ≡ map (mark_of S.source) marks.old.items
         ++ further_marks (map (section_of S.source) further.now)) }
@@ -97,7 +97,7 @@ fn push_further_marks<'a, S: SourceCode>(
         holds_further accepts (map (section_of S.source) further.now) ≡ false }
 {
     for section in further {
-        push_sorted_marks(Some(section.source()), section.labels(), marks)?;
+        push_sorted_marks(marks, Some(section.source()), section.labels())?;
     }
     Ok(())
 }
@@ -118,8 +118,8 @@ pub(crate) fn marks_of<'a, D: Diagnostic, S: SourceCode>(
         labels_accepted (source_shown S.source source.entry) (head (tree_of D.meaning S.source report.now)) ≡ false }
 {
     let mut marks = Vec::new(alloc);
-    push_sorted_marks(source, labels_of(report), &mut marks)?;
-    push_further_marks(report.further_snippets(), &mut marks)?;
+    push_sorted_marks(&mut marks, source, labels_of(report))?;
+    push_further_marks(&mut marks, report.further_snippets())?;
     Ok(marks)
 }
 

@@ -214,7 +214,7 @@ pub(crate) fn push_own<'a, D: Diagnostic, S: SourceCode>(
     report: &'a Report<D, S>,
     source: Option<SourceRef<'a, S>>,
 ) -> Result<(), RenderError>
-    ensures text { OnOk result (AppendsOwn (record { chain = chain; form = Gcc })
+    ensures text { OnOk result (AppendsOwn (record { cause_chain = chain; form = Gcc })
         (source_shown S.source source.entry) (head (tree_of D.meaning S.source report.now))
         (cause_of (tree_of D.meaning S.source report.now)) (string_bytes out.old) (string_bytes out.new)) }
     ensures refused { (result ≡ Err RenderError.Refused) →

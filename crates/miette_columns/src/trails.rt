@@ -88,9 +88,9 @@ fn push_parts(trails: &mut Vec<Trail>, text: &[u8], whole: Trail) -> Result<(), 
 
 // Appends the trails after a place, up to `end` bytes, that are a good part of the bytes after it.
 fn push_trails(
+    trails: &mut Vec<Trail>,
     alloc: Global,
     text: &[u8],
-    trails: &mut Vec<Trail>,
     from: PartingPlace,
     end: usize,
 ) -> Result<(), AllocError>
@@ -139,12 +139,12 @@ pub(crate) fn trails(
     let mut from = start(text);
     for place in places {
         if place.bytes.saturating_sub(from.bytes) >= FAR {
-            push_trails(alloc, text, &mut trails, from, place.bytes)?;
+            push_trails(&mut trails, alloc, text, from, place.bytes)?;
         }
         from = *place;
     }
     if text.len().saturating_sub(from.bytes) >= FAR {
-        push_trails(alloc, text, &mut trails, from, text.len())?;
+        push_trails(&mut trails, alloc, text, from, text.len())?;
     }
     Ok(trails)
 }

@@ -51,7 +51,7 @@ impl FixError {
         ensures { result.now ≡ fix_error_text self.now }
     {
         match self {
-            FixError::OutOfBounds => "an edit ends behind the end of the source",
+            FixError::OutOfBounds => "an edit ends after the end of the source",
             FixError::Overlap => "two edits overlap",
             FixError::Memory => "memory allocation failed",
         }

@@ -56,7 +56,7 @@ start_put s columns many p q r e hq hr =
     (s.theme.characters.vbar_break ∷ 32 ∷ [])))
     ∙ sym (told-append (blank s many ∷ []) (styled_run s.width plain (s.theme.characters.vbar_break ∷ 32 ∷ []) ∷ [])))
 
--- leads
+-- leaders
 pub lead_more : (v : SnippetSettings) (marks : List MadeMark) (i reached gap at column : ℕ)
     (d : MadeMark) (row spaced new whole : Printout) → i < length marks → at ≡ (mark_of (get_or marks i d)).anchor
     → gap ≡ at - reached →
@@ -89,7 +89,7 @@ lead_end s marks i reached gap column row new whole le z n h =
     ∙ ap (λ xs. row ⊕ row_tokens (lead_runs s reached xs column)) (sym (at_drop_all (map mark_of) marks i le))
     ∙ h
 
--- a row of a text: what stands before the marks, the leads, and a run
+-- a row of a text: what stands before the marks, the leaders, and a run
 pub run_put : (style : Style) (a b c : ℕ) (part : List ℕ) (p q r s n : Printout) → q ≡ p
     ⊕ styled_tokens style (a ∷ b ∷ []) → r ≡ q ⊕ text_tokens (c ∷ []) → s ≡ r ⊕ text_tokens (32 ∷ []) → n ≡ s
     ⊕ text_tokens part →
@@ -115,13 +115,13 @@ pub text_put : (v : SnippetSettings) (before : Row) (earlier : List Mark) (m : M
     n ≡ p ⊕ rows_tokens ((before ++ text_row v earlier m (x ∷ y ∷ z ∷ 32 ∷ []) part) ∷ [])
 text_put v before earlier m at x y z part p b l q r s k n a hb hl hq hr hs hk hn =
     let front : List ℕ = x ∷ y ∷ z ∷ 32 ∷ [] in
-    let leads : Row = lead_runs v 0 earlier m.anchor in
+    let leaders : Row = lead_runs v 0 earlier m.anchor in
     let own : Row = styled_run v.width m.label.style (front ++ part) ∷ [] in
-    let led : l ≡ b ⊕ row_tokens leads = hl ∙ ap (λ c. b ⊕ row_tokens (lead_runs v 0 earlier c)) a in
+    let led : l ≡ b ⊕ row_tokens leaders = hl ∙ ap (λ c. b ⊕ row_tokens (lead_runs v 0 earlier c)) a in
     let run : k ≡ l ⊕ row_tokens own = run_put m.label.style x y z part l q r s k hq hr hs hk
     ∙ ap (λ c. l ⊕ c) (sym (styled_row v.width m.label.style (front ++ part))) in
-    let below : k ≡ b ⊕ row_tokens (leads ++ own) = parts_then leads own b l k led run in
-    row_done (before ++ text_row v earlier m front part) p k n (parts_then before (leads ++ own) p b k hb below) hn
+    let below : k ≡ b ⊕ row_tokens (leaders ++ own) = parts_then leaders own b l k led run in
+    row_done (before ++ text_row v earlier m front part) p k n (parts_then before (leaders ++ own) p b k hb below) hn
 
 -- one more part of a text
 pub part_more : (f : List ℕ → Row) (parts left : List (List ℕ)) (part : List ℕ) (p q whole : Printout) → parts ≡ part

@@ -56,7 +56,7 @@ fn behind_anchor(mark: &Mark) -> usize
 }
 
 // What stands before a text's corner, which is to stand in this column: a bar at the anchor of each earlier mark.
-fn push_leads<O: Canvas>(
+fn push_leaders<O: Canvas>(
     page: &mut Page<O>,
     context: &LineContext,
     earlier: &[Mark],
@@ -107,7 +107,7 @@ fn push_text_row<O: Canvas>(
         (mark_of hung.now.mark.now) (leader.corner ∷ leader.line ∷ leader.end ∷ 32 ∷ []) (chars part.now) ∷ [])) }
 {
     push_before_marks(page, hung.context)?;
-    push_leads(page, hung.context, hung.earlier, hung.mark.anchor)?;
+    push_leaders(page, hung.context, hung.earlier, hung.mark.anchor)?;
     page.push_line(hung.mark.label.style, leader.corner, leader.line, 1)?;
     page.push(leader.end)?;
     page.push(' ')?;

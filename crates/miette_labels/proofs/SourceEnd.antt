@@ -18,7 +18,7 @@ use Rattle.miette_label_rules.specs.rules.Groups.{in_order}
 use Rattle.miette_label_rules.specs.rules.Labels.{shows_end, some_shows_end}
 use Rattle.miette_label_rules.specs.views.GivenLabels.{label_at}
 use Rattle.miette_labels.specs.views.Reads.{IsRead}
-use Rattle.miette_labels.specs.views.Placing.{reads_before, told_end}
+use Rattle.miette_labels.specs.views.Placing.{reads_before, known_end}
 use Rattle.miette_basics.proofs.Cases.{by_cases}
 use Rattle.miette_source_lines.proofs.Places.{line_end_after, line_end_beyond, line_end_le, line_of_mono}
 use Rattle.miette_source_lines.proofs.Places.{line_start_next}
@@ -111,7 +111,7 @@ at_end n lines l h =
 
 told_all : (context : ℕ) (source : Source) (labels : List Label) (rs : List ReadLabel)
     → All (IsRead context source labels) rs →
-    told_end rs ≡ end_told (list_any (λ l. shows_end (length source.bytes) (lines_around context labels l) l)
+    known_end rs ≡ end_told (list_any (λ l. shows_end (length source.bytes) (lines_around context labels l) l)
     (map (read_of labels) rs)) (length source.bytes)
 told_all context source labels [] h = refl
 told_all context source labels (r ∷ rs) h =
@@ -121,7 +121,7 @@ told_all context source labels (r ∷ rs) h =
     let same : reads_before r ≡ shows_end n (lines_around context labels l) l = read_tells context source labels r own
     in
     let later = told_all context source labels rs (λ k d lt. h (suc k) d (omega arith)) in
-    by_cases {C = told_end (r ∷ rs) ≡ end_told (list_any (λ l. shows_end n (lines_around context labels l) l)
+    by_cases {C = known_end (r ∷ rs) ≡ end_told (list_any (λ l. shows_end n (lines_around context labels l) l)
     (map (read_of labels) (r ∷ rs))) n} (reads_before r)
     (λ t. let u : shows_end n (lines_around context labels l) l ≡ true = sym same ∙ t in
     let is : r.span.offset ≡ n = ap (λ (s : Span). s.offset) own.span ∙ at_end n (lines_around context labels l) l u in
@@ -155,8 +155,8 @@ wanted_told false shows n = refl
 -- where the end is wanted, the reads tell it just where the labels at the end are drawn
 pub told_is : (wanted : Bool) (context : ℕ) (source : Source) (labels : List Label) (rs : List ReadLabel)
     → All (IsRead context source labels) rs → map (read_of labels) rs ≡ in_order labels →
-    cond wanted (told_end rs) None ≡ end_told (wanted && some_shows_end context (length source.bytes) (in_order labels))
-    (length source.bytes)
+    cond wanted (known_end rs) None
+    ≡ end_told (wanted && some_shows_end context (length source.bytes) (in_order labels)) (length source.bytes)
 told_is wanted context source labels rs h order =
     let n : ℕ = length source.bytes in
     ap (λ e. cond wanted e None) (told_all context source labels rs h)

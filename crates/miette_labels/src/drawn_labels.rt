@@ -4,7 +4,7 @@ ghost use Rattle.std.specs.Prelude.{option_copied, ◌≡◌, map, IfOk};
 ghost use Rattle.miette_label_rules.specs.rules.Labels.{style_at};
 ghost use Rattle.miette_label_rules.specs.views.GivenLabels.{text_at};
 ghost use Rattle.miette_labels.specs.views.Placing.{placed_of, placed_from, placed_one, end_drawn, begins_at_end};
-ghost use Rattle.miette_labels.specs.views.Placing.{reads_before, told_end};
+ghost use Rattle.miette_labels.specs.views.Placing.{reads_before, known_end};
 
 use crate::reading::ReadLabel;
 use crate::spans::end_of;
@@ -46,8 +46,8 @@ fn reads_before(read: &ReadLabel<'_>) -> Result<bool, AllocError>
 /// Where the source ends, if the reads tell: the contents of a label's read with a line of context have bytes before
 /// the label and none from there on only where the label begins at the end of the source. `AllocError` where the span
 /// of a read ends past the largest `usize`.
-pub fn told_end(reads: &[ReadLabel<'_>]) -> Result<Option<usize>, AllocError>
-    ensures { IfOk result (λ end. end ≡ told_end reads.now) }
+pub fn known_end(reads: &[ReadLabel<'_>]) -> Result<Option<usize>, AllocError>
+    ensures { IfOk result (λ end. end ≡ known_end reads.now) }
 {
     for read in reads {
         if reads_before(read)? {
@@ -57,7 +57,7 @@ pub fn told_end(reads: &[ReadLabel<'_>]) -> Result<Option<usize>, AllocError>
     Ok(None)
 }
 
-// Whether a label begins where the source is told to end.
+// Whether a label begins where the reads show the end of the source.
 fn begins_at_end(end: Option<usize>, offset: usize) -> bool
     ensures { result ≡ begins_at_end end offset }
 {
@@ -106,9 +106,9 @@ fn placed_one<'a>(
 }
 
 /// The labels that were read of these, in the order of their reads, as they are drawn: each with its style by its place
-/// in that order, and its text. Those that begin where the source is told to end stand after the text of its last line,
-/// as empty ones at its last byte. `AllocError` where memory is refused, or the span of a label or of its read ends
-/// past the largest `usize`.
+/// in that order, and its text. Those that begin where the reads show the end of the source stand after the text of its
+/// last line, as empty ones at its last byte. `AllocError` where memory is refused, or the span of a label or of its
+/// read ends past the largest `usize`.
 pub fn placed_labels<'a>(
     alloc: Global,
     styles: &[Style],

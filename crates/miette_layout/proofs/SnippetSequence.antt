@@ -37,7 +37,7 @@ use Rattle.miette_label_rules.specs.rules.Labels.{DrawnLabel, drawn_from, some_s
 use Rattle.miette_snippet_rules.specs.rules.SnippetLayout.{snippet, all_snippets, drawn_labels, line_or_break, left_out}
 use Rattle.miette_snippet_rules.specs.rules.SnippetLayout.{settings_around, rows_unless, place_of, body_rows}
 use Rattle.miette_frames.specs.views.ContentsRows.{cells_in, contents_snippet, PutsRows}
-use Rattle.miette_labels.specs.views.Placing.{told_end, placed_of, placed_from}
+use Rattle.miette_labels.specs.views.Placing.{known_end, placed_of, placed_from}
 use Rattle.miette_labels.specs.views.Primary.{chosen_label, PointsTo, is_unread}
 use Rattle.miette_labels.specs.views.Reads.{IsRead, AreContents, AreGroups, AreGrouped, IsUnread, AreRead, name_of}
 use Rattle.miette_page.specs.views.Tokens.{rows_tokens}
@@ -367,7 +367,7 @@ gives_unread s source labels blank happen reads before order h g =
 -- the labels as they are drawn, in order
 pub drawn_is : (s : SnippetSettings) (source : Source) (labels : List Label) (reads : List ReadLabel) (end : Option ℕ)
     (placed : List PlacedLabel) → map (read_of labels) reads ≡ in_order labels →
-    All (IsRead s.layout.context_lines source labels) reads → end ≡ cond s.layout.end_labels (told_end reads) None
+    All (IsRead s.layout.context_lines source labels) reads → end ≡ cond s.layout.end_labels (known_end reads) None
     → map placed_of placed ≡ placed_from end s.theme.styles.highlights 0 labels reads →
     map drawn_of placed ≡ drawn_labels (settings_around s (in_order labels)) (length source.bytes) (in_order labels)
 drawn_is s source labels reads end placed order h told e =
@@ -382,7 +382,7 @@ drawn_is s source labels reads end placed order h told e =
 -- they come by offset
 pub placed_rise : (s : SnippetSettings) (source : Source) (labels : List Label) (reads : List ReadLabel)
     (end : Option ℕ) (placed : List PlacedLabel) → map (read_of labels) reads ≡ in_order labels →
-    All (IsRead s.layout.context_lines source labels) reads → end ≡ cond s.layout.end_labels (told_end reads) None
+    All (IsRead s.layout.context_lines source labels) reads → end ≡ cond s.layout.end_labels (known_end reads) None
     → map placed_of placed ≡ placed_from end s.theme.styles.highlights 0 labels reads → AreSorted placed
 placed_rise s source labels reads end placed order h told e =
     placed_sorted (s.layout.end_labels && some_shows_end s.layout.context_lines (length source.bytes)

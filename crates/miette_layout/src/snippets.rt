@@ -2,7 +2,7 @@
 
 ghost use Rattle.std.specs.Prelude.{◌≡◌, Some, None, map, IfOk, MatchResult, if◌then◌else◌};
 ghost use Rattle.std.specs.List.{All};
-ghost use Rattle.miette_labels.specs.views.Placing.{told_end};
+ghost use Rattle.miette_labels.specs.views.Placing.{known_end};
 ghost use Rattle.miette_labels.specs.views.Reads.{IsRead, name_of as name_of_reason};
 ghost use Rattle.miette_layout.specs.views.Outcomes.{GivesAround, MayGive, RefusesWith, printing_of};
 ghost use Rattle.miette_layout.specs.views.SourceEnds.{AreEndLines};
@@ -16,7 +16,7 @@ use miette_drawing::snippet::{Drawing, Snippet, SweepPosition, push_snippet};
 use miette_folds::spreads::spreads;
 use miette_frames::frame::{Frame, push_refused_row};
 use miette_highlight::highlight::Highlighter;
-use miette_labels::drawn_labels::{placed_labels, told_end};
+use miette_labels::drawn_labels::{known_end, placed_labels};
 use miette_labels::grouping::groups;
 use miette_labels::order::by_offset;
 use miette_labels::primary::{near, place_of};
@@ -42,12 +42,12 @@ fn name_of(refusal: RefusalReason) -> &'static str
 
 // Where the source ends, if that is wanted and the labels' reads tell.
 fn end_wanted(wanted: bool, reads: &[ReadLabel<'_>]) -> Result<Option<usize>, AllocError>
-    ensures { IfOk result (λ end. end ≡ (if wanted then told_end reads.now else None)) }
+    ensures { IfOk result (λ end. end ≡ (if wanted then known_end reads.now else None)) }
 {
     if !wanted {
         return Ok(None);
     }
-    told_end(reads)
+    known_end(reads)
 }
 
 // Labels, and what was read of each, by offset.

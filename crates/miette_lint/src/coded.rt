@@ -53,8 +53,8 @@ fn push_coded(
 
 // `trailing-blanks`, where blanks end the text, which ends there
 fn push_trailing(
-    alloc: Global,
     found: &mut Vec<CodedFinding>,
+    alloc: Global,
     text: &[u8],
     end: usize,
 ) -> Result<(), AllocError>
@@ -63,16 +63,16 @@ fn push_trailing(
         ≡ map coded_of found.old.items ++ coded_trailing end text.now) }
 {
     let mut labels = Vec::new(alloc);
-    findings::push_trailing(alloc, &mut labels, text, end)?;
+    findings::push_trailing(&mut labels, alloc, text, end)?;
     let mut fixes = Vec::new(alloc);
-    proposals::push_trailing(alloc, &mut fixes, text, end)?;
+    proposals::push_trailing(&mut fixes, alloc, text, end)?;
     push_coded(found, "trailing-blanks", labels, fixes)
 }
 
 // `tab-after-space`, where the blanks that begin the text have one
 fn push_tab(
-    alloc: Global,
     found: &mut Vec<CodedFinding>,
+    alloc: Global,
     text: &[u8],
     start: usize,
 ) -> Result<(), AllocError>
@@ -81,16 +81,16 @@ fn push_tab(
         ≡ map coded_of found.old.items ++ coded_tab start text.now) }
 {
     let mut labels = Vec::new(alloc);
-    findings::push_tab(alloc, &mut labels, text, start)?;
+    findings::push_tab(&mut labels, alloc, text, start)?;
     let mut fixes = Vec::new(alloc);
-    proposals::push_blanks(alloc, &mut fixes, beginning_blanks(trimmed(text)), start)?;
+    proposals::push_blanks(&mut fixes, alloc, beginning_blanks(trimmed(text)), start)?;
     push_coded(found, "tab-after-space", labels, fixes)
 }
 
 // `wide-line`, where the text has more columns
 fn push_overlong(
-    alloc: Global,
     found: &mut Vec<CodedFinding>,
+    alloc: Global,
     text: &[u8],
     line: LineOfText,
     width: usize,
@@ -100,14 +100,14 @@ fn push_overlong(
         ++ coded_overlong width line.text_end (cells_of line.start text.now)) }
 {
     let mut labels = Vec::new(alloc);
-    findings::push_overlong(alloc, &mut labels, text, line, width)?;
+    findings::push_overlong(&mut labels, alloc, text, line, width)?;
     push_coded(found, "wide-line", labels, Vec::new(alloc))
 }
 
 // `final-terminator`, of a line that has none
 fn push_unended(
-    alloc: Global,
     found: &mut Vec<CodedFinding>,
+    alloc: Global,
     text: &[u8],
     line: LineOfText,
     ending: &str,
@@ -117,16 +117,16 @@ fn push_unended(
         ++ coded_ending ending.now (line_of_text line) (cells_of line.start text.now)) }
 {
     let mut labels = Vec::new(alloc);
-    findings::push_unended(alloc, &mut labels, text, line)?;
+    findings::push_unended(&mut labels, alloc, text, line)?;
     let mut fixes = Vec::new(alloc);
-    proposals::push_ending(alloc, &mut fixes, line, ending)?;
+    proposals::push_ending(&mut fixes, alloc, line, ending)?;
     push_coded(found, "final-terminator", labels, fixes)
 }
 
 // All that is found in a line.
 fn push_line(
-    alloc: Global,
     found: &mut Vec<CodedFinding>,
+    alloc: Global,
     source: &[u8],
     line: LineOfText,
     rules: LineRules,
@@ -137,10 +137,10 @@ fn push_line(
         ++ line_coded source.now rules.width rules.ending.now (line_of_text line)) }
 {
     let text = &source[line.start..line.text_end];
-    push_trailing(alloc, found, text, line.text_end)?;
-    push_tab(alloc, found, text, line.start)?;
-    push_overlong(alloc, found, text, line, rules.width)?;
-    push_unended(alloc, found, text, line, rules.ending)
+    push_trailing(found, alloc, text, line.text_end)?;
+    push_tab(found, alloc, text, line.start)?;
+    push_overlong(found, alloc, text, line, rules.width)?;
+    push_unended(found, alloc, text, line, rules.ending)
 }
 
 /// All that `lint` finds in a source, in the order of `findings`, each with its code and with what is proposed for it.
@@ -160,7 +160,7 @@ pub fn coded_findings(
     };
     let mut found = Vec::new(alloc);
     for line in Lines::new(source, 0) {
-        push_line(alloc, &mut found, source, line, rules)?;
+        push_line(&mut found, alloc, source, line, rules)?;
     }
     Ok(found)
 }

@@ -63,8 +63,8 @@ fn push_finding(
 
 // The same, with a copy of the text.
 fn push_words(
-    alloc: Global,
     found: &mut Vec<LabeledSpan>,
+    alloc: Global,
     text: &str,
     at: Range<usize>,
 ) -> Result<(), AllocError>
@@ -76,8 +76,8 @@ fn push_words(
 
 /// `trailing blanks`, where blanks end the text, which ends there
 pub(crate) fn push_trailing(
-    alloc: Global,
     found: &mut Vec<LabeledSpan>,
+    alloc: Global,
     text: &[u8],
     end: usize,
 ) -> Result<(), AllocError>
@@ -88,13 +88,13 @@ pub(crate) fn push_trailing(
     if blanks == 0 {
         return Ok(());
     }
-    push_words(alloc, found, "trailing blanks", end - blanks..end)
+    push_words(found, alloc, "trailing blanks", end - blanks..end)
 }
 
 /// `tab after space`, where the blanks that begin the text have one
 pub(crate) fn push_tab(
-    alloc: Global,
     found: &mut Vec<LabeledSpan>,
+    alloc: Global,
     text: &[u8],
     start: usize,
 ) -> Result<(), AllocError>
@@ -102,7 +102,7 @@ pub(crate) fn push_tab(
     ensures { OnOk result (found.new.items ≡ found.old.items ++ misplaced_tab start text.now) }
 {
     match tab_after_space(beginning_blanks(text)) {
-        Some(at) => push_words(alloc, found, "tab after space", start + at..start + at + 1),
+        Some(at) => push_words(found, alloc, "tab after space", start + at..start + at + 1),
         None => Ok(()),
     }
 }
@@ -119,8 +119,8 @@ fn wide_text(alloc: Global, width: usize) -> Result<String, AllocError>
 
 /// `wider than 80 columns`, from the first character that goes past the width to the end of the line's text
 pub(crate) fn push_overlong(
-    alloc: Global,
     found: &mut Vec<LabeledSpan>,
+    alloc: Global,
     text: &[u8],
     line: LineOfText,
     width: usize,
@@ -140,8 +140,8 @@ pub(crate) fn push_overlong(
 
 /// `no final terminator`, on the last character of a line that has none
 pub(crate) fn push_unended(
-    alloc: Global,
     found: &mut Vec<LabeledSpan>,
+    alloc: Global,
     text: &[u8],
     line: LineOfText,
 ) -> Result<(), AllocError>
@@ -153,15 +153,15 @@ pub(crate) fn push_unended(
         return Ok(());
     }
     match last_cell(text, line.start)? {
-        Some(cell) => push_words(alloc, found, "no final terminator", cell.start..cell.after),
+        Some(cell) => push_words(found, alloc, "no final terminator", cell.start..cell.after),
         None => Ok(()),
     }
 }
 
 // All that is found in a line.
 fn push_line(
-    alloc: Global,
     found: &mut Vec<LabeledSpan>,
+    alloc: Global,
     source: &[u8],
     line: LineOfText,
     width: usize,
@@ -171,10 +171,10 @@ fn push_line(
     ensures { OnOk result (found.new.items ≡ found.old.items ++ line_findings source.now width (line_of_text line)) }
 {
     let text = &source[line.start..line.text_end];
-    push_trailing(alloc, found, text, line.text_end)?;
-    push_tab(alloc, found, text, line.start)?;
-    push_overlong(alloc, found, text, line, width)?;
-    push_unended(alloc, found, text, line)
+    push_trailing(found, alloc, text, line.text_end)?;
+    push_tab(found, alloc, text, line.start)?;
+    push_overlong(found, alloc, text, line, width)?;
+    push_unended(found, alloc, text, line)
 }
 
 /// All that `lint` finds in a source, in order: a label for each finding.
@@ -188,7 +188,7 @@ pub fn findings(alloc: Global, source: &[u8], width: usize) -> Result<Vec<Labele
 {
     let mut found = Vec::new(alloc);
     for line in Lines::new(source, 0) {
-        push_line(alloc, &mut found, source, line, width)?;
+        push_line(&mut found, alloc, source, line, width)?;
     }
     Ok(found)
 }

@@ -19,7 +19,7 @@ pub(crate) fn trimmed(text: &[u8]) -> &[u8]
 }
 
 // One more text, with even blanks at its beginning.
-fn push_evened(alloc: Global, fixed: &mut Vec<u8>, text: &[u8]) -> Result<(), AllocError>
+fn push_evened(fixed: &mut Vec<u8>, alloc: Global, text: &[u8]) -> Result<(), AllocError>
     ensures { OnOk result (fixed.new.items ≡ fixed.old.items ++ evened text.now) }
 {
     let (blanks, rest) = text.split_at(beginning_count(text));
@@ -36,8 +36,8 @@ fn push_evened(alloc: Global, fixed: &mut Vec<u8>, text: &[u8]) -> Result<(), Al
 
 // One more line.
 fn push_line(
-    alloc: Global,
     fixed: &mut Vec<u8>,
+    alloc: Global,
     source: &[u8],
     line: LineOfText,
     ending: &str,
@@ -48,7 +48,7 @@ fn push_line(
     ensures { OnOk result (fixed.new.items ≡ fixed.old.items
         ++ fixed_line source.now ending.now (line_of_text line)) }
 {
-    push_evened(alloc, fixed, trimmed(&source[line.start..line.text_end]))?;
+    push_evened(fixed, alloc, trimmed(&source[line.start..line.text_end]))?;
     if line.text_end < line.end {
         fixed.extend_from_slice(&source[line.text_end..line.end])?;
     } else {
@@ -71,7 +71,7 @@ pub fn fixed(alloc: Global, source: &[u8]) -> Result<Vec<u8>, AllocError>
     let ending = ending_of(source);
     let mut fixed = Vec::with_capacity(alloc, source.len())?;
     for line in Lines::new(source, 0) {
-        push_line(alloc, &mut fixed, source, line, ending)?;
+        push_line(&mut fixed, alloc, source, line, ending)?;
     }
     Ok(fixed)
 }

@@ -16,8 +16,8 @@ use std::ops::Range;
 
 // One more fix, which has a text in place of bytes of the source.
 fn push_fix(
-    alloc: Global,
     fixes: &mut Vec<Fix>,
+    alloc: Global,
     message: &str,
     at: Range<usize>,
     text: String,
@@ -35,8 +35,8 @@ fn push_fix(
 
 /// Even blanks, where those that begin the text have a tab after a space.
 pub(crate) fn push_blanks(
-    alloc: Global,
     fixes: &mut Vec<Fix>,
+    alloc: Global,
     blanks: &[u8],
     start: usize,
 ) -> Result<(), AllocError>
@@ -47,8 +47,8 @@ pub(crate) fn push_blanks(
         Some(_) => {
             let spaces = spaces_for(alloc, blanks)?;
             push_fix(
-                alloc,
                 fixes,
+                alloc,
                 "indent by spaces",
                 start..start + blanks.len(),
                 spaces,
@@ -60,8 +60,8 @@ pub(crate) fn push_blanks(
 
 /// No blanks at the end of the text, which ends there.
 pub(crate) fn push_trailing(
-    alloc: Global,
     fixes: &mut Vec<Fix>,
+    alloc: Global,
     text: &[u8],
     end: usize,
 ) -> Result<(), AllocError>
@@ -73,8 +73,8 @@ pub(crate) fn push_trailing(
         return Ok(());
     }
     push_fix(
-        alloc,
         fixes,
+        alloc,
         "delete trailing blanks",
         end - blanks..end,
         String::new(alloc),
@@ -83,8 +83,8 @@ pub(crate) fn push_trailing(
 
 /// A terminator, where the line has none.
 pub(crate) fn push_ending(
-    alloc: Global,
     fixes: &mut Vec<Fix>,
+    alloc: Global,
     line: LineOfText,
     ending: &str,
 ) -> Result<(), AllocError>
@@ -94,13 +94,13 @@ pub(crate) fn push_ending(
         return Ok(());
     }
     let text = String::from_str(alloc, ending)?;
-    push_fix(alloc, fixes, "end the last line", line.end..line.end, text)
+    push_fix(fixes, alloc, "end the last line", line.end..line.end, text)
 }
 
 // All that is proposed for a line.
 fn push_line(
-    alloc: Global,
     fixes: &mut Vec<Fix>,
+    alloc: Global,
     source: &[u8],
     line: LineOfText,
     ending: &str,
@@ -111,9 +111,9 @@ fn push_line(
         ++ line_fixes source.now ending.now (line_of_text line)) }
 {
     let text = &source[line.start..line.text_end];
-    push_blanks(alloc, fixes, beginning_blanks(trimmed(text)), line.start)?;
-    push_trailing(alloc, fixes, text, line.text_end)?;
-    push_ending(alloc, fixes, line, ending)
+    push_blanks(fixes, alloc, beginning_blanks(trimmed(text)), line.start)?;
+    push_trailing(fixes, alloc, text, line.text_end)?;
+    push_ending(fixes, alloc, line, ending)
 }
 
 /// All that `lint` proposes for a source, by offset: fixes of one edit, which may be applied without a look. None
@@ -127,7 +127,7 @@ pub fn proposals(alloc: Global, source: &[u8]) -> Result<Vec<Fix>, AllocError>
     let ending = ending_of(source);
     let mut fixes = Vec::new(alloc);
     for line in Lines::new(source, 0) {
-        push_line(alloc, &mut fixes, source, line, ending)?;
+        push_line(&mut fixes, alloc, source, line, ending)?;
     }
     Ok(fixes)
 }

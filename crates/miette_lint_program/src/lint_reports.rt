@@ -79,8 +79,8 @@ pub(crate) fn reports_over<D: Diagnostic, S: SourceCode>(
 
 // The commands of reports whose sources always read, one after the other.
 fn push_commands<D: Diagnostic, S: SourceCode>(
-    reports: &[Report<D, S>],
     text: &mut String,
+    reports: &[Report<D, S>],
 ) -> Result<(), RenderError>
     requires reads { AllAlwaysRead (trees (map (tree_of D.meaning S.source) reports.now)) }
     ensures ok { OnOk result (string_bytes text.new ≡ string_bytes text.old
@@ -115,6 +115,6 @@ pub(crate) fn commands_over(
         Err(_) => return Err(RenderError::Memory),
     };
     let mut text = String::new(alloc);
-    push_commands(reports.as_slice(), &mut text)?;
+    push_commands(&mut text, reports.as_slice())?;
     Ok(text)
 }

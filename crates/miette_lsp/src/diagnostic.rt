@@ -93,9 +93,9 @@ fn related_value(
 
 // Appends a text at a place.
 fn push_at(
+    list: &mut Vec<Value>,
     alloc: Global,
     artifacts: &Artifacts,
-    list: &mut Vec<Value>,
     place: Place<'_>,
     text: &str,
 ) -> Result<(), AllocError>
@@ -110,25 +110,25 @@ fn push_at(
 
 // Appends a text at a place, where there is one.
 fn push_placed(
+    list: &mut Vec<Value>,
     alloc: Global,
     artifacts: &Artifacts,
-    list: &mut Vec<Value>,
     mark: &Mark<'_>,
 ) -> Result<(), AllocError>
     ensures { OnOk result (values_of list.new.items ≡ values_of list.old.items
         ++ placed (artifacts_view artifacts.now).untitled (option_map place_of mark.now.place) mark.now.text.now) }
 {
     match mark.place {
-        Some(place) => push_at(alloc, artifacts, list, place, mark.text),
+        Some(place) => push_at(list, alloc, artifacts, place, mark.text),
         None => Ok(()),
     }
 }
 
 // Appends a label that has a place and a text.
 fn push_related(
+    list: &mut Vec<Value>,
     alloc: Global,
     artifacts: &Artifacts,
-    list: &mut Vec<Value>,
     mark: &Mark<'_>,
 ) -> Result<(), AllocError>
     ensures { OnOk result (values_of list.new.items ≡ values_of list.old.items
@@ -137,21 +137,21 @@ fn push_related(
     if mark.text.is_empty() {
         return Ok(());
     }
-    push_placed(alloc, artifacts, list, mark)
+    push_placed(list, alloc, artifacts, mark)
 }
 
 // Appends the labels that have a place and a text.
 fn push_all_related(
+    list: &mut Vec<Value>,
     alloc: Global,
     artifacts: &Artifacts,
-    list: &mut Vec<Value>,
     marks: &[Mark<'_>],
 ) -> Result<(), AllocError>
     ensures { OnOk result (values_of list.new.items ≡ values_of list.old.items
         ++ related_of (artifacts_view artifacts.now).untitled (map mark_of marks.now)) }
 {
     for mark in marks {
-        push_related(alloc, artifacts, list, mark)?;
+        push_related(list, alloc, artifacts, mark)?;
     }
     Ok(())
 }
@@ -166,7 +166,7 @@ fn related_values(
         ≡ related_of (artifacts_view artifacts.now).untitled (map mark_of marks.now)) }
 {
     let mut list = Vec::new(alloc);
-    push_all_related(alloc, artifacts, &mut list, marks)?;
+    push_all_related(&mut list, alloc, artifacts, marks)?;
     Ok(list)
 }
 

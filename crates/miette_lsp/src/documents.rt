@@ -65,7 +65,7 @@ fn place_of_uri(uris: &mut IndexSet<String>, uri: String) -> Result<(usize, bool
 }
 
 // Appends an empty list for a uri that is new.
-fn begin_list(alloc: Global, lists: &mut Vec<Vec<Value>>, is_new: bool) -> Result<(), AllocError>
+fn begin_list(lists: &mut Vec<Vec<Value>>, alloc: Global, is_new: bool) -> Result<(), AllocError>
     ensures { OnOk result (map (λ list. values_of list.items) lists.new.items
         ≡ (if is_new then map (λ list. values_of list.items) lists.old.items ++ [] ∷ []
         else map (λ list. values_of list.items) lists.old.items)) }
@@ -103,7 +103,7 @@ impl Grouped {
         ensures { OnOk result (IsPut (string_bytes uri) (json_of value) (lists_of self.old) (lists_of self.new)) }
     {
         let (at, is_new) = place_of_uri(&mut self.uris, uri)?;
-        begin_list(alloc, &mut self.lists, is_new)?;
+        begin_list(&mut self.lists, alloc, is_new)?;
         push_to(&mut self.lists, at, value)
     }
 

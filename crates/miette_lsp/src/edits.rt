@@ -29,8 +29,8 @@ fn text_edit(alloc: Global, item: &Replacement) -> Result<Value, AllocError>
 
 // Appends the edits of a fix.
 fn push_edits(
-    alloc: Global,
     values: &mut Vec<Value>,
+    alloc: Global,
     list: &[Replacement],
 ) -> Result<(), AllocError>
     ensures { OnOk result (values_of values.new.items
@@ -51,7 +51,7 @@ pub fn edit_values(alloc: Global, list: &[Replacement]) -> Result<Vec<Value>, Al
     ensures { IfOk result (λ values. values_of values.items ≡ map text_edit (map replaced_of list.now)) }
 {
     let mut values = Vec::with_capacity(alloc, list.len())?;
-    push_edits(alloc, &mut values, list)?;
+    push_edits(&mut values, alloc, list)?;
     Ok(values)
 }
 
@@ -91,9 +91,9 @@ fn fix_value(alloc: Global, artifacts: &Artifacts, fix: &Proposal<'_>) -> Result
 
 // Appends fixes, of equal ones the first.
 fn push_fixes(
-    alloc: Global,
     list: &mut Vec<Value>,
     spelled: &mut IndexSet<String>,
+    alloc: Global,
     artifacts: &Artifacts,
     fixes: &[Proposal<'_>],
 ) -> Result<(), AllocError>
@@ -103,7 +103,7 @@ fn push_fixes(
 {
     for fix in fixes {
         let value = fix_value(alloc, artifacts, fix)?;
-        push_first(alloc, list, spelled, value)?;
+        push_first(list, spelled, alloc, value)?;
     }
     Ok(())
 }
@@ -119,6 +119,6 @@ pub(crate) fn fix_values(
 {
     let mut list = Vec::new(alloc);
     let mut spelled = IndexSet::new(alloc);
-    push_fixes(alloc, &mut list, &mut spelled, artifacts, fixes)?;
+    push_fixes(&mut list, &mut spelled, alloc, artifacts, fixes)?;
     Ok(list)
 }

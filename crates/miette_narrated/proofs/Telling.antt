@@ -119,21 +119,21 @@ whole_joined start a b q r new hd ca be re ft s e f g h i =
 
 pub whole_told : (s : NarrationSettings) (t : Tree) (source : Option Source) (related : Trees)
     (start a b q r new : List ℕ) → source ≡ effective (source_of t) None → related ≡ related_of t → start ≡ []
-    → a ≡ start ++ head_rows (head t) → b ≡ a ++ causes_if s.chain (causes_of (cause_of t))
-    → AppendsBelow s.context source (head t) b q → AppendsRelated s.context source related q r
+    → a ≡ start ++ head_rows (head t) → b ≡ a ++ causes_if s.cause_chain (causes_of (cause_of t))
+    → AppendsBelow s.context_lines source (head t) b q → AppendsRelated s.context_lines source related q r
     → new ≡ r ++ row_if [] s.footer → IsNarrated s t new
 whole_told s (tree m own c rs) source related start a b q r new es er empty e f below others i =
     let eff = effective own None in
-    let here : AppendsBelow s.context eff m b q = subst (λ o. AppendsBelow s.context o m b q) es below in
-    let there : AppendsRelated s.context eff rs q r = subst (λ ts. AppendsRelated s.context eff ts q r) er
-    (subst (λ o. AppendsRelated s.context o related q r) es others) in
-    let text : Option Source → List ℕ = λ o. head_rows m ++ (causes_if s.chain (causes_of c)
-    ++ (rows_below s.context o here.answers m
-    ++ ((blank_before rs ++ related_reports s.context o there.answers rs) ++ row_if [] s.footer))) in
+    let here : AppendsBelow s.context_lines eff m b q = subst (λ o. AppendsBelow s.context_lines o m b q) es below in
+    let there : AppendsRelated s.context_lines eff rs q r = subst (λ ts. AppendsRelated s.context_lines eff ts q r) er
+    (subst (λ o. AppendsRelated s.context_lines o related q r) es others) in
+    let text : Option Source → List ℕ = λ o. head_rows m ++ (causes_if s.cause_chain (causes_of c)
+    ++ (rows_below s.context_lines o here.answers m
+    ++ ((blank_before rs ++ related_reports s.context_lines o there.answers rs) ++ row_if [] s.footer))) in
     let made : new ≡ text eff =
-    whole_joined start a b q r new (head_rows m) (causes_if s.chain (causes_of c))
-    (rows_below s.context eff here.answers m)
-    (blank_before rs ++ related_reports s.context eff there.answers rs) (row_if [] s.footer)
+    whole_joined start a b q r new (head_rows m) (causes_if s.cause_chain (causes_of c))
+    (rows_below s.context_lines eff here.answers m)
+    (blank_before rs ++ related_reports s.context_lines eff there.answers rs) (row_if [] s.footer)
     empty e f here.appended there.appended i in
     record {
       answers = listed here.answers unlisted there.answers;
@@ -203,17 +203,17 @@ same_whole : (s : NarrationSettings) (t : Tree) (a : Answers) → AreAnswers Non
 same_whole s (tree m own c r) a h e f =
     let p = own_holds always_reads m own None c r e in
     let q = and_parts (reads_for (effective own None) m.fixes) (all_fixes_below (effective own None) r) f in
-    let g = λ (x y : List ℕ). head_rows m ++ (causes_if s.chain (causes_of c)
+    let g = λ (x y : List ℕ). head_rows m ++ (causes_if s.cause_chain (causes_of c)
     ++ (x ++ ((blank_before r ++ y) ++ row_if [] s.footer))) in
     let e0 = own_none own in
     ap₂ g
-    (ap (λ o. rows_below s.context o (own_answer a) m) (sym e0)
-    ∙ same_below s.context (effective own None) (own_answer a) m h.0 p.0 (further_holds always_reads m own None c r e)
-    q.0
-    ∙ ap (λ o. rows_below s.context o none_failed m) e0)
-    (ap (λ o. related_reports s.context o (related_answers a) r) (sym e0)
-    ∙ same_reports s.context (effective own None) (related_answers a) r h.1 p.1 q.1
-    ∙ ap (λ o. related_reports s.context o no_more r) e0)
+    (ap (λ o. rows_below s.context_lines o (own_answer a) m) (sym e0)
+    ∙ same_below s.context_lines (effective own None) (own_answer a) m h.0 p.0
+    (further_holds always_reads m own None c r e) q.0
+    ∙ ap (λ o. rows_below s.context_lines o none_failed m) e0)
+    (ap (λ o. related_reports s.context_lines o (related_answers a) r) (sym e0)
+    ∙ same_reports s.context_lines (effective own None) (related_answers a) r h.1 p.1 q.1
+    ∙ ap (λ o. related_reports s.context_lines o no_more r) e0)
 
 pub appended_only : (s : NarrationSettings) (t : Tree) (text old new : List ℕ) → IsNarrated s t text → new ≡ old ++ text
     → report_reads t ≡ true → fixes_read t ≡ true → new ≡ old ++ narration s t unlisted

@@ -35,8 +35,8 @@ impl Model for NarratableReportHandler {
     ghost Value = { NarrationSettings };
 
     ghost view = { λ it. record {
-      chain = it.cause_chain;
-      context = it.context_lines;
+      cause_chain = it.cause_chain;
+      context_lines = it.context_lines;
       footer = option_map string_bytes it.footer;
     } };
 }
@@ -81,20 +81,20 @@ impl NarratableReportHandler {
 
     /// The causes of the report are told.
     pub fn with_cause_chain(self) -> Self
-        ensures { result ≡ record self { chain = true } }
+        ensures { result ≡ record self { cause_chain = true } }
     {
         self.telling_causes(true)
     }
 
     /// The causes of the report are not told; those of related reports are.
     pub fn without_cause_chain(self) -> Self
-        ensures { result ≡ record self { chain = false } }
+        ensures { result ≡ record self { cause_chain = false } }
     {
         self.telling_causes(false)
     }
 
     fn telling_causes(self, cause_chain: bool) -> Self
-        ensures { result ≡ record self { chain = cause_chain } }
+        ensures { result ≡ record self { cause_chain = cause_chain } }
     {
         NarratableReportHandler {
             cause_chain,
@@ -114,7 +114,7 @@ impl NarratableReportHandler {
 
     /// How many lines of context are told around a label that has no number of its own.
     pub fn with_context_lines(self, lines: usize) -> Self
-        ensures { result ≡ record self { context = lines } }
+        ensures { result ≡ record self { context_lines = lines } }
     {
         NarratableReportHandler {
             context_lines: lines,

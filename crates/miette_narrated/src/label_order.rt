@@ -57,7 +57,7 @@ pub(crate) fn by_end<'a>(
 }
 
 // Of labels by where they end those that end within a line's text, found by halving.
-fn ending<'a>(ends: &'a [RankedLabel<'a>], line: &LineOfText) -> &'a [RankedLabel<'a>]
+fn labels_ending_on<'a>(ends: &'a [RankedLabel<'a>], line: &LineOfText) -> &'a [RankedLabel<'a>]
     requires { IsNonDecreasingBy (λ end. end.label.after) ends.now }
     ensures { result.now ≡ filter (λ end. ends_within (line_of_text line.now) end.label) ends.now }
 {
@@ -93,7 +93,7 @@ pub(crate) fn ended_on<'a>(
     ensures { IfOk result (λ v. without_ranks v.items
         ≡ filter (is_ended (line_of_text line.now)) order.now.placed.now) }
 {
-    let mut ended = begun_before(alloc, ending(order.ends, line), line.start)?;
+    let mut ended = begun_before(alloc, labels_ending_on(order.ends, line), line.start)?;
     ended.sort_by_key(|end| end.rank)?;
     Ok(ended)
 }

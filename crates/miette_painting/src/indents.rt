@@ -4,7 +4,7 @@ ghost use Rattle.std.specs.Prelude.{◌≡◌, ◌++◌, ◌∷◌, [], ◌-◌,
 ghost use Rattle.miette_picture_rules.specs.rules.DiagnosticText as parts;
 ghost use Rattle.miette_picture_rules.specs.rules.Indents as indents;
 ghost use Rattle.miette_picture_rules.specs.rules.Settings.{severity_style};
-ghost use Rattle.miette_painting.specs.steps.TextKinds.{first_indent, further_indent};
+ghost use Rattle.miette_painting.specs.steps.TextKinds.{initial_indent, subsequent_indent};
 ghost use Rattle.miette_painting.specs.views.Painting.{PrintsOnly, settings_of};
 ghost use Rattle.miette_runs.specs.rules.Cells.{columns_of};
 ghost use Rattle.miette_runs.specs.rules.Runs.{Styled, print};
@@ -242,8 +242,8 @@ fn blank_indent(alloc: Global, spaces: &[char]) -> Result<Runs, AllocError>
 }
 
 // What stands in front of a text's first row.
-fn first_indent<H>(painter: &Painter<'_, H>, kind: TextKind) -> Result<Runs, AllocError>
-    ensures { IfOk result (λ r. spell r ≡ print (first_indent (settings_of painter.now) kind)) }
+fn initial_indent<H>(painter: &Painter<'_, H>, kind: TextKind) -> Result<Runs, AllocError>
+    ensures { IfOk result (λ r. spell r ≡ print (initial_indent (settings_of painter.now) kind)) }
 {
     match kind {
         TextKind::Message(severity) => icon_indent(painter, severity),
@@ -255,8 +255,8 @@ fn first_indent<H>(painter: &Painter<'_, H>, kind: TextKind) -> Result<Runs, All
 }
 
 // What stands in front of its other rows.
-fn further_indent<H>(painter: &Painter<'_, H>, kind: TextKind) -> Result<Runs, AllocError>
-    ensures { IfOk result (λ r. spell r ≡ print (further_indent (settings_of painter.now) kind)) }
+fn subsequent_indent<H>(painter: &Painter<'_, H>, kind: TextKind) -> Result<Runs, AllocError>
+    ensures { IfOk result (λ r. spell r ≡ print (subsequent_indent (settings_of painter.now) kind)) }
 {
     match kind {
         TextKind::Message(severity) => bar_indent(painter, severity),
@@ -274,13 +274,13 @@ fn push_rows<H>(
     first: &Runs,
     text: &str,
 ) -> Result<(), AllocError>
-    requires { spell first.now ≡ print (first_indent (settings_of painter.old) kind) }
+    requires { spell first.now ≡ print (initial_indent (settings_of painter.old) kind) }
     ensures text { OnOk result (painter.new.out ≡ painter.old.out ++ (indents.wrapped_under (settings_of painter.old)
-        (first_indent (settings_of painter.old) kind) (further_indent (settings_of painter.old) kind)
+        (initial_indent (settings_of painter.old) kind) (subsequent_indent (settings_of painter.old) kind)
         (chars text.now) ++ parts.line_feed)) }
     ensures stays { PrintsOnly painter.old painter.new }
 {
-    let further = further_indent(painter, kind)?;
+    let further = subsequent_indent(painter, kind)?;
     let under = plan(painter, first, &further);
     push_wrapped_text(&mut painter.out, painter.alloc, under, text)
 }
@@ -292,11 +292,11 @@ pub fn push_text<H>(
     text: &str,
 ) -> Result<(), AllocError>
     ensures text { OnOk result (painter.new.out ≡ painter.old.out ++ (indents.wrapped_under (settings_of painter.old)
-        (first_indent (settings_of painter.old) kind) (further_indent (settings_of painter.old) kind)
+        (initial_indent (settings_of painter.old) kind) (subsequent_indent (settings_of painter.old) kind)
         (chars text.now) ++ parts.line_feed)) }
     ensures stays { PrintsOnly painter.old painter.new }
 {
-    let first = first_indent(painter, kind)?;
+    let first = initial_indent(painter, kind)?;
     if push_row(painter, &first, text)? {
         return Ok(());
     }

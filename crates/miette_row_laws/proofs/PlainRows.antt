@@ -255,12 +255,12 @@ module _ (P : Type 0) where
     plain_mark_runs reached (mark ∷ marks) = plain_cons (plain_blank s (mark.from - reached))
         (plain_cons (plain_mark_run mark) (plain_mark_runs mark.until marks))
 
-    plain_leads : (reached : ℕ) (marks : List Mark) (column : ℕ)
+    plain_leaders : (reached : ℕ) (marks : List Mark) (column : ℕ)
         → PlainRow P (lead_runs s reached (map plain_mark marks) column)
         (lead_runs s reached marks column)
-    plain_leads reached [] column = plain_cons (plain_blank s (column - reached)) plain_nil
-    plain_leads reached (mark ∷ marks) column = plain_cons (plain_blank s (mark.anchor - reached))
-        (plain_cons (vbar_run mark.label.style) (plain_leads (mark.anchor + 1) marks column))
+    plain_leaders reached [] column = plain_cons (plain_blank s (column - reached)) plain_nil
+    plain_leaders reached (mark ∷ marks) column = plain_cons (plain_blank s (mark.anchor - reached))
+        (plain_cons (vbar_run mark.label.style) (plain_leaders (mark.anchor + 1) marks column))
 
     -- ---- texts under marks
 
@@ -271,7 +271,7 @@ module _ (P : Type 0) where
         plain_append (lead_runs s 0 (map plain_mark earlier) mark.anchor)
         (lead_runs s 0 earlier mark.anchor) (styled_run s.width plain (front ++ part) ∷ [])
         (styled_run s.width mark.label.style (front ++ part) ∷ [])
-        (plain_leads 0 earlier mark.anchor) (plain_cons (plain_styled s.width mark.label.style (front ++ part)
+        (plain_leaders 0 earlier mark.anchor) (plain_cons (plain_styled s.width mark.label.style (front ++ part)
         (λ p. clean_append front part (h p) (k p))) plain_nil)
 
     four_clean : (a b c : ℕ) → IsCleanCode a → IsCleanCode b → IsCleanCode c → IsClean (a ∷ b ∷ c ∷ 32 ∷ [])

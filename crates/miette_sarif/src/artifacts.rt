@@ -148,8 +148,8 @@ fn uri_of(
 
 // Adds the uris of sources.
 fn insert_uris(
-    alloc: Global,
     uris: &mut IndexSet<String>,
+    alloc: Global,
     untitled: &IndexSet<usize>,
     names: &[Named<'_>],
 ) -> Result<(), AllocError>
@@ -170,7 +170,7 @@ fn artifacts_of(alloc: Global, names: &[Named<'_>]) -> Result<Artifacts, AllocEr
     let mut untitled = IndexSet::new(alloc);
     insert_untitled(&mut untitled, names)?;
     let mut uris = IndexSet::new(alloc);
-    insert_uris(alloc, &mut uris, &untitled, names)?;
+    insert_uris(&mut uris, alloc, &untitled, names)?;
     Ok(Artifacts { untitled, uris })
 }
 

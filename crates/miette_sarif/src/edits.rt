@@ -113,8 +113,8 @@ fn with_edit(draft: Draft, bytes: &[u8], stretch: Stretch, edit: &Edit) -> Resul
 
 // The draft before an edit with this edit, or, where they don't meet, the edit's own: the one before it is done.
 fn next_draft(
-    alloc: Global,
     done: &mut Vec<Draft>,
+    alloc: Global,
     text: &WholeText<'_>,
     before: Draft,
     edit: &Edit,
@@ -133,8 +133,8 @@ fn next_draft(
 
 // Appends the drafts of edits by offset: those that meet are joined.
 fn push_drafts(
-    alloc: Global,
     done: &mut Vec<Draft>,
+    alloc: Global,
     text: &WholeText<'_>,
     first: &Edit,
     rest: &[&Edit],
@@ -144,7 +144,7 @@ fn push_drafts(
 {
     let mut before = begun(alloc, text.bytes(), widened(text, first)?, first)?;
     for edit in rest {
-        before = next_draft(alloc, done, text, before, edit)?;
+        before = next_draft(done, alloc, text, before, edit)?;
     }
     done.push(before)?;
     Ok(())
@@ -158,7 +158,7 @@ fn drafts(alloc: Global, text: &WholeText<'_>, edits: &[&Edit]) -> Result<Vec<Dr
     let Some((first, rest)) = edits.split_first() else {
         return Ok(done);
     };
-    push_drafts(alloc, &mut done, text, first, rest)?;
+    push_drafts(&mut done, alloc, text, first, rest)?;
     Ok(done)
 }
 

@@ -55,8 +55,8 @@ fn listed<'a>(alloc: Global, labels: &'a [LabeledSpan]) -> Result<Vec<&'a Labele
 
 // Appends a group of labels over a source, or over none, by offset.
 fn push_labels<'s, 'a>(
-    alloc: Global,
     groups: &mut Vec<Group<'s, 'a>>,
+    alloc: Global,
     seen: Option<&'s Seen<'a>>,
     labels: &'a [LabeledSpan],
 ) -> Result<(), AllocError>
@@ -81,13 +81,13 @@ fn groups_of<'s, 'a, D: Diagnostic, S: SourceCode>(
 {
     let sections = report.further_snippets();
     let mut groups = Vec::with_capacity(alloc, sections.len())?;
-    push_labels(alloc, &mut groups, seen, labels_of(report))?;
+    push_labels(&mut groups, alloc, seen, labels_of(report))?;
     let mut left = further;
     for section in sections {
         let [seen, rest @ ..] = left else {
             return Ok(groups);
         };
-        push_labels(alloc, &mut groups, Some(seen), section.labels())?;
+        push_labels(&mut groups, alloc, Some(seen), section.labels())?;
         left = rest;
     }
     Ok(groups)
@@ -95,8 +95,8 @@ fn groups_of<'s, 'a, D: Diagnostic, S: SourceCode>(
 
 // Appends what a fix over a source proposes, or its message where it can't be proposed.
 fn push_fix<'a>(
-    alloc: Global,
     collected: &mut Collected<'a>,
+    alloc: Global,
     fix: &'a Fix,
     seen: Option<&Seen<'a>>,
 ) -> Result<(), AllocError>
@@ -112,8 +112,8 @@ fn push_fix<'a>(
 
 // Appends what fixes over a source propose, and the messages of those that can't be proposed.
 fn push_fixes<'a>(
-    alloc: Global,
     collected: &mut Collected<'a>,
+    alloc: Global,
     fixes: &'a [Fix],
     seen: Option<&Seen<'a>>,
 ) -> Result<(), AllocError>
@@ -121,18 +121,18 @@ fn push_fixes<'a>(
         ≡ with_fixes (over_of seen.entry) fixes.now (collected_of collected.old)) }
 {
     for fix in fixes {
-        push_fix(alloc, collected, fix, seen)?;
+        push_fix(collected, alloc, fix, seen)?;
     }
     Ok(())
 }
 
 // Adds the labels and fixes of a report that is a cause, over a source.
 fn push_cause<'a, D: Diagnostic, S: SourceCode>(
+    collected: &mut Collected<'a>,
     alloc: Global,
     cause: &'a Report<D, S>,
     seen: Option<&Seen<'a>>,
     sources: &mut usize,
-    collected: &mut Collected<'a>,
 ) -> Result<(), AllocError>
     ensures added { OnOk result (AddsOver (over_of seen.entry) sources.old
         (head (tree_of D.meaning S.source cause.now)) (collected_of collected.old) (collected_of collected.new)) }
@@ -142,16 +142,16 @@ fn push_cause<'a, D: Diagnostic, S: SourceCode>(
     let further = see_further(alloc, sources, cause.further_snippets())?;
     let groups = groups_of(alloc, cause, seen, &further)?;
     push_groups(&mut collected.marks, groups)?;
-    push_fixes(alloc, collected, cause.fixes(), seen)
+    push_fixes(collected, alloc, cause.fixes(), seen)
 }
 
 // Adds those of a cause over its own source, or else over this one.
 fn push_own_cause<'a, D: Diagnostic, S: SourceCode>(
+    collected: &mut Collected<'a>,
     alloc: Global,
     cause: &'a Report<D, S>,
     seen: Option<&Seen<'a>>,
     sources: &mut usize,
-    collected: &mut Collected<'a>,
 ) -> Result<(), AllocError>
     ensures added { OnOk result (AddsCause (over_of seen.entry) sources.old (tree_of D.meaning S.source cause.now)
         (collected_of collected.old) (collected_of collected.new)) }
@@ -161,16 +161,16 @@ fn push_own_cause<'a, D: Diagnostic, S: SourceCode>(
 {
     let own = see_own(alloc, sources, cause)?;
     let over = own_or(&own, seen);
-    push_cause(alloc, cause, over, sources, collected)
+    push_cause(collected, alloc, cause, over, sources)
 }
 
 // Adds those of the causes of a report over a source, each over its own or else over this one.
 fn push_causes<'a, D: Diagnostic, S: SourceCode>(
+    collected: &mut Collected<'a>,
     alloc: Global,
     report: &'a Report<D, S>,
     seen: Option<&Seen<'a>>,
     sources: &mut usize,
-    collected: &mut Collected<'a>,
 ) -> Result<(), AllocError>
     ensures added { OnOk result (AddsCauses (over_of seen.entry) sources.old
         (cause_of (tree_of D.meaning S.source report.now)) (collected_of collected.old)
@@ -180,7 +180,7 @@ fn push_causes<'a, D: Diagnostic, S: SourceCode>(
 {
     let mut at = report;
     while let Cause::Diagnostic(cause) = at.cause() {
-        push_own_cause(alloc, cause, seen, sources, collected)?;
+        push_own_cause(collected, alloc, cause, seen, sources)?;
         at = cause;
     }
     Ok(())
@@ -188,11 +188,11 @@ fn push_causes<'a, D: Diagnostic, S: SourceCode>(
 
 // Appends the marks of a report over a source, but for its primary one, which it gives.
 fn push_own_marks<'a, D: Diagnostic, S: SourceCode>(
+    marks: &mut Vec<Mark<'a>>,
     alloc: Global,
     report: &'a Report<D, S>,
     seen: Option<&Seen<'a>>,
     sources: &mut usize,
-    marks: &mut Vec<Mark<'a>>,
 ) -> Result<Option<Mark<'a>>, AllocError>
     ensures added { IfOk result (λ primary. AddsMarks (over_of seen.entry) sources.old
         (head (tree_of D.meaning S.source report.now)) (option_map mark_of primary)
@@ -225,9 +225,9 @@ fn finding_of<'a, D: Diagnostic, S: SourceCode>(
         fixes: Vec::new(alloc),
         unapplied: Vec::new(alloc),
     };
-    let primary = push_own_marks(alloc, report, seen, sources, &mut collected.marks)?;
-    push_fixes(alloc, &mut collected, report.fixes(), seen)?;
-    push_causes(alloc, report, seen, sources, &mut collected)?;
+    let primary = push_own_marks(&mut collected.marks, alloc, report, seen, sources)?;
+    push_fixes(&mut collected, alloc, report.fixes(), seen)?;
+    push_causes(&mut collected, alloc, report, seen, sources)?;
     let told = told_of(alloc, report)?;
     let Collected {
         marks,
@@ -246,10 +246,10 @@ fn finding_of<'a, D: Diagnostic, S: SourceCode>(
 // Adds the findings of a report that inherits a source, or none.
 #[cycle(related)]
 fn gather<'a, D: Diagnostic, S: SourceCode>(
+    gathered: &mut Gathered<'a>,
     alloc: Global,
     report: &'a Report<D, S>,
     inherited: Option<&Seen<'a>>,
-    gathered: &mut Gathered<'a>,
 ) -> Result<(), AllocError>
     ensures { OnOk result (Adds (over_of inherited.entry) (tree_of D.meaning S.source report.now)
         (gathered_of gathered.old) (gathered_of gathered.new)) }
@@ -258,23 +258,23 @@ fn gather<'a, D: Diagnostic, S: SourceCode>(
     let seen = own_or(&own, inherited);
     let finding = finding_of(alloc, report, seen, &mut gathered.sources)?;
     gathered.findings.push(finding)?;
-    gather_all(alloc, report.related(), seen, gathered)
+    gather_all(gathered, alloc, report.related(), seen)
 }
 
 // Adds the findings of reports that inherit a source, or none.
 #[cycle(related)]
 fn gather_all<'a, D: Diagnostic, S: SourceCode>(
+    gathered: &mut Gathered<'a>,
     alloc: Global,
     reports: &'a [Report<D, S>],
     inherited: Option<&Seen<'a>>,
-    gathered: &mut Gathered<'a>,
 ) -> Result<(), AllocError>
     ensures { OnOk result (AddsAll (over_of inherited.entry)
         (trees (map (tree_of D.meaning S.source) reports.now))
         (gathered_of gathered.old) (gathered_of gathered.new)) }
 {
     for report in reports {
-        gather(alloc, report, inherited, gathered)?;
+        gather(gathered, alloc, report, inherited)?;
     }
     Ok(())
 }
@@ -291,7 +291,7 @@ pub fn findings_of<'a, D: Diagnostic, S: SourceCode>(
         findings: Vec::new(alloc),
         sources: 0,
     };
-    gather_all(alloc, reports, None, &mut gathered)?;
+    gather_all(&mut gathered, alloc, reports, None)?;
     Ok(gathered.findings)
 }
 
@@ -307,6 +307,6 @@ pub fn findings_in<'a, D: Diagnostic, S: SourceCode>(
         findings: Vec::new(alloc),
         sources: 0,
     };
-    gather(alloc, report, None, &mut gathered)?;
+    gather(&mut gathered, alloc, report, None)?;
     Ok(gathered.findings)
 }

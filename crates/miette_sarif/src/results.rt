@@ -160,8 +160,8 @@ fn fix_text(alloc: Global, artifacts: &Artifacts, fix: &Proposal<'_>) -> Result<
 
 // Adds the texts of fixes, of equal ones the first.
 fn insert_fixes(
-    alloc: Global,
     texts: &mut IndexSet<String>,
+    alloc: Global,
     artifacts: &Artifacts,
     fixes: &[Proposal<'_>],
 ) -> Result<(), AllocError>
@@ -202,16 +202,16 @@ fn push_fixes(
     }
     let alloc = *out.allocator();
     let mut texts = IndexSet::new(alloc);
-    insert_fixes(alloc, &mut texts, artifacts, fixes)?;
+    insert_fixes(&mut texts, alloc, artifacts, fixes)?;
     push_plain(out, ",\"fixes\": [")?;
     push_texts(out, texts.as_slice())
 }
 
 /// Adds a value, where no equal one was before: `spelled` has the texts of those that were.
 pub fn push_first(
-    alloc: Global,
     list: &mut Vec<Value>,
     spelled: &mut IndexSet<String>,
+    alloc: Global,
     value: Value,
 ) -> Result<(), AllocError>
     ensures values { OnOk result (values_of list.new.items

@@ -67,8 +67,8 @@ fn note_codes<'a>(codes: &mut IndexSet<&'a str>, findings: &[Finding<'a>]) -> Re
 
 // Adds the url of a finding with a code, where it is the first absolute one.
 fn note_uri<'a>(
-    alloc: Global,
     uris: &mut IndexMap<&'a str, String>,
+    alloc: Global,
     code: &'a str,
     url: Option<&str>,
 ) -> Result<(), AllocError>
@@ -90,15 +90,15 @@ fn note_uri<'a>(
 
 // Adds the urls of findings, of each code the first absolute one.
 fn note_uris<'a>(
-    alloc: Global,
     uris: &mut IndexMap<&'a str, String>,
+    alloc: Global,
     findings: &[Finding<'a>],
 ) -> Result<(), AllocError>
     ensures { OnOk result ((code : List ℕ) → uri_at uris.new code
         ≡ first_or (uri_at uris.old code) (help_uri code (findings_of findings.now))) }
 {
     for finding in findings {
-        note_uri(alloc, uris, finding.told.code, finding.told.url)?;
+        note_uri(uris, alloc, finding.told.code, finding.told.url)?;
     }
     Ok(())
 }
@@ -110,7 +110,7 @@ pub(crate) fn rules_in<'a>(alloc: Global, findings: &[Finding<'a>]) -> Result<Ru
     let mut codes = IndexSet::new(alloc);
     note_codes(&mut codes, findings)?;
     let mut uris = IndexMap::new(alloc);
-    note_uris(alloc, &mut uris, findings)?;
+    note_uris(&mut uris, alloc, findings)?;
     Ok(Rules { codes, uris })
 }
 

@@ -45,14 +45,15 @@ fn push_color(out: &mut String, color: Option<Color>) -> Result<bool, AllocError
 }
 
 // The code, where it is on, after a `;` where another one stands before it; gives whether any stands there now.
-fn push_flag(out: &mut String, some: bool, on: bool, code: &str) -> Result<bool, AllocError>
-    ensures text { OnOk result (string_bytes out.new ≡ string_bytes out.old ++ further_codes some (flag on code.now)) }
-    ensures some { IfOk result (λ b. b ≡ (some || on)) }
+fn push_flag(out: &mut String, has_code: bool, on: bool, code: &str) -> Result<bool, AllocError>
+    ensures text { OnOk result (string_bytes out.new
+        ≡ string_bytes out.old ++ further_codes has_code (flag on code.now)) }
+    ensures some { IfOk result (λ b. b ≡ (has_code || on)) }
 {
     if !on {
-        return Ok(some);
+        return Ok(has_code);
     }
-    if some {
+    if has_code {
         out.push_str(";")?;
     }
     out.push_str(code)?;
@@ -64,11 +65,11 @@ fn push_each_code(out: &mut String, style: Style) -> Result<(), AllocError>
     ensures { OnOk result (string_bytes out.new ≡ string_bytes out.old ++ colour_start style) }
 {
     out.push_str("\u{1B}[")?;
-    let some = push_color(out, style.fg)?;
-    let some = push_flag(out, some, style.bold, "1")?;
-    let some = push_flag(out, some, style.dimmed, "2")?;
-    let some = push_flag(out, some, style.italic, "3")?;
-    push_flag(out, some, style.underline, "4")?;
+    let has_code = push_color(out, style.fg)?;
+    let has_code = push_flag(out, has_code, style.bold, "1")?;
+    let has_code = push_flag(out, has_code, style.dimmed, "2")?;
+    let has_code = push_flag(out, has_code, style.italic, "3")?;
+    push_flag(out, has_code, style.underline, "4")?;
     out.push_str("m")
 }
 

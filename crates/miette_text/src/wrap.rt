@@ -19,8 +19,8 @@ fn wrapped_text(alloc: Global, options: &WrapOptions<'_>, text: &str) -> Result<
     ensures { IfOk result (λ s. string_bytes s
         ≡ encode_utf8_all (wrapped_text (options_plan options.now) (chars text.now))) }
 {
-    let first = read_text(alloc, options.first_indent)?;
-    let further = read_text(alloc, options.further_indent)?;
+    let first = read_text(alloc, options.initial_indent)?;
+    let further = read_text(alloc, options.subsequent_indent)?;
     let hyphens = cuts_hyphens(options.splitter);
     let plan = Plan {
         wraps: options.wrap_lines,

@@ -29,9 +29,9 @@ pub struct WrapOptions<'a> {
     /// The columns of a row, its indent among them.
     pub width: usize,
     /// What stands before the first row.
-    pub first_indent: &'a str,
+    pub initial_indent: &'a str,
     /// What stands before each other row.
-    pub further_indent: &'a str,
+    pub subsequent_indent: &'a str,
     /// Whether words that are wider than a row are cut.
     pub break_words: bool,
     /// Whether rows are filled; without, each line stays whole under its indent.

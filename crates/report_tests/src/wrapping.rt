@@ -11,8 +11,8 @@ use std::process::Abort;
 /// Without indents; words are cut after hyphens and where they are too wide.
 const PLAIN: WrapOptions<'static> = WrapOptions {
     width: 80,
-    first_indent: "",
-    further_indent: "",
+    initial_indent: "",
+    subsequent_indent: "",
     break_words: true,
     wrap_lines: true,
     separator: WordSeparator::AsciiSpace,
@@ -21,8 +21,8 @@ const PLAIN: WrapOptions<'static> = WrapOptions {
 
 /// Under indents.
 const INDENTED: WrapOptions<'static> = WrapOptions {
-    first_indent: "> ",
-    further_indent: ". ",
+    initial_indent: "> ",
+    subsequent_indent: ". ",
     ..PLAIN
 };
 
@@ -37,8 +37,8 @@ const WHOLE: WrapOptions<'static> = WrapOptions {
 };
 
 const UNDER_SIGNS: WrapOptions<'static> = WrapOptions {
-    first_indent: "  \u{1B}[31m×\u{1B}[0m ",
-    further_indent: "  | ",
+    initial_indent: "  \u{1B}[31m×\u{1B}[0m ",
+    subsequent_indent: "  | ",
     ..PLAIN
 };
 
@@ -49,8 +49,8 @@ const BY_UNICODE: WrapOptions<'static> = WrapOptions {
 };
 
 const WHOLE_UNDER_SIGNS: WrapOptions<'static> = WrapOptions {
-    first_indent: "|\u{1B}[31m \u{1B}[0m ",
-    further_indent: ". ",
+    initial_indent: "|\u{1B}[31m \u{1B}[0m ",
+    subsequent_indent: ". ",
     wrap_lines: false,
     ..PLAIN
 };

@@ -75,11 +75,11 @@ picture_settings o t =
 
 -- how reports are narrated
 abbrev pub narration_settings : {H : Type 0} → Options H → narrated.NarrationSettings
-narration_settings o = record { chain = o.cause_chain; context = o.layout.context_lines; footer = o.footer }
+narration_settings o = record { cause_chain = o.cause_chain; context_lines = o.layout.context_lines; footer = o.footer }
 
 -- how reports are told in brief
 abbrev pub brief_settings : {H : Type 0} → Options H → BriefSettings
-brief_settings o = record { chain = o.cause_chain; form = o.brief_form }
+brief_settings o = record { cause_chain = o.cause_chain; form = o.brief_form }
 
 -- the graphical handler that options and a terminal choose
 pub record IsDrawing {H : Type 0} (o : Options H) (t : Terminal) (it : Handling H) : Type 0 where

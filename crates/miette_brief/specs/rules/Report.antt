@@ -19,11 +19,11 @@ use Rattle.miette_brief.specs.rules.Places.{label_place, diagnostic_place, cause
 
 -- what a handler is set to: whether causes are told, and in what form a report is told
 pub record BriefSettings : Type 0 where
-  pub chain : Bool
+  pub cause_chain : Bool
   pub form : Form
 
 abbrev pub default_settings : BriefSettings
-default_settings = record { chain = true; form = Gcc }
+default_settings = record { cause_chain = true; form = Gcc }
 
 -- ---- answers
 
@@ -149,4 +149,4 @@ text_in Gcc chain inherited a t = rows_text (report_rows chain inherited a t)
 text_in Github chain inherited a t = commands_text (report_commands chain inherited a t)
 
 abbrev pub brief : BriefSettings → Tree → Answers → List ℕ
-brief s t a = text_in s.form s.chain None a t
+brief s t a = text_in s.form s.cause_chain None a t

@@ -64,17 +64,17 @@ pub record AppendsOwn (s : BriefSettings) (source : Option Source) (m : Diagnosi
   pub possible : MayMeet source (own_answer answers).place
   pub causes : AreCauseAnswers source (cause_answers answers) c
   pub fixes : MayMeet source (own_answer answers).fixes
-  pub appended : new ≡ old ++ own_text s.form s.chain source answers m c
+  pub appended : new ≡ old ++ own_text s.form s.cause_chain source answers m c
 
 -- new is old and then a report, for some answers
 pub record AppendsReport (s : BriefSettings) (inherited : Option Source) (t : Tree) (old new : List ℕ) : Type 0 where
   pub answers : Answers
   pub possible : AreAnswers inherited answers t
-  pub appended : new ≡ old ++ text_in s.form s.chain inherited answers t
+  pub appended : new ≡ old ++ text_in s.form s.cause_chain inherited answers t
 
 -- new is old and then related reports, for some answers
 pub record AppendsRelated (s : BriefSettings) (inherited : Option Source) (ts : Trees) (old new : List ℕ) : Type 0
   where
     pub answers : AnswerTrees ReadAnswers
     pub possible : AllAnswers inherited answers ts
-    pub appended : new ≡ old ++ related_text s.form s.chain inherited answers ts
+    pub appended : new ≡ old ++ related_text s.form s.cause_chain inherited answers ts

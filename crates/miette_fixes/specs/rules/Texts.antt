@@ -15,6 +15,6 @@ applicability_name Unspecified = codes "unspecified"
 
 -- what is printed of a fix that isn't applied
 abbrev pub fix_error_text : FixError → List ℕ
-fix_error_text OutOfBounds = codes "an edit ends behind the end of the source"
+fix_error_text OutOfBounds = codes "an edit ends after the end of the source"
 fix_error_text Overlap = codes "two edits overlap"
 fix_error_text Memory = codes "memory allocation failed"

@@ -20,9 +20,9 @@ reads_before read = nat_lt read.contents.span.offset read.span.offset
     && end_of_span read.contents.span == read.span.offset
 
 -- where the source ends, as the first such read tells
-abbrev pub told_end : List ReadLabel → Option ℕ
-told_end [] = None
-told_end (read ∷ reads) = if reads_before read then Some read.span.offset else told_end reads
+abbrev pub known_end : List ReadLabel → Option ℕ
+known_end [] = None
+known_end (read ∷ reads) = if reads_before read then Some read.span.offset else known_end reads
 
 -- whether that is a label's offset
 abbrev pub begins_at_end : Option ℕ → ℕ → Bool
@@ -56,7 +56,7 @@ drawn_placed p = record {
   behind = p.behind;
 }
 
--- a label at the told end stands after the text of the last line, at the byte before
+-- a label at the known end stands after the text of the last line, at the byte before
 abbrev pub placed_one : Option ℕ → List Style → ℕ → List Label → ReadLabel → Placed
 placed_one end styles i labels read = record {
   start = if begins_at_end end read.span.offset then read.span.offset - 1 else read.span.offset;

@@ -15,12 +15,12 @@ use Rattle.miette_tree.specs.rules.DiagnosticParts.{given_labels, severity_text,
 
 -- what a handler is set to: whether the causes of the report are told, the lines of context, and the last row
 pub record NarrationSettings : Type 0 where
-  pub chain : Bool
+  pub cause_chain : Bool
   pub context : ℕ
   pub footer : Option (List ℕ)
 
 abbrev pub default_settings : NarrationSettings
-default_settings = record { chain = true; context = 1; footer = None }
+default_settings = record { cause_chain = true; context_lines = 1; footer = None }
 
 -- ---- answers
 
@@ -134,6 +134,6 @@ abbrev mutual
 -- reports, and the last row
 abbrev pub narration : NarrationSettings → Tree → Answers → List ℕ
 narration s (tree m own c r) a =
-    head_rows m ++ (causes_if s.chain (causes_of c)
-    ++ (rows_below s.context own (own_answer a) m
-    ++ ((blank_before r ++ related_reports s.context own (related_answers a) r) ++ row_if [] s.footer)))
+    head_rows m ++ (causes_if s.cause_chain (causes_of c)
+    ++ (rows_below s.context_lines own (own_answer a) m
+    ++ ((blank_before r ++ related_reports s.context_lines own (related_answers a) r) ++ row_if [] s.footer)))

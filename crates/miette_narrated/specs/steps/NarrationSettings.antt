@@ -4,4 +4,4 @@ use Rattle.miette_narrated.specs.declared.settings.NarrationSettings.{NarrationS
 use Rattle.miette_narrated.specs.rules.Report.{NarrationSettings}
 
 abbrev pub settings_of : GivenSettings → NarrationSettings
-settings_of s = record { chain = s.cause_chain; context = s.context_lines; footer = option_copied s.footer }
+settings_of s = record { cause_chain = s.cause_chain; context_lines = s.context_lines; footer = option_copied s.footer }

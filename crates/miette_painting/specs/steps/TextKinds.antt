@@ -9,17 +9,17 @@ use Rattle.miette_picture_rules.specs.rules.Indents.{further_fix_indent}
 use Rattle.miette_picture_rules.specs.rules.Indents.{further_help_indent, help_indent, icon_indent, stem_indent}
 
 -- in front of the first row
-abbrev pub first_indent : Settings → TextKind → List Fragment
-first_indent s (Message severity) = icon_indent s severity
-first_indent s (Cause branch) = arrow_indent s branch.outer branch.is_last
-first_indent s Help = help_indent s
-first_indent s Fix = fix_indent s
-first_indent s Footer = footer_indent
+abbrev pub initial_indent : Settings → TextKind → List Fragment
+initial_indent s (Message severity) = icon_indent s severity
+initial_indent s (Cause branch) = arrow_indent s branch.outer branch.is_last
+initial_indent s Help = help_indent s
+initial_indent s Fix = fix_indent s
+initial_indent s Footer = footer_indent
 
 -- in front of the others
-abbrev pub further_indent : Settings → TextKind → List Fragment
-further_indent s (Message severity) = bar_indent s severity
-further_indent s (Cause branch) = stem_indent s branch.outer branch.is_last
-further_indent s Help = further_help_indent
-further_indent s Fix = further_fix_indent
-further_indent s Footer = footer_indent
+abbrev pub subsequent_indent : Settings → TextKind → List Fragment
+subsequent_indent s (Message severity) = bar_indent s severity
+subsequent_indent s (Cause branch) = stem_indent s branch.outer branch.is_last
+subsequent_indent s Help = further_help_indent
+subsequent_indent s Fix = further_fix_indent
+subsequent_indent s Footer = footer_indent

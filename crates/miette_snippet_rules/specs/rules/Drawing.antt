@@ -61,7 +61,7 @@ lead_runs s reached (mark ∷ marks) column =
     blank s (mark.anchor - reached) ∷ styled_run s.width mark.label.style (s.theme.characters.vbar ∷ [])
     ∷ lead_runs s (mark.anchor + 1) marks column
 
--- a row of a text: the leads of the earlier marks, then these characters and a part in the label's style
+-- a row of a text: the leaders of the earlier marks, then these characters and a part in the label's style
 abbrev pub text_row : SnippetSettings → List Mark → Mark → List ℕ → List ℕ → Row
 text_row s earlier mark corner part = lead_runs s 0 earlier mark.anchor
     ++ styled_run s.width mark.label.style (corner ++ part) ∷ []

@@ -14,8 +14,8 @@ cuts_hyphens HyphenSplitter = true
 abbrev pub options_plan : WrapOptions → rules.Plan (List ℕ)
 options_plan o = record {
   room = o.width;
-  first = chars o.first_indent.now;
-  further = chars o.further_indent.now;
+  first = chars o.initial_indent.now;
+  further = chars o.subsequent_indent.now;
   breaks = o.break_words;
   wraps = o.wrap_lines;
   separator = o.separator;

@@ -15,7 +15,7 @@ returns g c =
     on_ok_weaker c.end_row.result (λ h. text_put (settings hung.context.now) (before_marks hung.context.now)
     (map mark_of hung.earlier.now) (mark_of mark) mark.anchor leader.corner leader.line leader.end
     (chars c.args.part.now)
-    c.args.page.now c.push_before_marks.new.page c.push_leads.new.page c.push_line.new.self c.push.new.self
+    c.args.page.now c.push_before_marks.new.page c.push_leaders.new.page c.push_line.new.self c.push.new.self
     c.push-2.new.self c.push_str.new.self c.end_row.new.self
-    refl c.in_ok-push_before_marks.ensures c.in_ok-push_leads.ensures c.in_ok-push_line.ensures c.in_ok-push.ensures
+    refl c.in_ok-push_before_marks.ensures c.in_ok-push_leaders.ensures c.in_ok-push_line.ensures c.in_ok-push.ensures
     c.in_ok-push-2.ensures c.in_ok-push_str.ensures h) c.end_row.ensures

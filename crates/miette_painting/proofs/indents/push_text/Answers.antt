@@ -4,20 +4,20 @@ use Rattle.std.proofs.lemmas.Result.{on_ok_weaker}
 use Rattle.miette_runs.specs.rules.Runs.{print}
 use Rattle.miette_painting.specs.views.Painting.{settings_of}
 use Rattle.miette_picture_rules.specs.rules.Indents.{wrapped_behind, wrapped_under}
-use Rattle.miette_painting.specs.steps.TextKinds.{first_indent, further_indent}
+use Rattle.miette_painting.specs.steps.TextKinds.{initial_indent, subsequent_indent}
 use Rattle.miette_painting.proofs.indents.push_text.Goals as goal
 
 pub returns-then-branch-clause-text : goal.returns-then-branch-clause-text
 returns-then-branch-clause-text g c =
     let s = settings_of c.args.painter.now in
-    let further = print (further_indent s c.args.kind) in
+    let further = print (subsequent_indent s c.args.kind) in
     c.in_ok-push_row.ensures.fits c.if-branch.true further
     ∙ ap (λ first. c.args.painter.now.out ++ (wrapped_behind s first further (chars c.args.text.now) ++ 10 ∷ []))
     c.in_ok-first.ensures
 
 pub push_rows-requires : goal.push_rows-requires
 push_rows-requires g c =
-    c.in_ok-first.ensures ∙ ap (λ s. print (first_indent s c.args.kind)) (sym c.push_row.ensures.stays.0)
+    c.in_ok-first.ensures ∙ ap (λ s. print (initial_indent s c.args.kind)) (sym c.push_row.ensures.stays.0)
 
 pub returns-clause-text : goal.returns-clause-text
 returns-clause-text g c =
@@ -26,9 +26,9 @@ returns-clause-text g c =
     let text = chars c.args.text.now in
     let s = settings_of c.push_row.new.painter in
     on_ok_weaker c.push_rows.result (λ h. h
-    ∙ ap (λ out. out ++ (wrapped_under s (first_indent s kind) (further_indent s kind) text ++ 10 ∷ []))
+    ∙ ap (λ out. out ++ (wrapped_under s (initial_indent s kind) (subsequent_indent s kind) text ++ 10 ∷ []))
     (c.in_ok-push_row.ensures.otherwise c.if-branch.false)
-    ∙ ap (λ s. old.out ++ (wrapped_under s (first_indent s kind) (further_indent s kind) text ++ 10 ∷ []))
+    ∙ ap (λ s. old.out ++ (wrapped_under s (initial_indent s kind) (subsequent_indent s kind) text ++ 10 ∷ []))
     c.push_row.ensures.stays.0) c.push_rows.ensures.text
 
 pub returns-clause-stays : goal.returns-clause-stays

@@ -9,9 +9,9 @@ returns c =
     let ended : OnOk c.push_str-2.result (string_bytes c.push_str-2.new.self ≡ string_bytes c.push_flag-4.new.out
     ++ 109 ∷ []) = grind (arith, common_steps) in
     on_ok_weaker c.push_str-2.result
-    (style-pushed c.args.style c.in_ok-some.some c.in_ok-some-2.some c.in_ok-some-3.some c.in_ok-some-4.some _ _ _ _ _
-    _ _ _ c.in_ok-some.ensures.some c.in_ok-some-2.ensures.some c.in_ok-some-3.ensures.some
-    c.in_ok-some-4.ensures.some c.in_ok-push_str.ensures.bytes c.in_ok-some.ensures.text
-    c.in_ok-some-2.ensures.text c.in_ok-some-3.ensures.text c.in_ok-some-4.ensures.text
-    c.in_ok-push_flag.ensures.text)
+    (style-pushed c.args.style c.in_ok-has_code.has_code c.in_ok-has_code-2.has_code c.in_ok-has_code-3.has_code
+    c.in_ok-has_code-4.has_code _ _ _ _ _ _ _ _ c.in_ok-has_code.ensures.some c.in_ok-has_code-2.ensures.some
+    c.in_ok-has_code-3.ensures.some c.in_ok-has_code-4.ensures.some c.in_ok-push_str.ensures.bytes
+    c.in_ok-has_code.ensures.text c.in_ok-has_code-2.ensures.text c.in_ok-has_code-3.ensures.text
+    c.in_ok-has_code-4.ensures.text c.in_ok-push_flag.ensures.text)
     ended

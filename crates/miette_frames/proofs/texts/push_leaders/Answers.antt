@@ -6,7 +6,7 @@ use Rattle.miette_snippet_rules.specs.rules.Drawing.{lead_runs}
 use Rattle.miette_snippet_rules.specs.views.MadeMarks.{mark_of}
 use Rattle.miette_snippet_rules.specs.views.MadeMarks.{no_mark}
 use Rattle.miette_frames.proofs.TextRows.{lead_more, lead_end}
-use Rattle.miette_frames.proofs.texts.push_leads.Goals as goal
+use Rattle.miette_frames.proofs.texts.push_leaders.Goals as goal
 use Rattle.miette_frames.specs.views.LineContexts.{settings}
 
 pub loop-mark-preserved : goal.loop-mark-preserved

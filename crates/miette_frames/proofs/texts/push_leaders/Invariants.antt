@@ -4,7 +4,7 @@ use Rattle.miette_page.specs.views.Tokens.{row_tokens}
 use Rattle.miette_snippet_rules.specs.rules.Drawing.{lead_runs}
 use Rattle.miette_snippet_rules.specs.views.MadeMarks.{mark_of}
 use Rattle.miette_frames.specs.views.LineContexts.{settings}
-use Rattle.miette_frames.proofs.texts.push_leads.Given as goal
+use Rattle.miette_frames.proofs.texts.push_leaders.Given as goal
 
 abbrev pub invariant-loop-mark : goal.invariant-loop-mark
 invariant-loop-mark g l =

@@ -2,7 +2,7 @@ use Rattle.std.proofs.Common.{rules}
 use Rattle.std.proofs.lemmas.List.Sorted.{IsPartitionPoint-from_clause, IsPartitionedBy-leb, IsPartitionedBy-ltb}
 use Rattle.std.proofs.Common.{ltb, leb}
 use Rattle.miette_narrated.proofs.Ends.{between}
-use Rattle.miette_narrated.proofs.label_order.ending.Goals as goal
+use Rattle.miette_narrated.proofs.label_order.labels_ending_on.Goals as goal
 
 pub returns : goal.returns
 returns c =
