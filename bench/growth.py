@@ -69,10 +69,10 @@ def own_contexts(lines):
     )
 
 
-def marks_on_a_line(behind=""):
+def marks_on_a_line(after=""):
     """Labels without texts on one line."""
     return lambda n: over(
-        [label(i * 100 + 5, 3) for i in range(n)], "abcdefghij" * (10 * n) + behind
+        [label(i * 100 + 5, 3) for i in range(n)], "abcdefghij" * (10 * n) + after
     )
 
 
@@ -198,7 +198,7 @@ def at_the_end(n):
     return over([label(n, 0)] * n, "x" * n)
 
 
-def behind_tabs(n):
+def after_tabs(n):
     """A label after `n` tabs."""
     return over([label(n, 1, "x")], "\t" * n + "x")
 
@@ -209,7 +209,7 @@ def of_sources():
     yield Series("CR alone", PLAIN, lines_of("abcdefg\r", lambda i: 0), 500)
     yield Series("labels on CRLF", PLAIN, lines_of("abcdef\r\n", lambda i: 6 + i % 2), 500)
     yield Series("empty labels at the end", end_labels, at_the_end, 250)
-    yield Series("a label behind tabs", (*PLAIN, "--tab", "8"), behind_tabs, 2500)
+    yield Series("a label after tabs", (*PLAIN, "--tab", "8"), after_tabs, 2500)
 
 
 def joined_emoji(n):

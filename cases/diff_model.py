@@ -105,10 +105,10 @@ def changes_of(source, edits):
         old = [source.data[it.start : it.end] for it in source.lines[block.first : block.last + 1]]
         text = block.new_text(source)
         new = [text[it.start : it.end] for it in Source(text, 1).lines]
-        behind = in_common(old[::-1], new[::-1])
-        before = in_common(old[: len(old) - behind], new[: len(new) - behind])
-        first, after = block.first + before, block.first + len(old) - behind
-        added, added_after = first + moved, block.first + moved + len(new) - behind
+        ending = in_common(old[::-1], new[::-1])
+        before = in_common(old[: len(old) - ending], new[: len(new) - ending])
+        first, after = block.first + before, block.first + len(old) - ending
+        added, added_after = first + moved, block.first + moved + len(new) - ending
         moved += len(new) - len(old)
         if first < after or added < added_after:
             found.append(Change(block, first, after, added, added_after))
@@ -332,9 +332,9 @@ def frame_rows(shown, sides, name, settings, theme):
     frame = Frame(shown.digits(), settings, theme)
     place = at if name is None else painted(f"{name}:{at}", theme.link)
     rows = [f"{frame.other('╭─[')}{place}]"]
-    before, *behind = shown.unchanged
+    before, *after = shown.unchanged
     rows += [frame.unchanged(source, it) for it in before]
-    for stretch, lines in zip(shown.stretches, behind):
+    for stretch, lines in zip(shown.stretches, after):
         rows += stretch_rows(frame, stretch, sides)
         rows += [frame.unchanged(source, it) for it in lines]
     return [*rows, frame.other("╰────")]

@@ -36,12 +36,12 @@ def cut(name):
 
 def formatted(value, column=0):
     """A value as GCC writes it from 14 on: a row for each member and item, below the first one of its bracket."""
-    behind = ",\n" + " " * (column + 1)
+    after = ",\n" + " " * (column + 1)
     if isinstance(value, dict):
         held = [f"{json.dumps(key)}: {formatted(it, column + len(key) + 5)}" for key, it in value.items()]
-        return "{" + behind.join(held) + "}"
+        return "{" + after.join(held) + "}"
     if isinstance(value, list):
-        return "[" + behind.join(formatted(it, column + 1) for it in value) + "]"
+        return "[" + after.join(formatted(it, column + 1) for it in value) + "]"
     return json.dumps(value, ensure_ascii=False)
 
 

@@ -64,8 +64,8 @@ def proposal(value, origin, files):
     fixits = objects(value, "fixits")
     spans = []
     for it in fixits:
-        start, behind = (member(it, key, dict) or {} for key in ("start", "next"))
-        spans.append({**span(start, behind, origin, files, 0), "suggested_replacement": text(it, "string")})
+        start, after = (member(it, key, dict) or {} for key in ("start", "next"))
+        spans.append({**span(start, after, origin, files, 0), "suggested_replacement": text(it, "string")})
     return [{"message": said([text(it, "string") for it in fixits]), "level": "help", "spans": spans}] if spans else []
 
 

@@ -104,8 +104,8 @@ def asked(number, encoding):
 
 def result(number, places):
     """A result over the source of this number."""
-    (line, column), (last, behind) = places
-    region = {"startLine": line + 1, "startColumn": column + 1, "endLine": last + 1, "endColumn": behind + 1}
+    (line, column), (last, after) = places
+    region = {"startLine": line + 1, "startColumn": column + 1, "endLine": last + 1, "endColumn": after + 1}
     place = {"artifactLocation": {"uri": str(number)}, "region": region}
     return {"message": {"text": "m"}, "locations": [{"physicalLocation": place}]}
 
@@ -114,11 +114,11 @@ def wanted(number, kind):
     """The bytes that are pointed to, their lines and columns, and the place in bytes."""
     data, places = asked(number, KINDS[kind])
     start, end = (offset_of(data, *it, KINDS[kind]) for it in places)
-    (line, before), (last, behind) = place_of(data, start), place_of(data, end)
+    (line, before), (last, after) = place_of(data, start), place_of(data, end)
     columns = None, None
     if line == last:
         first = units(before, "utf-16-le") + 1
-        columns = first, max(first, units(behind, "utf-16-le"))
+        columns = first, max(first, units(after, "utf-16-le"))
     return (start, end - start), (line, last, *columns), (line, len(before) + 1)
 
 

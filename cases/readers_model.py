@@ -153,8 +153,8 @@ class Settled:
         found = self.found(told.span)
         if found is None:
             line, column = (member(told.span, key, int) or 0 for key in ("line_start", "column_start"))
-            behind = ": " + "\n".join(told.rows) if told.rows else ""
-            return self.tell(f"{text(told.span, 'file_name')}:{line}:{column}{behind}")
+            after = ": " + "\n".join(told.rows) if told.rows else ""
+            return self.tell(f"{text(told.span, 'file_name')}:{line}:{column}{after}")
         return self.place(told, *found)
 
     def tell(self, row):

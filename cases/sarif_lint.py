@@ -25,9 +25,9 @@ WRONG = [["f", "x"], ["f"], ["--tool", "t", "f"], ["--tool", "t", "f", "80", "x"
 
 def is_blank(data, at):
     """Whether the text of the line that an offset lies in is blank."""
-    before, behind = data[:at], data[at:]
+    before, after = data[:at], data[at:]
     begin = max(before.rfind(b"\n"), before.rfind(b"\r")) + 1
-    text = (before[begin:] + behind).replace(b"\r", b"\n").split(b"\n")[0]
+    text = (before[begin:] + after).replace(b"\r", b"\n").split(b"\n")[0]
     return not text.strip(b" \t")
 
 

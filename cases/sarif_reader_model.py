@@ -34,7 +34,7 @@ def full_uri(bases, location, most=16):
 # ---- regions
 
 
-def columns_behind(data, start, end, columns, units):
+def columns_after(data, start, end, columns, units):
     """The byte after `columns` columns of a line's text, at most its end; inside a character its start."""
     at = start
     for it in data[start:end].decode(errors="surrogateescape"):
@@ -53,21 +53,21 @@ def offset(data, line, columns, units, ends):
     starts = [0, *(it.end() for it in ends)]
     if not 1 <= line <= len(starts):
         return None
-    return columns_behind(data, starts[line - 1], [*(it.start() for it in ends), len(data)][line - 1], columns, units)
+    return columns_after(data, starts[line - 1], [*(it.start() for it in ends), len(data)][line - 1], columns, units)
 
 
-def chars_behind(data, start, count, units):
+def chars_after(data, start, count, units):
     """The byte after `count` code units of characters, inside one its start; none where there are too few."""
     total = sum(units(it) for it in data[start:].decode(errors="surrogateescape"))
-    return None if count > total else columns_behind(data, start, len(data), count, units)
+    return None if count > total else columns_after(data, start, len(data), count, units)
 
 
 def span_by_offsets(data, region, units):
     """Where a region without lines begins and ends."""
     at, count = member(region, "charOffset", int), member(region, "charLength", int) or 0
     if at is not None:
-        begin = chars_behind(data, 0, at, units)
-        return begin, None if begin is None else chars_behind(data, begin, count, units)
+        begin = chars_after(data, 0, at, units)
+        return begin, None if begin is None else chars_after(data, begin, count, units)
     begin, count = member(region, "byteOffset", int), member(region, "byteLength", int) or 0
     return (None, None) if begin is None or begin + count > len(data) else (begin, begin + count)
 
@@ -84,8 +84,8 @@ def span(name, region, run):
     if name in files:
         data, last = files[name], member(region, "endColumn", int)
         begin = offset(data, line, max(column - 1, 0), units, run.ends)
-        behind = len(data) if last is None else max(last - 1, 0)
-        end = offset(data, first(member(region, "endLine", int), line), behind, units, run.ends)
+        after = len(data) if last is None else max(last - 1, 0)
+        end = offset(data, first(member(region, "endLine", int), line), after, units, run.ends)
         it.update({"byte_start": begin, "byte_end": end} if None not in (begin, end) else {})
     return it
 

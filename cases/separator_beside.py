@@ -59,8 +59,8 @@ def is_wide(char):
 
 def in_ascii(found):
     """A hyphen where it stands between letters and digits of ASCII, else nothing."""
-    before, behind = found.string[found.start() - 1], found.string[found.end()]
-    return "-" if (before + behind).isascii() else ""
+    before, after = found.string[found.start() - 1], found.string[found.end()]
+    return "-" if (before + after).isascii() else ""
 
 
 # What each reason speaks of, and what is left without it. Columns: what `unicode-width` 0.1.10 counts otherwise.

@@ -215,12 +215,12 @@ def hand_made():
     for key, it in [("byte_start", 2**64), ("byte_end", 2**63), ("byte_end", 0), ("byte_start", 22), ("file_name", "")]:
         yield f"whose {key} is {it}", rows_of(changed(FIRST, **{key: it}), SECOND), files
     yield "without a last LF", rows_of(sure("a.rs", TEXT[:-1], 2, 9, 3, "2")), {"a.rs": TEXT[:-1]}
-    yield "behind a lone CR", rows_of(sure("a.rs", b"(1)\r(2)\n", 1, 5, 3, "2")), {"a.rs": b"(1)\r(2)\n"}
+    yield "after a lone CR", rows_of(sure("a.rs", b"(1)\r(2)\n", 1, 5, 3, "2")), {"a.rs": b"(1)\r(2)\n"}
     yield "of a file that isn't UTF-8", rows_of(FIRST), {"a.rs": b"let a = (1);\n\xff\xfe"}
     yield "of an empty file", rows_of(FIRST), {"a.rs": b""}
     spread = b"".join(json.dumps(it, indent=2).encode() + b"\n" for it in (FIRST, SECOND))
     yield "over several rows", spread, files
-    yield "behind a part that can't be read", b'{\n"a":\n}\n' + rows_of(FIRST) + b"{\r\n", files
+    yield "after a part that can't be read", b'{\n"a":\n}\n' + rows_of(FIRST) + b"{\r\n", files
 
 
 def led_out(folder):

@@ -9,9 +9,9 @@ import shellcheck_model
 from readers_model import NoMessage, member, report_of
 
 # what messages begin with: a bracket, and after white space a quote, a bracket or nothing
-BEHIND = rb'[ \t\r\n]*(?:["{}\[\]]|\Z)'
-BEGINNING = {form: re.compile(bracket + BEHIND) for form, bracket in (("auto", rb"[\[{]"), ("gcc", rb"\["))}
-BEGINNING.update(dict.fromkeys(("rustc", "sarif", "shellcheck"), re.compile(rb"{" + BEHIND)))
+AFTER = rb'[ \t\r\n]*(?:["{}\[\]]|\Z)'
+BEGINNING = {form: re.compile(bracket + AFTER) for form, bracket in (("auto", rb"[\[{]"), ("gcc", rb"\["))}
+BEGINNING.update(dict.fromkeys(("rustc", "sarif", "shellcheck"), re.compile(rb"{" + AFTER)))
 
 # what a value that has no reports ends with
 NONE = (NoMessage, gcc_model.NoReports, sarif_reader_model.NoReports, shellcheck_model.NoReports)
@@ -28,7 +28,7 @@ def rows_of(given):
     return [it + b"\n" for it in rows[:-1]] + ([rows[-1]] if rows[-1] else [])
 
 
-def depth_behind(depth, row):
+def depth_after(depth, row):
     """How many brackets are open after a row that begins beside texts; none where it ends within one."""
     beside = re.sub(rb'"(?:[^"\\]|\\.)*"', b"", row, flags=re.S)
     if b'"' in beside:
@@ -46,7 +46,7 @@ def parts_of(given):
             yield begun, b"".join(part)
             part, begun, depth = [], number, 0
         part.append(row)
-        depth = depth_behind(depth, row) if VALUE.match(part[0]) else 0
+        depth = depth_after(depth, row) if VALUE.match(part[0]) else 0
     if part:
         yield begun, b"".join(part)
 

@@ -347,7 +347,7 @@ def pictures():
     yield Family("a label on each line", line_each, COUNTS, (10_000,), HANDLERS)
     yield Family("labels over three lines", chained, COUNTS, (10_000,), HANDLERS)
     yield Family("a label on all lines", all_lines, COUNTS, (20_000,), (PLAIN, FOLDED, NARRATED))
-    yield Family("lines behind a label", first_line, COUNTS, (20_000,), (WHOLE,))
+    yield Family("lines after a label", first_line, COUNTS, (20_000,), (WHOLE,))
     yield Family("texts on one line", one_line("x"), SQUARES, (1_000,), HANDLERS, True, TOLD)
     sizes = doubled(125, 2_000)
     yield Family("labels in labels", nested, sizes, (250,), DRAWN, True, (PLAIN,))
@@ -425,7 +425,7 @@ def long_lines():
         yield Family(f"line of {kind}", repeated(unit), COUNTS, (80_000,), (DRAW, LINT))
         if kind != "FF":
             yield Family(f"labels on {kind}", labels_on(unit), LABELS, (8_000,), TOLD, memory_each=640)
-    unit, head, kind = CHARACTERS["digits"], b"\t", "digits behind a tab"
+    unit, head, kind = CHARACTERS["digits"], b"\t", "digits after a tab"
     yield Family(f"line of {kind}", repeated(unit, head), COUNTS, (), (DRAW, LINT))
     yield Family(f"labels on {kind}", labels_on(unit, head), LABELS, (1_000,), TOLD, memory_each=640)
     for kind, unit in (JOINED | FAINT).items():

@@ -135,8 +135,8 @@ def whole_rows(text, first, further):
         characters, rest = characters_of(line)
         indent = further if at else first
         if all(it.code.isspace() for it in characters):
-            of_indent, behind = characters_of(indent)
-            indent = without_last_spaces(of_indent) + behind
+            of_indent, after = characters_of(indent)
+            indent = without_last_spaces(of_indent) + after
         rows.append(rest if at == len(lines) - 1 and not characters else indent + line)
     return rows
 
@@ -164,8 +164,8 @@ def style(report, page):
 def header(report, page):
     if report.get("code") is None:
         return ""
-    behind = f" ({painted(report['url'], page.theme.link)})" if report.get("url") is not None else ""
-    return painted(report["code"], style(report, page)) + behind + "\n\n"
+    after = f" ({painted(report['url'], page.theme.link)})" if report.get("url") is not None else ""
+    return painted(report["code"], style(report, page)) + after + "\n\n"
 
 
 def message(report, page):

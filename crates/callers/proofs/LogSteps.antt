@@ -12,7 +12,7 @@ use Rattle.miette_brief.specs.rules.ToldSources.{ToldReads}
 use Rattle.miette.specs.declared.print.PrintError.{PrintError}
 use Rattle.miette.specs.declared.reporter.form.Form.{Form}
 use Rattle.miette.specs.declared.reporter.form.Form.TheVariants.{Brief}
-use Rattle.miette.specs.rules.Forms.{behind, front}
+use Rattle.miette.specs.rules.Forms.{after_it, front}
 use Rattle.miette.specs.rules.Reported.{AreReported, Behaviour, IsReported}
 use Rattle.miette.specs.rules.Run.{Run}
 use Rattle.callers.specs.Logged.{full_disk, no_host}
@@ -21,8 +21,8 @@ use Rattle.callers.specs.Logged.{full_disk, no_host}
 
 -- rows have nothing around them
 in_rows : (form : Form) (is_begun : Bool) (own : List ℕ) → form ≡ Brief
-    → (front form is_begun ++ own) ++ behind form ≡ own
-in_rows form is_begun own is = subst (λ f. (front f is_begun ++ own) ++ behind f ≡ own) (sym is) (append-nil own)
+    → (front form is_begun ++ own) ++ after_it form ≡ own
+in_rows form is_begun own is = subst (λ f. (front f is_begun ++ own) ++ after_it f ≡ own) (sym is) (append-nil own)
 
 module _ {T W F : Type 0} (how : Behaviour T W) (stays : (a b : T) → how.keeps a b → b ≡ a) where
   handler_stays : (answer : Result (Unit {0}) PrintError) (old new : Run T W F) (t : Tree)

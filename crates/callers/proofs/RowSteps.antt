@@ -80,7 +80,7 @@ number_among number both stand =
       front = 0 ∷ [];
       line = 1;
       back = [];
-      behind = [];
+      after = [];
       there = both.lines;
     } in
     first_among (runs_of_row number.row) (map runs_of_row number.below)

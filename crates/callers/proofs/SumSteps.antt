@@ -14,7 +14,7 @@ use Rattle.miette_printed_laws.specs.laws.Headline.{CutsAreExact, EndsAreDrawn, 
 use Rattle.miette_printed_laws.specs.laws.Headline.{cells_under}
 use Rattle.miette_picture_laws.specs.laws.FittingRows.{FitsRow, fed_rows, indented_rows}
 use Rattle.miette_printed_laws.specs.laws.Holding.{Arrow, HoldsSnippets, IsHoldingText, StandsIn}
-use Rattle.miette_picture_laws.specs.laws.Levels.{AreAmong, HaveRoom, HoldsLevels, IsShownRow, StandBehindBars}
+use Rattle.miette_picture_laws.specs.laws.Levels.{AreAmong, HaveRoom, HoldsLevels, IsShownRow, StandAfterBars}
 use Rattle.miette_picture_laws.specs.laws.Levels.{settings_under}
 use Rattle.miette_printed_laws.specs.laws.Paths.{to_cause}
 use Rattle.miette_picture_rules.specs.rules.Answers.{Answers, SourceAnswer, cause_answers, first_source, own_answer}
@@ -29,7 +29,7 @@ use Rattle.miette_picture_rules.specs.rules.Sources.{LabelledSource}
 use Rattle.miette_picture_rules.specs.rules.Text.{report_text}
 use Rattle.miette_wrap_rules.specs.laws.Tame.{IsTame}
 use Rattle.miette_picture_rules.specs.views.Handling.{Handling, draws_plain, without_highlighter}
-use Rattle.callers.specs.Sums.{CauseStands, CauseStays, EndStandsBehind, IsLeftOut, LongIsCut, RowsStand}
+use Rattle.callers.specs.Sums.{CauseStands, CauseStays, EndStandsAfter, IsLeftOut, LongIsCut, RowsStand}
 use Rattle.callers.specs.Sums.{narrow, sum_file}
 use Rattle.callers.specs.Sums.{sum_labels}
 use Rattle.callers.specs.Sums.{cause_arrow, depth_file, depth_labels, sum_tree}
@@ -65,7 +65,7 @@ cause_stays all =
 
 -- ---- labels at the end, and folded ones
 
-pub end_stands : AllByRecursion (HoldsOfPrinted EndsAreDrawn narrow) (diagnostics_of narrow sum_tree) → EndStandsBehind
+pub end_stands : AllByRecursion (HoldsOfPrinted EndsAreDrawn narrow) (diagnostics_of narrow sum_tree) → EndStandsAfter
 unfolding ends_line line_of
 end_stands all = all.0.0.0 refl
 
@@ -129,8 +129,8 @@ pub cause_stands : {H : Type 0} (is_blank : H → Bool) (h : Handling H) (t : Tr
     → ((a : Answers) (text : List ℕ) → HoldsSnippets whole_drawing narrow sum_tree a text
     → HoldsLevels whole_drawing narrow sum_tree a (encode_utf8_all text))
     → ((rows : List (List ℕ)) → HaveRoom narrow arrows rows)
-    → ((rows : List (List ℕ)) → StandBehindBars narrow [] rows) → CauseStands new
-cause_stands is_blank h t old new p q none appended levels room behind rows among shown fit =
+    → ((rows : List (List ℕ)) → StandAfterBars narrow [] rows) → CauseStands new
+cause_stands is_blank h t old new p q none appended levels room after rows among shown fit =
     let own = held is_blank h t appended.text p q appended.is_given in
     let whole : new ≡ encode_utf8_all (report_text whole_drawing narrow sum_tree own.answers) =
     appended.appended ∙ ap (λ o. o ++ appended.text) none ∙ own.text in
@@ -146,4 +146,4 @@ cause_stands is_blank h t old new p q none appended levels room behind rows amon
     rows there (room rows wide (tame_rows rows shown) fits) in
     subst (StandsIn (encode_utf8_all (indented_rows (spaces 6) rows))) (sym whole)
     (subst (λ part. StandsIn (encode_utf8_all part)
-    (encode_utf8_all (report_text whole_drawing narrow sum_tree own.answers))) (behind rows shown cause_arrow) stands)
+    (encode_utf8_all (report_text whole_drawing narrow sum_tree own.answers))) (after rows shown cause_arrow) stands)

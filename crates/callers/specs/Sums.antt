@@ -15,7 +15,7 @@ use Rattle.miette_picture_rules.specs.rules.DiagnosticText.{line_feed}
 use Rattle.miette_picture_rules.specs.rules.Settings.{Settings}
 use Rattle.miette_picture_rules.specs.rules.Snippets.{drawn_rows, source_rows}
 use Rattle.miette_picture_rules.specs.rules.PrintedDiagnostics.{PrintedDiagnostic, over}
-use Rattle.miette_printed_laws.specs.laws.Headline.{EndsBehind, cut_under, drawn_labels, is_kept_at, line_of}
+use Rattle.miette_printed_laws.specs.laws.Headline.{EndsAfter, cut_under, drawn_labels, is_kept_at, line_of}
 use Rattle.miette_printed_laws.specs.laws.Holding.{Arrow, StandsIn}
 use Rattle.miette_picture_laws.specs.laws.FittingRows.{FitsRow, fed_rows, indented_rows}
 use Rattle.miette_picture_laws.specs.laws.Levels.{AreAmong, IsShownRow, settings_under}
@@ -109,8 +109,8 @@ pub record IsLeftOut : Type 0 where
   pub inside : AllByRecursion (IsInside (line_of sum_file 2)) (drawn_labels narrow sum_file sum_labels)
 
 -- the label at the end stands in the column after what is shown of the long line
-abbrev pub EndStandsBehind : Type 0
-EndStandsBehind = EndsBehind narrow sum_file sum_labels
+abbrev pub EndStandsAfter : Type 0
+EndStandsAfter = EndsAfter narrow sum_file sum_labels
 
 -- Rows that stand in a text, by their bytes: of the long line what is shown, and the row below it with the mark of the
 -- sum and, after what is shown, that of the label at the end; the break in the call, with the call's bar; the first row

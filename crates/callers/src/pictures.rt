@@ -11,7 +11,7 @@ ghost use Rattle.miette_picture_rules.specs.rules.PrintedDiagnostics.{diagnostic
 ghost use Rattle.miette_picture_rules.specs.rules.Text.{report_text};
 ghost use Rattle.miette_picture_rules.specs.views.Handling.{draws_plain, without_highlighter};
 ghost use Rattle.miette_tree.specs.views.Report.{tree_of};
-ghost use Rattle.callers.specs.Sums.{CauseStands, CauseStays, EndStandsBehind, IsLeftOut, LongIsCut, RowsStand};
+ghost use Rattle.callers.specs.Sums.{CauseStands, CauseStays, EndStandsAfter, IsLeftOut, LongIsCut, RowsStand};
 ghost use Rattle.callers.specs.Sums.{NamesRows, depth_tree, narrow};
 ghost use Rattle.callers.specs.Sums.{printed_cause, printed_sum, sum_tree};
 
@@ -87,7 +87,7 @@ pub fn draw_sum(alloc: Global, report: &Report) -> Result<String, RenderError>
     // its cause is drawn as without a limit: by `fits`
     ensures cause { IfOk result (λ text. CauseStays) }
     // the label at the end stands after what is shown of the long line: by `ends`
-    ensures end { IfOk result (λ text. EndStandsBehind) }
+    ensures end { IfOk result (λ text. EndStandsAfter) }
     // the third line and the fourth one are left out, inside the call: by `folds`
     ensures folded { IfOk result (λ text. IsLeftOut) }
     // a row of each of these by its bytes: by `holds`, `levels_law`, and definitions, which compute

@@ -76,7 +76,7 @@ fn render(alloc: Global, call: Call, row: &mut Rows, report: &Report) -> Called 
         Call::DebugJson => render_by(alloc, row, Ok(JSONReportHandler::new()), report),
         Call::DebugDebug => render_by(alloc, row, Ok(DebugReportHandler::new()), report),
         Call::DebugChosen => render_by(alloc, row, chosen(alloc), report),
-        _ => render_behind(alloc, call, row, report),
+        _ => render_by_own(alloc, call, row, report),
     }
 }
 
@@ -85,7 +85,7 @@ fn chosen(alloc: Global) -> Result<MietteHandler<Red>, AllocError> {
 }
 
 /// The same by a handler's own methods.
-fn render_behind(alloc: Global, call: Call, row: &mut Rows, report: &Report) -> Called {
+fn render_by_own(alloc: Global, call: Call, row: &mut Rows, report: &Report) -> Called {
     let mut text = String::from_str(alloc, "> ")?;
     row.value(&text);
     let answer = render_to(alloc, call, report, &mut text)?;

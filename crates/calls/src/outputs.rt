@@ -36,8 +36,8 @@ pub fn make(alloc: Global, call: Call, row: &mut Rows) -> Called {
             return taken(alloc, call, row, Output::for_runs(alloc));
         }
         _ => {
-            put(call, row, Output::for_text(alloc));
-            put(call, row, Output::for_runs(alloc));
+            put_output(call, row, Output::for_text(alloc));
+            put_output(call, row, Output::for_runs(alloc));
         }
     }
     Ok(())
@@ -53,7 +53,7 @@ fn taken(alloc: Global, call: Call, row: &mut Rows, mut output: Output) -> Calle
     Ok(())
 }
 
-fn put(call: Call, row: &mut Rows, mut output: Output) {
+fn put_output(call: Call, row: &mut Rows, mut output: Output) {
     let answer = push(&mut output, call);
     row.after(answer, &output);
 }

@@ -2,7 +2,7 @@
 
 mod settings;
 
-use crate::confcheck::settings::{is_known, key_in, line_of, nearest, port_of, set_twice};
+use crate::confcheck::settings::{is_known, key_in, line_of, nearest_key, port_of, set_twice};
 use crate::reading::text_of;
 use miette::prelude::{
     Applicability, Edit, Fix, Host, IntoDiagnostic, LabeledSpan, MietteDiagnostic, OwnedSource,
@@ -154,7 +154,7 @@ fn port_fixes(alloc: Global, text: &str) -> Result<Vec<Fix>, AllocError> {
 
 /// The known key that is nearest to this one, in its place, where there is one.
 fn key_fixes(alloc: Global, text: &str, key: &str) -> Result<Vec<Fix>, AllocError> {
-    let (Some(known), Some(place)) = (nearest(alloc, key)?, key_in(text, key)) else {
+    let (Some(known), Some(place)) = (nearest_key(alloc, key)?, key_in(text, key)) else {
         return Ok(Vec::new(alloc));
     };
     let edit = Edit::replace(place, String::from_str(alloc, known)?);

@@ -250,15 +250,15 @@ pub primary_refused : (source : Option Source) (labels : List Label) (further : 
 primary_refused source labels further u =
     let spot = u.spot in
     let own = λ (r : accepts source labels ≡ false). ap (λ b. b && holds_further accepts further) r in
-    let behind = λ (r : holds_further accepts further ≡ false).
+    let after = λ (r : holds_further accepts further ≡ false).
     ap (λ b. accepts source labels && b) r ∙ and-false (accepts source labels) in
     by_either (spot_over source (marked_in labels)) _ spot
     (λ f. own (own_unread marked_in marked_accepted refl source labels spot f u.unread))
     (by_either (found_further marked_in further) _ spot
-    (λ f. behind (further_unread marked_in marked_accepted refl further spot f u.unread))
+    (λ f. after (further_unread marked_in marked_accepted refl further spot f u.unread))
     (by_either (spot_over source (first_in labels)) (found_further first_in further) spot
     (λ f. own (own_unread first_in first_accepted refl source labels spot f u.unread))
-    (λ f. behind (further_unread first_in first_accepted refl further spot f u.unread))))
+    (λ f. after (further_unread first_in first_accepted refl further spot f u.unread))))
     u.is
 
 -- ---- the place of a diagnostic

@@ -19,8 +19,8 @@ use Rattle.miette_brief.specs.rules.FixIts.{FixIt, octal, escaped_byte, escaped,
 use Rattle.miette_brief.specs.rules.FixIts.{fix_it_text}
 use Rattle.miette_brief.specs.rules.Rows.{Kind, finding, note, cause, help, fix, failure, ToldRow, ReportRow, told}
 use Rattle.miette_brief.specs.rules.Rows.{applied}
-use Rattle.miette_brief.specs.rules.Rows.{gap, shown_for, spaced_text, one_row, behind_colon, place_text, code_text}
-use Rattle.miette_brief.specs.rules.Rows.{kind_text, told_text, row_text}
+use Rattle.miette_brief.specs.rules.Rows.{gap, shown_for, spaced_text, one_row, position_after_colon, place_text}
+use Rattle.miette_brief.specs.rules.Rows.{code_text, kind_text, told_text, row_text}
 
 -- ---- no control character
 
@@ -101,17 +101,17 @@ position_clean at =
     (both_clean (codes ":") (decimal at.column) (plain_clean (codes ":") refl)
     (plain_clean (decimal at.column) (decimal_plain at.column)))
 
-behind_clean : (position : Option Position) → NoCharPasses is_control (behind_colon position)
-behind_clean None = NoCharPasses-nil is_control
-behind_clean (Some at) = both_clean (codes ":") (position_text at) (plain_clean (codes ":") refl) (position_clean at)
+after_clean : (position : Option Position) → NoCharPasses is_control (position_after_colon position)
+after_clean None = NoCharPasses-nil is_control
+after_clean (Some at) = both_clean (codes ":") (position_text at) (plain_clean (codes ":") refl) (position_clean at)
 
 place_clean : (name : Option (List ℕ)) (position : Option Position) → NoCharPasses is_control (place_text name position)
 place_clean None None = NoCharPasses-nil is_control
 place_clean None (Some at) = both_clean (position_text at) (codes ": ") (position_clean at)
     (plain_clean (codes ": ") refl)
 place_clean (Some name) position =
-    both_clean (one_row name) (behind_colon position ++ codes ": ") (row_clean name)
-    (both_clean (behind_colon position) (codes ": ") (behind_clean position) (plain_clean (codes ": ") refl))
+    both_clean (one_row name) (position_after_colon position ++ codes ": ") (row_clean name)
+    (both_clean (position_after_colon position) (codes ": ") (after_clean position) (plain_clean (codes ": ") refl))
 
 code_clean : (code : Option (List ℕ)) → NoCharPasses is_control (code_text code)
 code_clean None = NoCharPasses-nil is_control

@@ -124,19 +124,19 @@ three_said xs ys zs old a b new e f g =
     ∙ ap (λ l. old ++ l) (sym (said_joined xs (ys ++ zs)))
 
 -- one label's text first
-pub first_told : {X : Type 0} (f : X → Mark) (xs : List X) (at : ℕ) (first before behind : List X)
-    (old a b new : List ℕ) → first ≡ slice_range xs at (at + 1) → before ≡ take at xs → behind ≡ drop (at + 1) xs
+pub first_told : {X : Type 0} (f : X → Mark) (xs : List X) (at : ℕ) (first before after : List X)
+    (old a b new : List ℕ) → first ≡ slice_range xs at (at + 1) → before ≡ take at xs → after ≡ drop (at + 1) xs
     → a ≡ old ++ sayings_text (note_sayings (map f first)) → b ≡ a ++ sayings_text (note_sayings (map f before))
-    → new ≡ b ++ sayings_text (note_sayings (map f behind))
+    → new ≡ b ++ sayings_text (note_sayings (map f after))
     → new ≡ old ++ sayings_text (note_sayings (with_first (Some at) (map f xs)))
-first_told f xs at first before behind old a b new ef eb ee e g h =
+first_told f xs at first before after old a b new ef eb ee e g h =
     let one : at + 1 - at ≡ 1 = omega arith in
     let its = map f xs in
     let head : map f first ≡ take 1 (drop at its) =
     ap (map f) (ef ∙ ap (λ n. take n (drop at xs)) one) ∙ sym (take-map f 1 (drop at xs))
     ∙ ap (take 1) (sym (drop-map f at xs)) in
     let front : map f before ≡ take at its = ap (map f) eb ∙ sym (take-map f at xs) in
-    let rest : map f behind ≡ drop (at + 1) its = ap (map f) ee ∙ sym (drop-map f (at + 1) xs) in
+    let rest : map f after ≡ drop (at + 1) its = ap (map f) ee ∙ sym (drop-map f (at + 1) xs) in
     three_said (note_sayings (take 1 (drop at its))) (note_sayings (take at its))
     (note_sayings (drop (at + 1) its)) old a b new (e ∙ ap (λ l. old ++ sayings_text (note_sayings l)) head)
     (g ∙ ap (λ l. a ++ sayings_text (note_sayings l)) front)

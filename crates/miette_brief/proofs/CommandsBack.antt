@@ -19,8 +19,8 @@ use Rattle.miette_brief.specs.declared.form.Form.TheVariants.{Gcc, Github}
 use Rattle.miette_brief.specs.laws.CommandBack.{AreCommands, AreRead, ReadsCommand, all_diagnostics_in, as_it_is}
 use Rattle.miette_brief.specs.laws.CommandBack.{body_in}
 use Rattle.miette_brief.specs.laws.CommandBack.{decoded, diagnostics_in, head_in, hex_value, is_one_line}
-use Rattle.miette_brief.specs.laws.CommandBack.{pieces_of, onto_first, properties_behind, property_of, said}
-use Rattle.miette_brief.specs.laws.EditBack.{up_to, behind}
+use Rattle.miette_brief.specs.laws.CommandBack.{pieces_of, onto_first, properties_after, property_of, said}
+use Rattle.miette_brief.specs.laws.EditBack.{up_to, after_end}
 use Rattle.miette_brief.specs.laws.Parts.{text_of_rows}
 use Rattle.miette_brief.specs.rules.Commands.{Command, Property, Saying, Site, byte_text, columns_if, command_name}
 use Rattle.miette_brief.specs.rules.Commands.{command_text, commands_text, escaped, further_property, hex_digit}
@@ -30,8 +30,8 @@ use Rattle.miette_brief.specs.rules.Commands.{title_properties}
 use Rattle.miette_brief.specs.rules.Report.{Answers, BriefSettings, brief, first_answers, later_answers, ReadAnswers}
 use Rattle.miette_brief.specs.rules.Report.{related_answers, related_commands, report_commands, text_in}
 use Rattle.miette_brief.proofs.Clean.{both_pass}
-use Rattle.miette_brief.proofs.Counting.{counted_behind}
-use Rattle.miette_brief.proofs.EditsBack.{behind_past, lacks, up_past}
+use Rattle.miette_brief.proofs.Counting.{counted_after}
+use Rattle.miette_brief.proofs.EditsBack.{after_end_past, lacks, up_past}
 use Rattle.miette_brief.proofs.Escaping.{byte_escaped, byte_single, escaped_is_ascii}
 
 -- ---- escapes
@@ -229,27 +229,27 @@ same_property k v p e f = rw (e, f) refl
 property_back : (p : Property) → IsKey p → property_of (property_text p) ≡ p
 property_back p h =
     let value : List ℕ = escaped InProperty p.value in
-    same_property (up_to 61 (property_text p)) (decoded as_it_is (behind 61 (property_text p))) p
+    same_property (up_to 61 (property_text p)) (decoded as_it_is (after_end 61 (property_text p))) p
     (up_past 61 p.key value h.0)
-    (ap (decoded as_it_is) (behind_past 61 p.key value h.0 ∙ sym (append-nil value))
+    (ap (decoded as_it_is) (after_end_past 61 p.key value h.0 ∙ sym (append-nil value))
     ∙ text_back InProperty p.value [] ∙ append-nil p.value)
 
 all_back : (ps : List Property) → AreKeys ps → map property_of (map property_text ps) ≡ ps
 all_back [] h = refl
 all_back (p ∷ ps) h = ap₂ (λ q qs. q ∷ qs) (property_back p h.0) (all_back ps h.1)
 
-some_behind : (xs : List ℕ) (b : ℕ) (ys : List ℕ) → properties_behind (xs ++ b ∷ ys)
+some_after : (xs : List ℕ) (b : ℕ) (ys : List ℕ) → properties_after (xs ++ b ∷ ys)
     ≡ map property_of (pieces_of (xs ++ b ∷ ys))
-some_behind [] b ys = refl
-some_behind (x ∷ xs) b ys = refl
+some_after [] b ys = refl
+some_after (x ∷ xs) b ys = refl
 
 properties_back : (p : Property) (ps : List Property) → IsKey p → AreKeys ps
-    → properties_behind (property_text p ++ flat_map further_property ps) ≡ p ∷ ps
+    → properties_after (property_text p ++ flat_map further_property ps) ≡ p ∷ ps
 properties_back p ps h k =
     let more : List ℕ = flat_map further_property ps in
     let value : List ℕ = escaped InProperty p.value in
     let shape : property_text p ++ more ≡ p.key ++ 61 ∷ (value ++ more) = append_assoc p.key (61 ∷ value) more in
-    ap properties_behind shape ∙ some_behind p.key 61 (value ++ more)
+    ap properties_after shape ∙ some_after p.key 61 (value ++ more)
     ∙ ap (λ l. map property_of (pieces_of l)) (sym shape)
     ∙ ap (map property_of) (pieces_back p ps h k) ∙ all_back (p ∷ ps) (h, k)
 
@@ -259,9 +259,9 @@ whole_up : (end : ℕ) (xs : List ℕ) → lacks end xs ≡ true → up_to end x
 whole_up end [] h = refl
 whole_up end (x ∷ xs) h = (let p = no_match end x xs h in rw p.0 (ap (λ l. x ∷ l) (whole_up end xs p.1)))
 
-none_behind : (end : ℕ) (xs : List ℕ) → lacks end xs ≡ true → behind end xs ≡ []
-none_behind end [] h = refl
-none_behind end (x ∷ xs) h = (let p = no_match end x xs h in rw p.0 (none_behind end xs p.1))
+none_after : (end : ℕ) (xs : List ℕ) → lacks end xs ≡ true → after_end end xs ≡ []
+none_after end [] h = refl
+none_after end (x ∷ xs) h = (let p = no_match end x xs h in rw p.0 (none_after end xs p.1))
 
 record IsName (name : List ℕ) : Type 0 where
   colon : lacks 58 name ≡ true
@@ -279,12 +279,12 @@ name_back : (name : List ℕ) (ps : List Property) → lacks 32 name ≡ true
 name_back name [] h = ap (up_to 32) (append-nil name) ∙ whole_up 32 name h
 name_back name (p ∷ ps) h = up_past 32 name (property_text p ++ flat_map further_property ps) h
 
-behind_back : (name : List ℕ) (ps : List Property) → lacks 32 name ≡ true → AreKeys ps
-    → properties_behind (behind 32 (name ++ properties_text ps)) ≡ ps
-behind_back name [] h k = ap (λ l. properties_behind (behind 32 l)) (append-nil name)
-    ∙ ap properties_behind (none_behind 32 name h)
-behind_back name (p ∷ ps) h k =
-    ap properties_behind (behind_past 32 name (property_text p ++ flat_map further_property ps) h)
+after_back : (name : List ℕ) (ps : List Property) → lacks 32 name ≡ true → AreKeys ps
+    → properties_after (after_end 32 (name ++ properties_text ps)) ≡ ps
+after_back name [] h k = ap (λ l. properties_after (after_end 32 l)) (append-nil name)
+    ∙ ap properties_after (none_after 32 name h)
+after_back name (p ∷ ps) h k =
+    ap properties_after (after_end_past 32 name (property_text p ++ flat_map further_property ps) h)
     ∙ properties_back p ps k.0 k.1
 
 -- ---- rows
@@ -313,14 +313,14 @@ command_back c =
     sym (append_assoc name (properties_text ps) (58 ∷ 58 ∷ body)) in
     let head : head_in (command_text c) ≡ name ++ properties_text ps =
     ap (up_to 58) shape ∙ up_past 58 (name ++ properties_text ps) (58 ∷ body) colons in
-    let behind_head : body_in (command_text c) ≡ body =
-    ap (λ l. drop 1 (behind 58 l)) shape
-    ∙ ap (drop 1) (behind_past 58 (name ++ properties_text ps) (58 ∷ body) colons) in
+    let after_head : body_in (command_text c) ≡ body =
+    ap (λ l. drop 1 (after_end 58 l)) shape
+    ∙ ap (drop 1) (after_end_past 58 (name ++ properties_text ps) (58 ∷ body) colons) in
     record {
       begins = refl;
       name_is = ap (up_to 32) head ∙ name_back name ps named.space;
-      properties_are = ap (λ l. properties_behind (behind 32 l)) head ∙ behind_back name ps named.space keys;
-      message_is = ap (decoded as_it_is) behind_head
+      properties_are = ap (λ l. properties_after (after_end 32 l)) head ∙ after_back name ps named.space keys;
+      message_is = ap (decoded as_it_is) after_head
           ∙ text_back Message c.message (sayings_text c.sayings)
           ∙ ap (λ l. c.message ++ l) (sayings_back c.sayings);
       line = both_pass line name (properties_text ps ++ (58 ∷ 58 ∷ body)) named.line
@@ -363,6 +363,6 @@ mutual
       → length (related_commands chain inherited more ts) ≡ all_diagnostics_in ts
   related_counted chain inherited more no_trees = refl
   related_counted chain inherited more (more_trees t ts) =
-      counted_behind (report_commands chain inherited (first_answers more) t) _ _ _
+      counted_after (report_commands chain inherited (first_answers more) t) _ _ _
       (commands_counted chain inherited (first_answers more) t)
       (related_counted chain inherited (later_answers more) ts)

@@ -11,7 +11,7 @@ use Rattle.miette_protocol.specs.rules.Reading.{Source}
 use Rattle.miette_protocol.specs.views.Meaning.{Label}
 use Rattle.miette_fixes.specs.declared.error.FixError.{FixError}
 use Rattle.miette_fixes.specs.rules.Applying.{by_offset, put_edit, refusal}
-use Rattle.miette_fixes.specs.rules.Edits.{Proposal, Replacement, is_behind}
+use Rattle.miette_fixes.specs.rules.Edits.{Proposal, Replacement, is_after}
 use Rattle.miette_tree.specs.rules.Answers.{AnswerTrees}
 use Rattle.miette_tree.specs.rules.Tree.{Tree, tree, Cause, diagnostic, texts, causes_of, chain_of, Trees, no_trees}
 use Rattle.miette_tree.specs.rules.Tree.{more_trees, effective}
@@ -54,9 +54,9 @@ note_counted at None = refl
 note_counted at (Some text) = refl
 
 -- `k` after `n` others
-pub counted_behind : {A : Type 0} (xs ys : List A) (n k : ℕ) → length xs ≡ n → length ys ≡ k
+pub counted_after : {A : Type 0} (xs ys : List A) (n k : ℕ) → length xs ≡ n → length ys ≡ k
     → length (xs ++ ys) ≡ n + k
-counted_behind xs ys n k e f = length-append xs ys ∙ ap₂ (λ x y. x + y) e f
+counted_after xs ys n k e f = length-append xs ys ∙ ap₂ (λ x y. x + y) e f
 
 help_counted : (at : Place) (text : Option (List ℕ)) → length (help_rows at text) ≡ option_len text
 help_counted at None = refl
@@ -65,7 +65,7 @@ help_counted at (Some text) = refl
 notes_counted : (source : Option Source) (labels : List Label) → length (note_rows source labels) ≡ texts_in labels
 notes_counted source [] = refl
 notes_counted source (label ∷ labels) =
-    counted_behind (note_rows_of (label_place source label.span) label.text) (note_rows source labels) _ _
+    counted_after (note_rows_of (label_place source label.span) label.text) (note_rows source labels) _ _
     (note_counted (label_place source label.span) label.text) (notes_counted source labels)
 
 put_counted : (label : Label) (labels : List Label) → texts_in (put_label label labels) ≡ option_len label.text
@@ -85,14 +85,14 @@ order_counted (label ∷ labels) = put_counted label (in_order labels)
 further_counted : (sections : List Section) → length (further_notes sections) ≡ texts_further sections
 further_counted [] = refl
 further_counted (section ∷ sections) =
-    counted_behind (note_rows (Some section.source) (in_order section.labels)) (further_notes sections) _ _
+    counted_after (note_rows (Some section.source) (in_order section.labels)) (further_notes sections) _ _
     (notes_counted (Some section.source) (in_order section.labels) ∙ order_counted section.labels)
     (further_counted sections)
 
 labels_counted : (source : Option Source) (m : Diagnosis) → length (labelled_rows source m)
     ≡ texts_in (given_labels m.labels) + texts_further m.snippets
 labels_counted source m =
-    counted_behind (note_rows source (in_order (given_labels m.labels))) (further_notes m.snippets) _ _
+    counted_after (note_rows source (in_order (given_labels m.labels))) (further_notes m.snippets) _ _
     (notes_counted source (in_order (given_labels m.labels)) ∙ order_counted (given_labels m.labels))
     (further_counted m.snippets)
 
@@ -116,7 +116,7 @@ told_counted false at inherited a c = refl
 put_longer : (edit : Replacement) (edits : List Replacement) → length (put_edit edit edits) ≡ suc (length edits)
 put_longer edit [] = refl
 put_longer edit (next ∷ edits) =
-    by_cases {C = length (put_edit edit (next ∷ edits)) ≡ suc (suc (length edits))} (is_behind edit next)
+    by_cases {C = length (put_edit edit (next ∷ edits)) ≡ suc (suc (length edits))} (is_after edit next)
     (λ t. rw t (ap suc (put_longer edit edits)))
     (λ f. rw f refl)
 
@@ -161,14 +161,14 @@ fixes_counted : (at : Place) (over : FixedSource) (proposals : List Proposal) �
     ≡ fixes_parts over proposals
 fixes_counted at over [] = refl
 fixes_counted at over (proposal ∷ proposals) =
-    counted_behind (fix_rows at over proposal) (fixes_rows at over proposals) _ _ (fix_counted at over proposal)
+    counted_after (fix_rows at over proposal) (fixes_rows at over proposals) _ _ (fix_counted at over proposal)
     (fixes_counted at over proposals)
 
 advice_counted : (at : Place) (source : Option Source) (fails : Bool) (m : Diagnosis)
     → length (advice_rows at source fails m) ≡ advice_parts source fails m
 advice_counted at source fails m =
     let over = fixed_source source fails in
-    counted_behind (help_rows at m.help) (fixes_rows at over m.fixes) _ _ (help_counted at m.help)
+    counted_after (help_rows at m.help) (fixes_rows at over m.fixes) _ _ (help_counted at m.help)
     (fixes_counted at over m.fixes)
 
 -- ---- reports
@@ -187,8 +187,8 @@ mutual
       let k : length causes ≡ told_causes chain (causes_of c) = told_counted chain at from (cause_answers a) c in
       let tail : length (notes ++ (causes ++ advice)) ≡ (texts_in (given_labels m.labels) + texts_further m.snippets)
       + (told_causes chain (causes_of c) + advice_parts from fails m) =
-      counted_behind notes (causes ++ advice) _ _ n
-      (counted_behind causes advice _ _ k (advice_counted at from fails m)) in
+      counted_after notes (causes ++ advice) _ _ n
+      (counted_after causes advice _ _ k (advice_counted at from fails m)) in
       let more = related_counted chain from (related_answers a) r in
       let whole = length-append (own_rows chain from a m c) (related_rows chain from (related_answers a) r) in
       omega (arith, tail, more, whole)
@@ -197,7 +197,7 @@ mutual
       → length (related_rows chain inherited more ts) ≡ all_parts chain inherited more ts
   related_counted chain inherited more no_trees = refl
   related_counted chain inherited more (more_trees t ts) =
-      counted_behind (report_rows chain inherited (first_answers more) t) _ _ _
+      counted_after (report_rows chain inherited (first_answers more) t) _ _ _
       (report_counted chain inherited (first_answers more) t) (related_counted chain inherited (later_answers more) ts)
 
 rows_for_each : (f : Form) (chain : Bool) (t : Tree) (a : Answers) → f ≡ Gcc → IsRows (parts chain t a)

@@ -14,7 +14,7 @@ use Rattle.miette_brief.specs.declared.fix_its.Position.{Position}
 use Rattle.miette_brief.specs.rules.FixIts.{FixIt, octal, is_printable, escaped_byte, escaped, position_text}
 use Rattle.miette_brief.specs.rules.FixIts.{fix_it_text}
 use Rattle.miette_brief.specs.laws.ReadBack.{is_digit}
-use Rattle.miette_brief.specs.laws.EditBack.{as_it_is, text_to_quote, behind_quote, up_to, behind, position_to}
+use Rattle.miette_brief.specs.laws.EditBack.{as_it_is, text_to_quote, after_quote, up_to, after_end, position_to}
 use Rattle.miette_brief.specs.laws.EditBack.{name_onwards, start_onwards, end_onwards, text_onwards, ReadsEdit}
 use Rattle.miette_brief.proofs.Clean.{decimal_all, both_pass}
 
@@ -23,7 +23,7 @@ use Rattle.miette_brief.proofs.Clean.{decimal_all, both_pass}
 -- these stand for a byte: a reader of a text gives it, and goes on after them
 abbrev IsBack : ℕ → List ℕ → Type 0
 IsBack b spelled = (more : List ℕ) → (text_to_quote as_it_is (spelled ++ more) ≡ b ∷ text_to_quote as_it_is more)
-    × (behind_quote as_it_is (spelled ++ more) ≡ behind_quote as_it_is more)
+    × (after_quote as_it_is (spelled ++ more) ≡ after_quote as_it_is more)
 
 choose : (b : ℕ) (test : Bool) (xs ys : List ℕ) → (test ≡ true → IsBack b xs) → (test ≡ false → IsBack b ys)
     → IsBack b (if test then xs else ys)
@@ -87,10 +87,10 @@ text_past (b ∷ bs) rest h =
     ∙ (byte_back b h.0 (escaped bs ++ 34 ∷ rest)).0 ∙ ap (λ l. b ∷ l) (text_past bs rest h.1)
 
 quote_past : (bs rest : List ℕ) → AllByRecursion (λ b. b < 256) bs
-    → behind_quote as_it_is (escaped bs ++ 34 ∷ rest) ≡ rest
+    → after_quote as_it_is (escaped bs ++ 34 ∷ rest) ≡ rest
 quote_past [] rest h = refl
 quote_past (b ∷ bs) rest h =
-    ap (behind_quote as_it_is) (append_assoc (escaped_byte b) (escaped bs) (34 ∷ rest))
+    ap (after_quote as_it_is) (append_assoc (escaped_byte b) (escaped bs) (34 ∷ rest))
     ∙ (byte_back b h.0 (escaped bs ++ 34 ∷ rest)).1 ∙ quote_past bs rest h.1
 
 -- ---- numbers
@@ -104,11 +104,11 @@ up_past end (x ∷ xs) ys h =
     let p = and_parts (not (x == end)) (lacks end xs) h in
     rw (not-true (x == end) p.0) (ap (λ l. x ∷ l) (up_past end xs ys p.1))
 
-pub behind_past : (end : ℕ) (xs ys : List ℕ) → lacks end xs ≡ true → behind end (xs ++ end ∷ ys) ≡ ys
-behind_past end [] ys h = rw (eq-eqb end end refl) refl
-behind_past end (x ∷ xs) ys h =
+pub after_end_past : (end : ℕ) (xs ys : List ℕ) → lacks end xs ≡ true → after_end end (xs ++ end ∷ ys) ≡ ys
+after_end_past end [] ys h = rw (eq-eqb end end refl) refl
+after_end_past end (x ∷ xs) ys h =
     let p = and_parts (not (x == end)) (lacks end xs) h in
-    rw (not-true (x == end) p.0) (behind_past end xs ys p.1)
+    rw (not-true (x == end) p.0) (after_end_past end xs ys p.1)
 
 -- no digit is this byte
 abbrev IsNoDigit : ℕ → Type 0
@@ -150,11 +150,11 @@ position_back end none at rest small =
     let bs : List ℕ = position_text at ++ end ∷ rest in
     let shape : bs ≡ decimal at.line ++ 58 ∷ column =
     append_assoc (decimal at.line) (58 ∷ decimal at.column) (end ∷ rest) in
-    same_position (digits_value 10 (up_to 58 bs)) (digits_value 10 (up_to end (behind 58 bs))) at
+    same_position (digits_value 10 (up_to 58 bs)) (digits_value 10 (up_to end (after_end 58 bs))) at
     (ap (λ l. digits_value 10 (up_to 58 l)) shape ∙ number_back 58 no_colon at.line column small.0)
-    (ap (λ l. digits_value 10 (up_to end (behind 58 l))) shape
+    (ap (λ l. digits_value 10 (up_to end (after_end 58 l))) shape
     ∙ ap (λ l. digits_value 10 (up_to end l))
-    (behind_past 58 (decimal at.line) column (number_lacks 58 no_colon at.line))
+    (after_end_past 58 (decimal at.line) column (number_lacks 58 no_colon at.line))
     ∙ number_back end none at.column rest small.1)
 
 -- ---- rows
@@ -191,14 +191,14 @@ edit_back it hn ht hs he =
     let onwards : name_onwards row ≡ escaped name ++ 34 ∷ 58 ∷ 123 ∷ start_part it =
     shape (escaped name) (position_text it.start) (position_text it.end) (escaped it.text) in
     let start : start_onwards row ≡ start_part it =
-    ap (λ l. drop 2 (behind_quote as_it_is l)) onwards
+    ap (λ l. drop 2 (after_quote as_it_is l)) onwards
     ∙ ap (drop 2) (quote_past name (58 ∷ 123 ∷ start_part it) named) in
     let end : end_onwards row ≡ end_part it =
-    ap (behind 45) start ∙ behind_past 45 (position_text it.start) (end_part it)
+    ap (after_end 45) start ∙ after_end_past 45 (position_text it.start) (end_part it)
     (position_lacks 45 no_dash refl it.start) in
     let text : text_onwards row ≡ escaped it.text ++ 34 ∷ [] =
-    ap (λ l. drop 2 (behind 125 l)) end ∙ ap (drop 2)
-    (behind_past 125 (position_text it.end) (text_part it) (position_lacks 125 no_brace refl it.end)) in
+    ap (λ l. drop 2 (after_end 125 l)) end ∙ ap (drop 2)
+    (after_end_past 125 (position_text it.end) (text_part it) (position_lacks 125 no_brace refl it.end)) in
     record {
       name_is = ap (text_to_quote as_it_is) onwards ∙ text_past name (58 ∷ 123 ∷ start_part it) named;
       start_is = ap (position_to 45) start ∙ position_back 45 no_dash it.start (end_part it) hs;

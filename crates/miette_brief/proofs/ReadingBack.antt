@@ -64,20 +64,20 @@ position_past : (at : Position) (rest : List ℕ) → at.line < 2 ^ 64 → at.co
     → position_in (decimal at.line ++ (58 ∷ (decimal at.column ++ (58 ∷ rest)))) ≡ Some at
 position_past at rest line column =
     let last = decimal at.column ++ (58 ∷ rest) in
-    let behind = decimal at.line ++ (58 ∷ last) in
+    let after = decimal at.line ++ (58 ∷ last) in
     position_there (decimal at.line) (58 ∷ last) (decimal_nonempty at.line line)
     (decimal_all (λ b. not (b == 32)) digit_no_space at.line)
-    ∙ same_position (number_before behind) (number_before (after_colon behind)) at (number_past at.line last line)
+    ∙ same_position (number_before after) (number_before (after_colon after)) at (number_past at.line last line)
     (ap number_before (after_past (decimal at.line) last (decimal_no_colon at.line))
     ∙ number_past at.column rest column)
 
 -- ---- rows
 
-back : (n behind row : List ℕ) (position : Option Position) → has_no_colon n ≡ true → row ≡ n ++ (58 ∷ behind)
-    → position_in behind ≡ position → ReadsBack n position row
-back n behind row position free e p = record {
-  name_is = ap before_colon e ∙ before_past n behind free;
-  position_is = ap (λ bs. position_in (after_colon bs)) e ∙ (ap position_in (after_past n behind free) ∙ p);
+back : (n after row : List ℕ) (position : Option Position) → has_no_colon n ≡ true → row ≡ n ++ (58 ∷ after)
+    → position_in after ≡ position → ReadsBack n position row
+back n after row position free e p = record {
+  name_is = ap before_colon e ∙ before_past n after free;
+  position_is = ap (λ bs. position_in (after_colon bs)) e ∙ (ap position_in (after_past n after free) ∙ p);
 }
 
 pub text_back : (name rest : List ℕ) (position : Option Position) → has_no_colon (one_row name) ≡ true

@@ -93,7 +93,7 @@ pub labelled : (source : Option Source) (m : Diagnosis) (labels order : List Lab
     → IsDiagnosticPlace source order further at → mid ≡ old ++ rows_text (finding_row at m ∷ [])
     → more ≡ mid ++ rows_text (note_rows source order) → HasAccepted source order
     → new ≡ more ++ rows_text (further_notes further) → FurtherAccepted further → AppendsLabelled source m at old new
-labelled source m labels order further at old mid more new el eo ef placed e f accepted g behind =
+labelled source m labels order further at old mid more new el eo ef placed e f accepted g after =
     let ls : List Label = in_order (given_labels m.labels) in
     let same : order ≡ ls = eo ∙ ap in_order el in
     record {
@@ -101,7 +101,7 @@ labelled source m labels order further at old mid more new el eo ef placed e f a
           (subst (λ (l : List Label). IsDiagnosticPlace source l further at) same placed);
       accepted = (
         subst (λ (l : List Label). HasAccepted source l) same accepted,
-        subst (λ (ss : List Section). FurtherAccepted ss) ef behind,
+        subst (λ (ss : List Section). FurtherAccepted ss) ef after,
       );
       appended = labels_told source m at old mid more new e
           (f ∙ ap (λ l. mid ++ rows_text (note_rows source l)) same)

@@ -3,7 +3,7 @@
 ghost use Rattle.std.specs.Prelude.{◌≡◌, ◌++◌, ◌∷◌, ◌≤◌, [], false, length, map, IfOk, OnOk, string_bytes};
 ghost use Rattle.std.specs.Prelude.{option_copied};
 ghost use Rattle.std.specs.List.{list_any};
-ghost use Rattle.miette_fixes.specs.rules.Edits.{ends_behind};
+ghost use Rattle.miette_fixes.specs.rules.Edits.{ends_after};
 ghost use Rattle.miette_fixes.specs.views.Ordered.{edits_of};
 ghost use Rattle.miette_tree.specs.views.Owned.{source_shown};
 ghost use Rattle.miette_brief.specs.rules.Fixes.{position_of as position_in, byte_of as byte_in, edit_row, fix_row};
@@ -62,7 +62,7 @@ fn byte_of(source: &IndexedSource, at: usize) -> Result<Position, AllocError>
 
 /// The row of an edit that doesn't end after the source's end.
 fn push_edit(out: &mut String, text: FixText<'_>, edit: &Edit) -> Result<(), AllocError>
-    requires { ends_behind (length text.lines.now) edit.now ≡ false }
+    requires { ends_after (length text.lines.now) edit.now ≡ false }
     ensures { OnOk result (string_bytes out.new ≡ string_bytes out.old
         ++ rows_text (edit_row (option_copied text.entry.name) text.entry.lines.now edit.now ∷ [])) }
 {
@@ -79,7 +79,7 @@ fn push_edit(out: &mut String, text: FixText<'_>, edit: &Edit) -> Result<(), All
 
 /// The rows of edits in their order, none of which ends after the source's end.
 fn push_edits(out: &mut String, text: FixText<'_>, edits: &[&Edit]) -> Result<(), AllocError>
-    requires { list_any (ends_behind (length text.lines.now)) (edits_of edits.now) ≡ false }
+    requires { list_any (ends_after (length text.lines.now)) (edits_of edits.now) ≡ false }
     ensures { OnOk result (string_bytes out.new ≡ string_bytes out.old
         ++ rows_text (map (edit_row (option_copied text.entry.name) text.entry.lines.now) (edits_of edits.now))) }
 {
@@ -119,7 +119,7 @@ fn push_applied(
     message: &str,
     edits: &[&Edit],
 ) -> Result<(), AllocError>
-    requires { list_any (ends_behind (length text.lines.now)) (edits_of edits.now) ≡ false }
+    requires { list_any (ends_after (length text.lines.now)) (edits_of edits.now) ≡ false }
     ensures { OnOk result (string_bytes out.new ≡ string_bytes out.old
         ++ rows_text (applied_rows (place_of at.entry) (option_copied text.entry.name) text.entry.lines.now
         message.now (edits_of edits.now))) }

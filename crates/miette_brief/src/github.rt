@@ -91,10 +91,10 @@ fn push_notes_from<S: SourceCode>(
     ensures { OnOk result (string_bytes out.new ≡ string_bytes out.old
         ++ sayings_text (note_sayings (with_first (Some at) (map (mark_of S.source) marks.now)))) }
 {
-    let (first, before, behind) = parted(marks, at);
+    let (first, before, after) = parted(marks, at);
     push_notes(out, first)?;
     push_notes(out, before)?;
-    push_notes(out, behind)
+    push_notes(out, after)
 }
 
 /// The texts of labels, that of one of them first, where it is told which.

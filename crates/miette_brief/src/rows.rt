@@ -1,7 +1,7 @@
 //! The rows of a brief report, and their parts.
 
 ghost use Rattle.std.specs.Prelude.{◌≡◌, ◌++◌, ◌∷◌, [], Some, None, OnOk, string_bytes, option_copied};
-ghost use Rattle.miette_brief.specs.rules.Rows.{behind_colon, place_text, code_text, kind_text};
+ghost use Rattle.miette_brief.specs.rules.Rows.{position_after_colon, place_text, code_text, kind_text};
 ghost use Rattle.miette_brief.specs.rules.Rows.{finding, told, rows_text};
 ghost use Rattle.miette_brief.specs.steps.Conversions.{place_of, kind_of};
 
@@ -31,8 +31,8 @@ pub(crate) enum Kind<'a> {
 }
 
 /// `:2:3`
-fn push_behind_colon(out: &mut String, position: Option<Position>) -> Result<(), AllocError>
-    ensures { OnOk result (string_bytes out.new ≡ string_bytes out.old ++ behind_colon position) }
+fn push_after_colon(out: &mut String, position: Option<Position>) -> Result<(), AllocError>
+    ensures { OnOk result (string_bytes out.new ≡ string_bytes out.old ++ position_after_colon position) }
 {
     let Some(at) = position else {
         return Ok(());
@@ -46,7 +46,7 @@ fn push_named(out: &mut String, name: &str, position: Option<Position>) -> Resul
     ensures { OnOk result (string_bytes out.new ≡ string_bytes out.old ++ place_text (Some name.now) position) }
 {
     push_one_row(out, name)?;
-    push_behind_colon(out, position)?;
+    push_after_colon(out, position)?;
     out.push_str(": ")
 }
 

@@ -12,7 +12,7 @@ use Rattle.miette_cells.specs.rules.Widths.{width_of}
 use Rattle.miette_cells.proofs.Stepping.{IsFirst, made, characters_step, characters_end}
 use Rattle.miette_columns.specs.rules.Columns.{begun_text, is_boundary, widths, column}
 use Rattle.miette_columns.specs.declared.places.PartingPlace.{PartingPlace}
-use Rattle.miette_columns.specs.steps.Places.{overlap_text, twice, column_behind}
+use Rattle.miette_columns.specs.steps.Places.{overlap_text, twice, column_past}
 
 -- a character of a text: how many bytes stand before it, and how many it takes
 pub record IsNext (text : List ℕ) (bytes code size : ℕ) : Type 0 where
@@ -132,14 +132,14 @@ pub off_boundary : (text : List ℕ) (bytes : ℕ) → is_boundary bytes (charac
     → column bytes (characters text) ≡ widths (begun_text bytes (characters text))
 off_boundary text bytes e = rw e refl
 
-pub behind_boundary : (place : PartingPlace) (text : List ℕ) (bytes : ℕ) → is_boundary bytes (characters text) ≡ true →
-    column_behind place bytes (characters text) ≡ place.column
+pub after_boundary : (place : PartingPlace) (text : List ℕ) (bytes : ℕ) → is_boundary bytes (characters text) ≡ true →
+    column_past place bytes (characters text) ≡ place.column
     + str_width false (overlap_text place.overlap ++ begun_text bytes (characters text))
-behind_boundary place text bytes e = rw e refl
+after_boundary place text bytes e = rw e refl
 
-pub behind_other : (place : PartingPlace) (text : List ℕ) (bytes : ℕ) → is_boundary bytes (characters text) ≡ false →
-    column_behind place bytes (characters text) ≡ place.widths + widths (begun_text bytes (characters text))
-behind_other place text bytes e = rw e refl
+pub after_other : (place : PartingPlace) (text : List ℕ) (bytes : ℕ) → is_boundary bytes (characters text) ≡ false →
+    column_past place bytes (characters text) ≡ place.widths + widths (begun_text bytes (characters text))
+after_other place text bytes e = rw e refl
 
 pub twice_boundary : (place : PartingPlace) (text : List ℕ) (bytes : ℕ) → is_boundary bytes (characters text) ≡ true
     → twice place bytes (characters text) ≡ place.twice
@@ -151,15 +151,15 @@ twice_other place text bytes e = rw e refl
 
 -- the column, where nothing is counted twice
 abbrev pub told_column : PartingPlace → ℕ → List Character → ℕ
-told_column place bytes cs = column_behind place bytes cs - twice place bytes cs
+told_column place bytes cs = column_past place bytes cs - twice place bytes cs
 
 told_other : (place : PartingPlace) (text : List ℕ) (bytes result : ℕ) → is_boundary bytes (characters text) ≡ false
     → result ≡ place.widths + widths (begun_text bytes (characters text)) → result
     ≡ told_column place bytes (characters text)
 told_other place text bytes result e r =
     let none = twice_other place text bytes e in
-    let behind = behind_other place text bytes e in
-    omega (arith, r, none, behind)
+    let past = after_other place text bytes e in
+    omega (arith, r, none, past)
 
 pub boundary_at_zero : (front : List ℕ) (first : ℕ) (text : List ℕ) (bytes : ℕ) (over : List ℕ) (sum : ℕ)
     (rest : List ℕ) (left : ℕ) → IsOver front first text bytes over sum rest left → left ≡ 0
@@ -184,8 +184,8 @@ over_at_zero place text bytes over sum rest left result h zero r =
     let wide = ap (str_width false) (all_at_zero (overlap_text place.overlap) place.widths text bytes over sum rest left
     h zero) in
     let more = twice_boundary place text bytes here in
-    let behind = behind_boundary place text bytes here in
-    omega (arith, r, wide, more, behind)
+    let past = after_boundary place text bytes here in
+    omega (arith, r, wide, more, past)
 
 pub over_past_end : (place : PartingPlace) (text : List ℕ) (bytes : ℕ) (over : List ℕ) (sum : ℕ) (rest : List ℕ)
     (left : ℕ) → IsOver (overlap_text place.overlap) place.widths text bytes over sum rest left → 0 < left → rest ≡ [] →

@@ -164,10 +164,10 @@ read_faint c (d ∷ ds) h all =
     ap (step false c) (read_faint d ds both.0 both.1) ∙ step_faint c 0 (alone false d).1 h (own_bare d both.0)
 
 -- a text that ends with such a character has the columns of one that goes on with others
-pub faint_behind : (xs cs : List ℕ) (c : ℕ) → is_faint c ≡ true → list_all is_faint cs ≡ true
+pub faint_after : (xs cs : List ℕ) (c : ℕ) → is_faint c ≡ true → list_all is_faint cs ≡ true
     → str_width false (xs ++ c ∷ cs) ≡ str_width false (xs ++ c ∷ [])
 unfolding str_width
-faint_behind xs cs c h all =
+faint_after xs cs c h all =
     ap (λ r. r.0) (read_append xs (c ∷ cs) (0, plain))
     ∙ ap (λ r. (read_before false xs r).0) (read_faint c cs h all ∙ sym (read_faint c [] h refl))
     ∙ ap (λ r. r.0) (sym (read_append xs (c ∷ []) (0, plain)))

@@ -18,10 +18,10 @@ use Rattle.miette_columns.specs.declared.overlap.Overlap.TheVariants.{Nothing}
 use Rattle.miette_columns.specs.declared.places.PartingPlace.{PartingPlace}
 use Rattle.miette_columns.specs.rules.Columns.{begun_text, is_boundary, column}
 use Rattle.miette_columns.specs.steps.Parting.{may_part, may_part_flags, opens, end_overlap, overlap_between}
-use Rattle.miette_columns.specs.steps.Places.{overlap_text, IsHeld, twice, column_behind, IsPlace}
+use Rattle.miette_columns.specs.steps.Places.{overlap_text, IsHeld, twice, column_past, IsPlace}
 use Rattle.miette_columns.proofs.Columning.{IsNext, IsRead, is_next, IsOver, none_over, one_over, begun_more}
 use Rattle.miette_columns.proofs.Columning.{begun_zero, chars_pushed}
-use Rattle.miette_columns.proofs.Columning.{at_boundary, off_boundary, behind_boundary, behind_other, twice_boundary}
+use Rattle.miette_columns.proofs.Columning.{at_boundary, off_boundary, after_boundary, after_other, twice_boundary}
 use Rattle.miette_columns.proofs.Columning.{twice_other, told_column, boundary_at_zero, all_at_zero}
 use Rattle.miette_columns.proofs.PartedTexts.{parted, no_width}
 use Rattle.miette_columns.proofs.SettledTexts.{Settles, settled, EndsIn, end_settles}
@@ -40,20 +40,20 @@ first_place text place b c w f d = (
         let at : place.bytes + more ≡ more = omega (arith, b) in
         let here : column (place.bytes + more) (characters text) ≡ column more cs =
         ap (λ k. column k (characters text)) at ∙ ap (λ t. column more (characters t)) (sym same) in
-        by_cases {C = column (place.bytes + more) (characters text) + twice place more cs ≡ column_behind place more cs}
+        by_cases {C = column (place.bytes + more) (characters text) + twice place more cs ≡ column_past place more cs}
         (is_boundary more cs)
         (λ y.
         let bare : str_width false (overlap_text place.overlap ++ begun_text more cs)
         ≡ str_width false (begun_text more cs) = ap (λ h. str_width false (overlap_text h ++ begun_text more cs)) f in
         let wide = at_boundary start more y in
-        let behind = behind_boundary place start more y in
+        let is_past = after_boundary place start more y in
         let none = twice_boundary place start more y in
-        omega (arith, here, c, d, bare, wide, behind, none))
+        omega (arith, here, c, d, bare, wide, is_past, none))
         (λ n.
         let wide = off_boundary start more n in
-        let behind = behind_other place start more n in
+        let is_past = after_other place start more n in
         let none = twice_other place start more n in
-        omega (arith, here, w, wide, behind, none)),
+        omega (arith, here, w, wide, is_past, none)),
   ),
 )
 
@@ -71,7 +71,7 @@ column_from text place bytes result is le h =
 
 -- the bytes of a text from a place up to `bytes` are over
 pub record IsSince (text : List ℕ) (from : PartingPlace) (over : List ℕ) (sum bytes : ℕ) : Type 0 where
-  pub behind : from.bytes ≤ bytes
+  pub after : from.bytes ≤ bytes
   pub within : bytes ≤ length text
   pub each : (more : ℕ) → IsOver (overlap_text from.overlap) from.widths (drop from.bytes text)
       ((bytes - from.bytes) + more) over sum (drop bytes text) more
@@ -80,7 +80,7 @@ pub none_since : (text : List ℕ) (from : PartingPlace) (over : List ℕ) → f
     ≡ overlap_text from.overlap → IsSince text from over from.widths from.bytes
 none_since text from over le e =
     record {
-      behind = omega arith;
+      after = omega arith;
       within = le;
       each = λ more.
           let at : more ≡ (from.bytes - from.bytes) + more = omega arith in
@@ -94,13 +94,13 @@ pub one_since : (text : List ℕ) (from : PartingPlace) (over new : List ℕ) (s
     → new ≡ over ++ encode_utf8 code → wider ≡ sum + width_of code → IsSince text from new wider (bytes + size)
 one_since text from over new sum wider bytes code size h next u v e w =
     record {
-      behind = omega (arith, h.behind);
+      after = omega (arith, h.after);
       within = next.within;
       each = λ more.
           let start = drop from.bytes text in
           let left : (size + more) - size ≡ more = omega arith in
           let at : (bytes - from.bytes) + (size + more) ≡ ((bytes + size) - from.bytes) + more =
-          omega (arith, h.behind) in
+          omega (arith, h.after) in
           let step = one_over (overlap_text from.overlap) from.widths start ((bytes - from.bytes) + (size + more)) over
           new sum wider (drop bytes text) (drop size (drop bytes text)) (size + more) code size
           (h.each (size + more)) next.first u v e w (omega (arith, next.some)) (omega arith) in
@@ -202,9 +202,9 @@ counted text from over sum bytes is h =
     let wide = ap (str_width false) (all_at_zero (overlap_text from.overlap) from.widths start k over sum
     (drop bytes text) 0 it refl) in
     let told = is.1.1 k in
-    let behind = behind_boundary from start k here in
+    let is_past = after_boundary from start k here in
     let more = twice_boundary from start k here in
-    omega (arith, wide, told, behind, more)
+    omega (arith, wide, told, is_past, more)
 
 -- between characters where columns are told is a place
 pub next_place : (text : List ℕ) (from place : PartingPlace) (over after : List ℕ) (code size : ℕ) → IsPlace text from
@@ -222,29 +222,29 @@ next_place text from place over after code size is h first part free c d = (
         let cs = characters rest in
         let k = (place.bytes - from.bytes) + more in
         let it = h.each more in
-        let at : place.bytes + more ≡ from.bytes + k = omega (arith, h.behind) in
+        let at : place.bytes + more ≡ from.bytes + k = omega (arith, h.after) in
         let same = ap (λ n. column n (characters text)) at in
         let told = is.1.1 k in
-        by_cases {C = column (place.bytes + more) (characters text) + twice place more cs ≡ column_behind place more cs}
+        by_cases {C = column (place.bytes + more) (characters text) + twice place more cs ≡ column_past place more cs}
         (is_boundary more cs)
         (λ y.
         let here : is_boundary k (characters start) ≡ true = sym it.boundary ∙ y in
         let all = ap (str_width false) it.all in
         let wide = parted_begun over place.overlap code size more rest after first part in
         let enough = counted text from over place.widths place.bytes is h in
-        let behind = behind_boundary from start k here in
+        let is_past = after_boundary from start k here in
         let more_twice = twice_boundary from start k here in
-        let to = behind_boundary place rest more y in
+        let to = after_boundary place rest more y in
         let to_twice = twice_boundary place rest more y in
-        omega (arith, same, told, all, wide, enough, behind, more_twice, to, to_twice, c, d))
+        omega (arith, same, told, all, wide, enough, is_past, more_twice, to, to_twice, c, d))
         (λ n.
         let here : is_boundary k (characters start) ≡ false = sym it.boundary ∙ n in
-        let behind = behind_other from start k here in
+        let is_past = after_other from start k here in
         let none = twice_other from start k here in
-        let to = behind_other place rest more n in
+        let to = after_other place rest more n in
         let to_none = twice_other place rest more n in
         let sums = it.width in
-        omega (arith, same, told, behind, none, to, to_none, sums)),
+        omega (arith, same, told, is_past, none, to, to_none, sums)),
   ),
 )
 

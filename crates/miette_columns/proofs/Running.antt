@@ -16,8 +16,8 @@ use Rattle.miette_columns.specs.steps.Places.{IsPlace}
 use Rattle.miette_columns.specs.steps.Trails.{is_faint, AreFaint, IsTrail, first_size}
 use Rattle.miette_columns.proofs.Columning.{IsNext, begun_more, begun_zero, boundary_more, boundary_inside}
 use Rattle.miette_columns.proofs.Columning.{boundary_zero}
-use Rattle.miette_columns.proofs.Columning.{behind_boundary, behind_other, twice_boundary, twice_other}
-use Rattle.miette_columns.proofs.FaintCharacters.{faint_behind, faint_width}
+use Rattle.miette_columns.proofs.Columning.{after_boundary, after_other, twice_boundary, twice_other}
+use Rattle.miette_columns.proofs.FaintCharacters.{faint_after, faint_width}
 use Rattle.miette_columns.proofs.SettledTexts.{EndsIn}
 use Rattle.miette_columns.proofs.PlaceLaws.{IsSince}
 
@@ -47,11 +47,11 @@ no_widths (c ∷ cs) h =
     let rest = no_widths cs both.1 in
     omega (arith, own, rest)
 
-ends_behind : (over : List ℕ) (last : ℕ) (cs : List ℕ) → EndsIn over (last ∷ []) → is_faint last ≡ true
+ends_after : (over : List ℕ) (last : ℕ) (cs : List ℕ) → EndsIn over (last ∷ []) → is_faint last ≡ true
     → list_all is_faint cs ≡ true → str_width false (chars over ++ cs) ≡ str_width false (chars over)
-ends_behind over last cs ends h all =
+ends_after over last cs ends h all =
     ap (λ o. str_width false (o ++ cs)) ends.is ∙ ap (str_width false) (append_assoc ends.front (last ∷ []) cs)
-    ∙ faint_behind ends.front cs last h all ∙ sym (ap (str_width false) ends.is)
+    ∙ faint_after ends.front cs last h all ∙ sym (ap (str_width false) ends.is)
 
 -- ---- where they end
 
@@ -63,7 +63,7 @@ first_bytes text bytes code size is = sym (ap first_size
 
 -- such characters lie from one offset up to another
 pub record AreSince (text : List ℕ) (from bytes : ℕ) : Type 0 where
-  pub behind : from ≤ bytes
+  pub after : from ≤ bytes
   pub within : bytes ≤ length text
   pub boundary : (more : ℕ) → is_boundary ((bytes - from) + more) (characters (drop from text))
       ≡ is_boundary more (characters (drop bytes text))
@@ -73,7 +73,7 @@ pub record AreSince (text : List ℕ) (from bytes : ℕ) : Type 0 where
 pub none_faint : (text : List ℕ) (from : ℕ) → from ≤ length text → AreSince text from from
 none_faint text from le =
     record {
-      behind = omega arith;
+      after = omega arith;
       within = le;
       boundary = λ more. let at : (from - from) + more ≡ more = omega arith in
           ap (λ k. is_boundary k (characters (drop from text))) at;
@@ -88,17 +88,17 @@ one_faint text from bytes code size h next faint =
     let step = characters_step (drop bytes text) (drop size (drop bytes text)) code size next.first in
     let rest : drop size (drop bytes text) ≡ drop (bytes + size) text = drop-drop size bytes text in
     record {
-      behind = omega (arith, h.behind);
+      after = omega (arith, h.after);
       within = next.within;
       boundary = λ more.
-          let at : ((bytes + size) - from) + more ≡ (bytes - from) + (size + more) = omega (arith, h.behind) in
+          let at : ((bytes + size) - from) + more ≡ (bytes - from) + (size + more) = omega (arith, h.after) in
           let left : (size + more) - size ≡ more = omega arith in
           ap (λ k. is_boundary k (characters (drop from text))) at ∙ h.boundary (size + more)
           ∙ ap (is_boundary (size + more)) step
           ∙ boundary_more (size + more) code size cs (omega (arith, next.some)) (omega arith)
           ∙ ap (λ k. is_boundary k cs) left ∙ ap (λ r. is_boundary more (characters r)) rest;
       faint = λ more all.
-          let at : ((bytes + size) - from) + more ≡ (bytes - from) + (size + more) = omega (arith, h.behind) in
+          let at : ((bytes + size) - from) + more ≡ (bytes - from) + (size + more) = omega (arith, h.after) in
           let left : (size + more) - size ≡ more = omega arith in
           let one : begun_text (size + more) (characters (drop bytes text)) ≡ code ∷ begun_text more cs =
           ap (begun_text (size + more)) step ∙ begun_more (size + more) code size cs (omega (arith, next.some))
@@ -114,7 +114,7 @@ pub all_faint : (text : List ℕ) (from bytes : ℕ) → AreSince text from byte
 all_faint text from bytes h =
     let at : (bytes - from) + 0 ≡ bytes - from = omega arith in
     let cs = characters (drop bytes text) in (
-      h.behind,
+      h.after,
       (
         h.within,
         (
@@ -138,7 +138,7 @@ first_trail text from over last trail is h ends faint all c = (
       let cs = characters (drop trail.bytes text) in
       let k = (trail.bytes - from.bytes) + more in
       let it = h.each more in
-      let at : trail.bytes + more ≡ from.bytes + k = omega (arith, h.behind) in
+      let at : trail.bytes + more ≡ from.bytes + k = omega (arith, h.after) in
       let same = ap (λ n. column n (characters text)) at in
       let told = is.1.1 k in
       let few : list_all is_faint (begun_text more cs) ≡ true =
@@ -148,20 +148,20 @@ first_trail text from over last trail is h ends faint all c = (
       (λ y.
       let here : is_boundary k (characters start) ≡ true = sym it.boundary ∙ y in
       let wide = ap (str_width false) it.all in
-      let only = ends_behind over last (begun_text more cs) ends faint few in
-      let behind = behind_boundary from start k here in
+      let only = ends_after over last (begun_text more cs) ends faint few in
+      let after = after_boundary from start k here in
       let twice = twice_boundary from start k here in
       let value : column (trail.bytes + more) (characters text) ≡ trail.column =
-      omega (arith, same, told, wide, only, behind, twice, c) in
+      omega (arith, same, told, wide, only, after, twice, c) in
       value ∙ sym (cond-true (is_boundary more cs) trail.column trail.widths y))
       (λ n.
       let here : is_boundary k (characters start) ≡ false = sym it.boundary ∙ n in
-      let behind = behind_other from start k here in
+      let after = after_other from start k here in
       let none = twice_other from start k here in
       let sums = it.width in
       let no_more = no_widths (begun_text more cs) few in
       let value : column (trail.bytes + more) (characters text) ≡ trail.widths =
-      omega (arith, same, told, behind, none, sums, no_more) in
+      omega (arith, same, told, after, none, sums, no_more) in
       value ∙ sym (cond-false (is_boundary more cs) trail.column trail.widths n)),
 )
 

@@ -37,10 +37,10 @@ settled xs cs ys next h (left, leaves) =
     let v = str_width false (cs ++ next ∷ ys) in
     let one = read_before false cs (v, plain) in
     let rest = read_before false ys (w, plain) in
-    let behind = step false next rest in
+    let ahead = step false next rest in
     let all = read_before false (cs ++ next ∷ ys) (w, plain) in
     let all_state : all.1 ≡ left = ap (λ r. r.1) (read_append cs (next ∷ ys) (w, plain))
-    ∙ leaves behind.0 behind.1 (step_opens next rest.0 rest.1 h) in
+    ∙ leaves ahead.0 ahead.1 (step_opens next rest.0 rest.1 h) in
     let one_state : one.1 ≡ left = leaves v plain plain_open in
     let all_total : all.0 ≡ v + w = shifted (cs ++ next ∷ ys) w in
     let one_total : one.0 ≡ w + v = shifted cs v in

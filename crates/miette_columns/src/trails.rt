@@ -53,7 +53,7 @@ fn faint_end(text: &[u8], from: usize) -> usize
 }
 
 // The trail without its first character.
-fn behind_first(text: &[u8], trail: Trail) -> Trail
+fn after_first(text: &[u8], trail: Trail) -> Trail
     requires trail { IsTrail text.now trail }
     requires some { trail.bytes < trail.until }
     ensures trail { IsTrail text.now result }
@@ -81,7 +81,7 @@ fn push_parts(trails: &mut Vec<Trail>, text: &[u8], whole: Trail) -> Result<(), 
             trails.push(trail)?;
             next = trail.bytes.saturating_add(APART);
         }
-        trail = behind_first(text, trail);
+        trail = after_first(text, trail);
     }
     Ok(())
 }
@@ -175,7 +175,7 @@ pub(crate) fn column_in(text: &[u8], whole: Trail, bytes: usize) -> usize
 {
     let mut trail = whole;
     while trail.bytes < bytes {
-        let next = behind_first(text, trail);
+        let next = after_first(text, trail);
         if bytes < next.bytes {
             return trail.widths;
         }

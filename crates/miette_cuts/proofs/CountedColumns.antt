@@ -147,12 +147,12 @@ evens_counted dots room es false n o c count bs cs some le far =
 
 -- ---- cells of printable ASCII from a column on
 
-abbrev pub cells_behind : PlainCells → List ℕ → List Cell → ℕ → List Cell
-cells_behind first bs cs column =
+abbrev pub cells_after : PlainCells → List ℕ → List Cell → ℕ → List Cell
+cells_after first bs cs column =
     plain_cells (first.start + (column - first.from)) column (drop (column - first.from) bs) ++ cs
 
 pub plain_begun : (first : PlainCells) (bs : List ℕ) (cs : List Cell) → plain_cells first.start first.from bs ++ cs
-    ≡ cells_behind first bs cs first.from
+    ≡ cells_after first bs cs first.from
 plain_begun first bs cs =
     let none : first.from - first.from ≡ 0 = omega arith in
     let at : first.start ≡ first.start + 0 = omega arith in
@@ -162,8 +162,8 @@ plain_begun first bs cs =
 pub plain_counted : (dots : ℕ) (room : Room) (es : List ℕ) (first : PlainCells) (bs : List ℕ) (cs : List Cell)
     (column : ℕ) (count next : Count) (s : MadeStretch) (whole : ℕ) → first.from ≤ column
     → IsEven room es column (first.from + length bs) s → next ≡ counted dots s.shown s.cells count →
-    whole_count dots (near_by room es) count (cells_behind first bs cs column) ≡ whole →
-    whole_count dots (near_by room es) next (cells_behind first bs cs (column + s.cells)) ≡ whole
+    whole_count dots (near_by room es) count (cells_after first bs cs column) ≡ whole →
+    whole_count dots (near_by room es) next (cells_after first bs cs (column + s.cells)) ≡ whole
 plain_counted dots room es first bs cs column count next s whole from is n inv =
     let i : ℕ = column - first.from in
     let many : length (drop i bs) ≡ length bs - i = length-drop i bs in
@@ -172,14 +172,14 @@ plain_counted dots room es first bs cs column count next s whole from is n inv =
     ∙ ap (λ k. drop k bs) more in
     let at : first.start + i + s.cells ≡ first.start + (column + s.cells - first.from) = omega (arith, from) in
     let own : Count = counted dots s.shown s.cells count in
-    ap (λ (k : Count). whole_count dots (near_by room es) k (cells_behind first bs cs (column + s.cells))) n
+    ap (λ (k : Count). whole_count dots (near_by room es) k (cells_after first bs cs (column + s.cells))) n
     ∙ sym (ap₂ (λ p xs. whole_count dots (near_by room es) own (plain_cells p (column + s.cells) xs ++ cs)) at left)
     ∙ sym (evens_counted dots room es s.shown s.cells (first.start + i) column count (drop i bs) cs is.some
     (omega (arith, is.within, many, from)) is.alike) ∙ inv
 
 pub plain_done : (dots : ℕ) (near : Cell → Bool) (limit : ℕ) (first : PlainCells) (bs : List ℕ) (cs : List Cell)
     (column : ℕ) (count : Count) (whole : ℕ) → first.from + length bs ≤ column →
-    whole_count dots near count (cells_behind first bs cs column) ≡ whole →
+    whole_count dots near count (cells_after first bs cs column) ≡ whole →
     IsCounted limit count (whole_count dots near count cs) whole
 plain_done dots near limit first bs cs column count whole le inv =
     let past : length bs ≤ column - first.from = omega (arith, le) in

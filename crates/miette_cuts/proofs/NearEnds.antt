@@ -114,8 +114,8 @@ pub none_within : (reach : ℕ) (cell : Cell) (e : ℕ) (es : List ℕ) → cell
 none_within reach cell e [] far up = refl
 none_within reach cell e (x ∷ es) far up =
     let more : e ≤ x = up 0 1 0 (omega arith) (omega arith) in
-    let behind : ltb x (cell.until + reach) ≡ false = le-ltb x (cell.until + reach) (omega (arith, far, more)) in
-    let here : is_within reach cell x ≡ false = ap (λ b. leb cell.from (x + reach) && b) behind
+    let after : ltb x (cell.until + reach) ≡ false = le-ltb x (cell.until + reach) (omega (arith, far, more)) in
+    let here : is_within reach cell x ≡ false = ap (λ b. leb cell.from (x + reach) && b) after
     ∙ and-false (leb cell.from (x + reach)) in
     ap (λ b. b || list_any (is_within reach cell) es) here
     ∙ none_within reach cell x es (omega (arith, far, more)) (later_ends e (x ∷ es) up)

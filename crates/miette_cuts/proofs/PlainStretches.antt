@@ -94,15 +94,15 @@ pub record IsEven (room : Room) (es : List ℕ) (column most : ℕ) (s : MadeStr
   pub alike : (x : ℕ) → column ≤ x → x < column + s.cells → near_by room es (cell_at x) ≡ s.shown
 
 -- the stretches of those of these cells that stand from a column on, and of the cells after them
-abbrev pub behind : Room → List ℕ → Bool → PlainCells → List ℕ → List Cell → ℕ → List MadeStretch
-behind room es near first bs cs column = map measure (stretches (near_by room es) near
+abbrev pub made_after : Room → List ℕ → Bool → PlainCells → List ℕ → List Cell → ℕ → List MadeStretch
+made_after room es near first bs cs column = map measure (stretches (near_by room es) near
     (plain_cells (first.start + (column - first.from)) column (drop (column - first.from) bs) ++ cs))
 
 found_even : (room : Room) (es : List ℕ) (before : Bool) (first : PlainCells) (bs : List ℕ) (cs : List Cell)
     (column : ℕ)
     (s : MadeStretch) → list_all is_printable bs ≡ true → first.from ≤ column → IsEven room es column (first.from
-    + length bs) s → behind room es before first bs cs column
-    ≡ onto_made s (behind room es s.shown first bs cs (column + s.cells))
+    + length bs) s → made_after room es before first bs cs column
+    ≡ onto_made s (made_after room es s.shown first bs cs (column + s.cells))
 found_even room es before first bs cs column s h from is =
     let i : ℕ = column - first.from in
     let many : length (drop i bs) ≡ length bs - i = length-drop i bs in
@@ -114,17 +114,17 @@ found_even room es before first bs cs column s h from is =
     (omega (arith, is.within, many, from)) is.alike
     ∙ ap₂ (λ p xs. onto_made (even s.shown s.cells) (map measure
     (stretches (near_by room es) s.shown (plain_cells p (column + s.cells) xs ++ cs)))) at left
-    ∙ ap (λ (m : MadeStretch). onto_made m (behind room es s.shown first bs cs (column + s.cells))) (sym is.even)
+    ∙ ap (λ (m : MadeStretch). onto_made m (made_after room es s.shown first bs cs (column + s.cells))) (sym is.even)
 
 pub even_more : (room : Room) (es : List ℕ) (first : PlainCells) (bs : List ℕ) (cs : List Cell) (column : ℕ)
     (made new whole : List MadeStretch) (reached next later : MadeStretch) → list_all is_printable bs ≡ true
     → first.from ≤ column → IsEven room es column (first.from + length bs) next → later.shown ≡ next.shown →
     ((rest : List MadeStretch) → new ++ onto_made later rest ≡ made ++ onto_made reached (onto_made next rest)) →
-    made ++ onto_made reached (behind room es reached.shown first bs cs column) ≡ whole →
-    new ++ onto_made later (behind room es later.shown first bs cs (column + next.cells)) ≡ whole
+    made ++ onto_made reached (made_after room es reached.shown first bs cs column) ≡ whole →
+    new ++ onto_made later (made_after room es later.shown first bs cs (column + next.cells)) ≡ whole
 even_more room es first bs cs column made new whole reached next later h from is same put inv =
-    ap (λ n. new ++ onto_made later (behind room es n first bs cs (column + next.cells))) same
-    ∙ put (behind room es next.shown first bs cs (column + next.cells))
+    ap (λ n. new ++ onto_made later (made_after room es n first bs cs (column + next.cells))) same
+    ∙ put (made_after room es next.shown first bs cs (column + next.cells))
     ∙ ap (λ r. made ++ onto_made reached r) (sym (found_even room es reached.shown first bs cs column next h from is))
     ∙ inv
 

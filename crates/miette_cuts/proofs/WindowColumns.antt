@@ -52,9 +52,9 @@ stand_plain column first cells later f h =
     subst (λ n. StandFrom (column + n) later) f.many (plain_stand column first.start first.from f.bytes later
     (subst (λ (cs : List Cell). StandFrom column cs) f.cells_are h))
 
-pub stand_behind : (first : PlainCells) (cells later : List Cell) → ComeFirst first cells later → StandTogether cells
+pub stand_after : (first : PlainCells) (cells later : List Cell) → ComeFirst first cells later → StandTogether cells
     → StandTogether later
-stand_behind first cells later f h = (h.0 + first.many, stand_plain h.0 first cells later f h.1)
+stand_after first cells later f h = (h.0 + first.many, stand_plain h.0 first cells later f h.1)
 
 pub stand_later : (cell : Cell) (cells left : List Cell) → cells ≡ cell ∷ left → StandTogether cells
     → StandTogether left
@@ -211,10 +211,10 @@ none_from room (e ∷ es) limit stop some up lt within = λ cell from.
       from,
     ))
 
-pub window_begun : (limit : ℕ) (es : List ℕ) (cells : List Cell) (behind : ℕ) (window : Window) → 0 < length es
+pub window_begun : (limit : ℕ) (es : List ℕ) (cells : List Cell) (after : ℕ) (window : Window) → 0 < length es
     → IsNonDecreasing es → StandFrom 0 cells → window.walk ≡ cells → window.column ≡ 0
-    → behind ≡ get_or es (length es - 1) 0 + limit → window.stop ≡ behind + 1 → HoldsNear limit es cells window
-window_begun limit es cells behind window some up stands walk column b stop = record {
+    → after ≡ get_or es (length es - 1) 0 + limit → window.stop ≡ after + 1 → HoldsNear limit es cells window
+window_begun limit es cells after window some up stands walk column b stop = record {
   stands = (0, subst (λ (cs : List Cell). StandFrom 0 cs) (sym walk) stands);
   counts = λ room within. ap (λ n. columns_from room.dots (near_by room es) n window.walk) column
       ∙ ap (columns_from room.dots (near_by room es) 0) walk;

@@ -86,8 +86,8 @@ fn turn_by(reach: usize, end: usize, column: usize, len: usize) -> (bool, usize)
     if column < from {
         return (false, from.min(len));
     }
-    let behind = end.saturating_add(reach).saturating_add(1);
-    (true, behind.min(len))
+    let after = end.saturating_add(reach).saturating_add(1);
+    (true, after.min(len))
 }
 
 // How many ends are passed before any more is looked at: those that are at another column, unless that stands after it.
@@ -159,7 +159,7 @@ impl<'a> Nearness<'a> {
 
     /// Whether the cell of one column that stands at a column is near, and the column, at most `len`, up to which those
     /// after it are near where it is.
-    pub(crate) fn turn_behind(&mut self, column: usize, len: usize) -> (bool, usize)
+    pub(crate) fn turn_after(&mut self, column: usize, len: usize) -> (bool, usize)
         requires { column < len }
         ensures more { column < result.1 }
         ensures within { result.1 ≤ len }

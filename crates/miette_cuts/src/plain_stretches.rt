@@ -26,7 +26,7 @@ pub(crate) fn even_stretch(nearness: &mut Nearness<'_>, column: usize, len: usiz
         near_by nearness.old.room nearness.old.ends (cell_at x) ≡ result.shown }
     ensures same { nearness.new ≡ nearness.old }
 {
-    let (shown, until) = nearness.turn_behind(column, len);
+    let (shown, until) = nearness.turn_after(column, len);
     let cells = until - column;
     Stretch {
         shown,

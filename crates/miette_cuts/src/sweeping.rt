@@ -35,7 +35,7 @@ fn lone_stretch(nearness: &mut Nearness<'_>, before: bool, cell: &Cell) -> Stret
 }
 
 // The stretches of this cell and of those after it, in a line with these ends.
-fn stretches_behind(
+fn stretches_after(
     alloc: Global,
     walk: Walk<'_>,
     nearness: &mut Nearness<'_>,
@@ -77,5 +77,5 @@ pub(crate) fn stretches_of(
         return Ok(Vec::new(alloc));
     };
     let first = lone_stretch(&mut nearness, false, &cell);
-    stretches_behind(alloc, walk, &mut nearness, first)
+    stretches_after(alloc, walk, &mut nearness, first)
 }

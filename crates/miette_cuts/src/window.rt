@@ -71,8 +71,8 @@ pub(crate) fn window_around<'a>(
     requires some { 0 < length ends.now }
     ensures { IfOk result (λ window. HoldsNear limit ends.now walk.now window) }
 {
-    let behind = sum(ends[ends.len() - 1], limit)?;
-    let stop = sum(behind, 1)?;
+    let after = sum(ends[ends.len() - 1], limit)?;
+    let stop = sum(after, 1)?;
     let mut window = Window {
         walk: walk.copy(),
         column: 0,

@@ -24,7 +24,7 @@ impl DebugReportHandler {
         DebugReportHandler
     }
 
-    /// Appends the report's fields. After an error, which is want of memory, `out` is as before.
+    /// Appends the report's fields. After an error, where memory is refused, `out` is as before.
     pub fn render_report(&self, report: &Report, out: &mut String) -> Result<(), RenderError>
         // All of the text but what stands for texts past ASCII.
         ensures text { let tree = tree_of ⟦<Box<dyn Diagnostic> as Diagnostic>⟧.meaning

@@ -14,10 +14,10 @@ sourced_alone : (m : Diagnosis) (s : Option Source) → maybe_sourced s (alone m
 sourced_alone m None = refl
 sourced_alone m (Some s) = refl
 
-related_behind : (m : Diagnosis) (s : Option Source) (c : Cause) (r : Option Trees)
+related_after : (m : Diagnosis) (s : Option Source) (c : Cause) (r : Option Trees)
     → maybe_related r (tree m s c no_trees) ≡ tree m s c (unwrap_or r no_trees)
-related_behind m s c None = refl
-related_behind m s c (Some r) = refl
+related_after m s c None = refl
+related_after m s c (Some r) = refl
 
 by_cause : (m : Diagnosis) (s : Option Source) (o : Option Cause) (r : Option Trees) (contexts : List (List ℕ))
     (t : Tree)
@@ -27,7 +27,7 @@ by_cause : (m : Diagnosis) (s : Option Source) (o : Option Cause) (r : Option Tr
 by_cause m s None r contexts t e = cc
 by_cause m s (Some c) r contexts t e =
     let same : tree m s c no_trees ≡ t = cc in
-    ap (λ x. Some (wrapped_in contexts x)) (sym (related_behind m s c r))
+    ap (λ x. Some (wrapped_in contexts x)) (sym (related_after m s c r))
     ∙ ap (λ x. Some (wrapped_in contexts (maybe_related r x))) same
 
 pub parts_made : (m : Diagnosis) (s : Option Source) (one : Option Tree) (several : Option (List (List ℕ)))

@@ -14,11 +14,11 @@ use Rattle.miette_fixes.specs.rules.Applying.{text_from}
 use Rattle.miette_fixes.specs.views.Ordered.{FitFrom}
 use Rattle.miette_fix_rows.specs.laws.Whole.{all_bytes}
 use Rattle.miette_fix_rows.specs.rules.Blocks.{bytes_of, line_texts, onto_line}
-use Rattle.miette_fix_rows.specs.rules.Hunks.{common, common_behind, parted}
+use Rattle.miette_fix_rows.specs.rules.Hunks.{common, common_after, parted}
 use Rattle.miette_fix_rows.specs.steps.Parting.{new_until, old_until, staying}
 use Rattle.miette_fix_rows.proofs.Parting.{staying_new, staying_old}
 use Rattle.miette_fix_rows.proofs.PartsOfParts.{drop_front, drop_join, slice_front, slice_join}
-use Rattle.miette_diff_laws.proofs.Trimmed.{behind_is, behind_within}
+use Rattle.miette_diff_laws.proofs.Trimmed.{after_is, after_within}
 
 -- ---- bytes of lines
 
@@ -68,7 +68,7 @@ ending_is n ls le =
     let k : ℕ = length ls - n in
     let m : length (reverse (drop k ls)) ≡ n = omega (arith, le, length-reverse (drop k ls), length-drop k ls) in
     let front : take n (reverse ls) ≡ reverse (drop k ls) =
-    ap (take n) (behind_is k ls) ∙ take_at (reverse (drop k ls)) (reverse (take k ls)) n m in
+    ap (take n) (after_is k ls) ∙ take_at (reverse (drop k ls)) (reverse (take k ls)) n m in
     sym (ap reverse front ∙ reverse-reverse (drop k ls))
 
 -- the lines that stay are the same in both
@@ -83,8 +83,8 @@ front_same olds news =
 pub ending_same : (olds news : List (List ℕ))
     → drop (old_until olds news) olds ≡ drop (new_until olds news) news
 ending_same olds news =
-    let n : ℕ = common_behind olds news in
-    let within = behind_within olds news in
+    let n : ℕ = common_after olds news in
+    let within = after_within olds news in
     ending_is n olds within.0 ∙ ap reverse (common_same (reverse olds) (reverse news))
     ∙ sym (ending_is n news within.1)
 

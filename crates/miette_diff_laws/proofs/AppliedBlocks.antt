@@ -15,8 +15,8 @@ use Rattle.miette_fix_rows.specs.rules.Blocks.{onto_blocks, text_between}
 use Rattle.miette_fix_rows.specs.rules.Hunks.{Change, change_of, is_nil}
 use Rattle.miette_fix_rows.specs.steps.Parting.{old_until, staying}
 use Rattle.miette_diff_laws.proofs.Applied.{Far, new_text, text_over, text_split}
-use Rattle.miette_fix_rows.proofs.Chains.{Chain, block_fits, block_order, block_within, first_at_or_behind}
-use Rattle.miette_fix_rows.proofs.Chains.{next_behind}
+use Rattle.miette_fix_rows.proofs.Chains.{Chain, block_fits, block_order, block_within, first_at_or_after}
+use Rattle.miette_fix_rows.proofs.Chains.{next_after}
 use Rattle.miette_fix_rows.proofs.Parting.{staying_old}
 use Rattle.miette_fix_rows.proofs.PartsOfParts.{drop_front, slice_join}
 use Rattle.miette_fix_rows.proofs.Sources.{IsPart, part_of, until_bytes}
@@ -45,14 +45,14 @@ far_more at (e ∷ es) rest some h = h
 
 pub far_block : (source : List ℕ) (at : ℕ) (block : List Replacement) → at ≤ block_from source block → Far at block
 far_block source at [] h = tt
-far_block source at (e ∷ es) h = omega (arith, h, first_at_or_behind source e es)
+far_block source at (e ∷ es) h = omega (arith, h, first_at_or_after source e es)
 
 pub far_next : (source : List ℕ) (before at : ℕ) (block : List Replacement) (bs : List (List Replacement))
     → Chain source before (block ∷ bs) → at ≤ block_to source block → Far at (flat bs)
 far_next source before at block [] h le = tt
 far_next source before at block (next ∷ bs) h le =
     far_more at next (flat bs) h.3.0
-    (far_block source at next (omega (arith, le, next_behind source before block next bs h)))
+    (far_block source at next (omega (arith, le, next_after source before block next bs h)))
 
 five : (xs ps ms qs rs : List ℕ) → xs ++ ((ps ++ (ms ++ qs)) ++ rs) ≡ (xs ++ ps) ++ (ms ++ (qs ++ rs))
 five xs ps ms qs rs = simp append_assoc

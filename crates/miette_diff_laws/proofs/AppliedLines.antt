@@ -16,7 +16,7 @@ use Rattle.miette_fix_rows.specs.rules.Hunks.{onto_changes}
 use Rattle.miette_fix_rows.specs.steps.Parting.{new_until, old_until, staying}
 use Rattle.miette_diff_laws.proofs.Applied.{Far, ending_same, front_same, text_over, text_split, three}
 use Rattle.miette_diff_laws.proofs.AppliedBlocks.{far_block, far_more, far_next, flat, flat_blocks, still_text}
-use Rattle.miette_diff_laws.proofs.AppliedSeams.{EndsBefore, ends_slice, last_is_end, meet_behind, meet_none, meet_part}
+use Rattle.miette_diff_laws.proofs.AppliedSeams.{EndsBefore, ends_slice, last_is_end, meet_after, meet_none, meet_part}
 use Rattle.miette_diff_laws.proofs.AppliedSeams.{new_ending, seam_head}
 use Rattle.miette_fix_rows.proofs.Chains.{Chain, block_fits, block_order, block_within, chain, from_ended, last_end}
 use Rattle.miette_fix_rows.proofs.Chains.{to_ended}
@@ -42,7 +42,7 @@ new_meets source before block bs h =
     let within : y ≤ length source = block_within source block h.0 in
     elim (cases_lt (last_end block) y) [
       | inl lt ↦ subst (λ xs. Meet xs rest) (sym ending.1)
-          (meet_behind ending.0 (slice_range source (last_end block) y) rest
+          (meet_after ending.0 (slice_range source (last_end block) y) rest
           (omega (arith, part_length source (last_end block) y within, lt))
           (meet_part source rest (last_end block) y (omega (arith, lt)) within
           (seam_head source (last_end block) y bs h.3 (at_next source before y block bs h (omega arith)) within
@@ -77,21 +77,21 @@ block_lines source before at block bs h low =
     let all : e ≤ length old = omega (arith, bytes_of-take m olds, bytes_of_texts old) in
     let to : c.to ≡ x + e = omega (arith, sum) in
     let far : Far y rest = far_next source before y block bs h (omega arith) in
-    let behind : List ℕ = text_from source y rest in
+    let after : List ℕ = text_from source y rest in
     let e1 = text_split source at x (block ++ rest) low
     (far_more x block rest h.0 (far_block source x block (omega arith))) in
-    let e2 : text_from source x (block ++ rest) ≡ new ++ behind =
+    let e2 : text_from source x (block ++ rest) ≡ new ++ after =
     text_over source y x block rest (block_fits source before block h.0 h.1) far in
-    let seam : EndsBefore source x (new ++ behind) =
+    let seam : EndsBefore source x (new ++ after) =
     subst (λ text. EndsBefore source x text) e2
     (seam_head source before x (block ∷ bs) h (omega arith) (omega (arith, order, within))
     (from_ended source block h.0)) in
-    let cut : line_texts (slice_range source at x ++ (new ++ behind))
-    ≡ line_texts (slice_range source at x) ++ line_texts (new ++ behind) =
-    texts_meet (slice_range source at x) (new ++ behind)
-    (meet_part source (new ++ behind) at x low (omega (arith, order, within)) seam) in
-    let cut2 : line_texts (new ++ behind) ≡ news ++ line_texts behind =
-    texts_meet new behind (new_meets source before block bs h) in
+    let cut : line_texts (slice_range source at x ++ (new ++ after))
+    ≡ line_texts (slice_range source at x) ++ line_texts (new ++ after) =
+    texts_meet (slice_range source at x) (new ++ after)
+    (meet_part source (new ++ after) at x low (omega (arith, order, within)) seam) in
+    let cut2 : line_texts (new ++ after) ≡ news ++ line_texts after =
+    texts_meet new after (new_meets source before block bs h) in
     let parts : news ≡ take b olds ++ (c.added ++ drop m olds) =
     three news b (new_until olds news) (staying_new olds news)
     ∙ ap₂ (λ ps qs. ps ++ (c.added ++ qs)) (sym (front_same olds news)) (sym (ending_same olds news)) in
@@ -110,20 +110,20 @@ block_lines source before at block bs h low =
     ∙ texts_meet (slice_range source at x) (slice_range source x (x + a))
     (meet_part source (slice_range source x (x + a)) at x low (omega (arith, order, within))
     (ends_slice source x (x + a) (omega (arith, all, long, sum, order, within)) (from_ended source block h.0)))) in
-    let ends : EndsBefore source y behind =
+    let ends : EndsBefore source y after =
     seam_head source (last_end block) y bs h.3 (at_next source before y block bs h (omega arith)) within
     (to_ended source block h.0) in
-    let e7 : line_texts (slice_range source (x + e) y) ++ line_texts behind
+    let e7 : line_texts (slice_range source (x + e) y) ++ line_texts after
     ≡ line_texts (text_from source c.to rest) =
-    sym (texts_meet (slice_range source (x + e) y) behind
-    (meet_part source behind (x + e) y (omega (arith, all, long, order)) within ends))
+    sym (texts_meet (slice_range source (x + e) y) after
+    (meet_part source after (x + e) y (omega (arith, all, long, order)) within ends))
     ∙ ap line_texts (sym (text_split source (x + e) y rest (omega (arith, all, long, order)) far)
     ∙ ap (λ n. text_from source n rest) (sym to)) in
     ap line_texts (e1 ∙ ap (λ xs. slice_range source at x ++ xs) e2) ∙ cut
-    ∙ ap (λ ls. line_texts (slice_range source at x) ++ ls) (cut2 ∙ ap (λ ls. ls ++ line_texts behind) (parts
+    ∙ ap (λ ls. line_texts (slice_range source at x) ++ ls) (cut2 ∙ ap (λ ls. ls ++ line_texts after) (parts
     ∙ ap₂ (λ ps qs. ps ++ (c.added ++ qs)) front back))
     ∙ six (line_texts (slice_range source at x)) (line_texts (slice_range source x (x + a))) c.added
-    (line_texts (slice_range source (x + e) y)) (line_texts behind)
+    (line_texts (slice_range source (x + e) y)) (line_texts after)
     ∙ ap₂ (λ ls ms. ls ++ (c.added ++ ms)) e6 e7
 
 lines_from_block : (source : List ℕ) (before at : ℕ) (bs : List (List Replacement)) → Chain source before bs

@@ -58,11 +58,11 @@ meet_none (x ∷ []) = tt
 meet_none (x ∷ y ∷ xs) = meet_none (y ∷ xs)
 
 -- what stands in front doesn't matter
-pub meet_behind : (xs ys text : List ℕ) → 0 < length ys → Meet ys text → Meet (xs ++ ys) text
-meet_behind [] ys text some h = h
-meet_behind (x ∷ []) [] text some h = absurd (omega (arith, some))
-meet_behind (x ∷ []) (y ∷ ys) text some h = h
-meet_behind (x ∷ z ∷ xs) ys text some h = meet_behind (z ∷ xs) ys text some h
+pub meet_after : (xs ys text : List ℕ) → 0 < length ys → Meet ys text → Meet (xs ++ ys) text
+meet_after [] ys text some h = h
+meet_after (x ∷ []) [] text some h = absurd (omega (arith, some))
+meet_after (x ∷ []) (y ∷ ys) text some h = h
+meet_after (x ∷ z ∷ xs) ys text some h = meet_after (z ∷ xs) ys text some h
 
 -- ---- a terminator stands before the start of a line that is there
 

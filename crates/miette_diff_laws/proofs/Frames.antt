@@ -7,7 +7,7 @@ use Rattle.std.proofs.lemmas.List.{length-drop, length-take-le, map-append, take
 use Rattle.miette_fix_rows.specs.laws.Frames.{StandAmong, all_lines, at_start, lines_with, new_texts, old_texts}
 use Rattle.miette_fix_rows.specs.laws.Frames.{past_lines}
 use Rattle.miette_fix_rows.specs.rules.Blocks.{bytes_of}
-use Rattle.miette_fix_rows.specs.rules.DiffFrames.{DiffFrame, DiffLine, Standing, added_from, added_with, behind_hunk}
+use Rattle.miette_fix_rows.specs.rules.DiffFrames.{DiffFrame, DiffLine, Standing, added_from, added_with, after_hunk}
 use Rattle.miette_fix_rows.specs.rules.DiffFrames.{changed_lines, frame_at, frames_from, frames_of, is_near, kept_lines}
 use Rattle.miette_fix_rows.specs.rules.DiffFrames.{left_before, past_hunk, past_kept, removed_from, removed_with}
 use Rattle.miette_fix_rows.specs.rules.Hunks.{Change, Diff, Hunk, added_lines, lines_after, lines_before, removed_lines}
@@ -62,18 +62,18 @@ old_only_kept (l ∷ ls) = ap (λ t. l ∷ t) (old_only_kept ls)
 grouped : (a b c d : List (List ℕ)) → a ++ (b ++ (c ++ d)) ≡ ((a ++ b) ++ c) ++ d
 grouped a b c d = sym (append_assoc (a ++ b) c d ∙ append_assoc a b (c ++ d))
 
-old_with : (behind : List (List ℕ)) (hunks : List Hunk) → old_texts (lines_with behind hunks)
-    ≡ flat_map (λ (hunk : Hunk). hunk.kept ++ removed_lines hunk.changes) hunks ++ behind
-old_with behind [] = old_only_kept behind
-old_with behind (h ∷ hunks) =
+old_with : (after : List (List ℕ)) (hunks : List Hunk) → old_texts (lines_with after hunks)
+    ≡ flat_map (λ (hunk : Hunk). hunk.kept ++ removed_lines hunk.changes) hunks ++ after
+old_with after [] = old_only_kept after
+old_with after (h ∷ hunks) =
     let more : List (List ℕ) = flat_map (λ (hunk : Hunk). hunk.kept ++ removed_lines hunk.changes) hunks in
-    old_kept h.kept (changed_lines h.changes ++ lines_with behind hunks)
-    ∙ ap (λ t. h.kept ++ t) (old_changed h.changes (lines_with behind hunks))
-    ∙ ap (λ t. h.kept ++ (removed_lines h.changes ++ t)) (old_with behind hunks)
-    ∙ grouped h.kept (removed_lines h.changes) more behind
+    old_kept h.kept (changed_lines h.changes ++ lines_with after hunks)
+    ∙ ap (λ t. h.kept ++ t) (old_changed h.changes (lines_with after hunks))
+    ∙ ap (λ t. h.kept ++ (removed_lines h.changes ++ t)) (old_with after hunks)
+    ∙ grouped h.kept (removed_lines h.changes) more after
 
 pub old_lines : (diff : Diff) → old_texts (all_lines diff) ≡ lines_before diff
-old_lines diff = old_with diff.behind diff.hunks
+old_lines diff = old_with diff.after_hunks diff.hunks
 
 -- ---- the lines after them
 
@@ -120,31 +120,31 @@ new_only_kept : (ls : List (List ℕ)) → new_texts (kept_lines ls) ≡ ls
 new_only_kept [] = refl
 new_only_kept (l ∷ ls) = ap (λ t. l ∷ t) (new_only_kept ls)
 
-new_with : (behind : List (List ℕ)) (hunks : List Hunk) → new_texts (lines_with behind hunks)
-    ≡ flat_map (λ (hunk : Hunk). hunk.kept ++ added_lines hunk.changes) hunks ++ behind
-new_with behind [] = new_only_kept behind
-new_with behind (h ∷ hunks) =
+new_with : (after : List (List ℕ)) (hunks : List Hunk) → new_texts (lines_with after hunks)
+    ≡ flat_map (λ (hunk : Hunk). hunk.kept ++ added_lines hunk.changes) hunks ++ after
+new_with after [] = new_only_kept after
+new_with after (h ∷ hunks) =
     let more : List (List ℕ) = flat_map (λ (hunk : Hunk). hunk.kept ++ added_lines hunk.changes) hunks in
-    new_kept h.kept (changed_lines h.changes ++ lines_with behind hunks)
-    ∙ ap (λ t. h.kept ++ t) (new_changed h.changes (lines_with behind hunks))
-    ∙ ap (λ t. h.kept ++ (added_lines h.changes ++ t)) (new_with behind hunks)
-    ∙ grouped h.kept (added_lines h.changes) more behind
+    new_kept h.kept (changed_lines h.changes ++ lines_with after hunks)
+    ∙ ap (λ t. h.kept ++ t) (new_changed h.changes (lines_with after hunks))
+    ∙ ap (λ t. h.kept ++ (added_lines h.changes ++ t)) (new_with after hunks)
+    ∙ grouped h.kept (added_lines h.changes) more after
 
 pub new_lines : (diff : Diff) → new_texts (all_lines diff) ≡ lines_after diff
-new_lines diff = new_with diff.behind diff.hunks
+new_lines diff = new_with diff.after_hunks diff.hunks
 
 -- ---- frames
 
 -- Some of the lines that hunks have are shown at their front, and frames stand among the rest.
 abbrev IsFollowed : List (List ℕ) → List Hunk → Standing → List DiffLine → List DiffFrame → Type 0
-IsFollowed behind hunks at shown frames =
-    (rest : List DiffLine) × (lines_with behind hunks ≡ shown ++ rest)
+IsFollowed after hunks at shown frames =
+    (rest : List DiffLine) × (lines_with after hunks ≡ shown ++ rest)
     × StandAmong true (past_lines at shown) frames rest
 
-near : (behind : List (List ℕ)) (at : Standing) (hunk : Hunk) (hunks : List Hunk) (shown : List DiffLine)
-    (frames : List DiffFrame) → IsFollowed behind hunks (past_hunk at hunk) shown frames
-    → IsFollowed behind (hunk ∷ hunks) at (kept_lines hunk.kept ++ (changed_lines hunk.changes ++ shown)) frames
-near behind at hunk hunks shown frames h =
+near : (after : List (List ℕ)) (at : Standing) (hunk : Hunk) (hunks : List Hunk) (shown : List DiffLine)
+    (frames : List DiffFrame) → IsFollowed after hunks (past_hunk at hunk) shown frames
+    → IsFollowed after (hunk ∷ hunks) at (kept_lines hunk.kept ++ (changed_lines hunk.changes ++ shown)) frames
+near after at hunk hunks shown frames h =
     let k : List DiffLine = kept_lines hunk.kept in
     let c : List DiffLine = changed_lines hunk.changes in
     let stands : past_lines at (k ++ (c ++ shown)) ≡ past_lines (past_hunk at hunk) shown =
@@ -160,11 +160,11 @@ kept_parts : (ls : List (List ℕ)) (n : ℕ) → kept_lines ls ≡ kept_lines (
 kept_parts ls n = ap kept_lines (sym (take-append-drop n ls)) ∙ map-append DiffLine.kept (take n ls) (drop n ls)
 
 -- a frame with its hunk, among the lines after those that are left out
-framed : (behind : List (List ℕ)) (hunk : Hunk) (hunks : List Hunk) (n : ℕ) (shown rest : List DiffLine)
-    → lines_with behind hunks ≡ shown ++ rest
-    → kept_lines (drop n hunk.kept) ++ (changed_lines hunk.changes ++ lines_with behind hunks)
+framed : (after : List (List ℕ)) (hunk : Hunk) (hunks : List Hunk) (n : ℕ) (shown rest : List DiffLine)
+    → lines_with after hunks ≡ shown ++ rest
+    → kept_lines (drop n hunk.kept) ++ (changed_lines hunk.changes ++ lines_with after hunks)
     ≡ (kept_lines (drop n hunk.kept) ++ (changed_lines hunk.changes ++ shown)) ++ rest
-framed behind hunk hunks n shown rest e =
+framed after hunk hunks n shown rest e =
     let d : List DiffLine = kept_lines (drop n hunk.kept) in
     let c : List DiffLine = changed_lines hunk.changes in
     ap (λ t. d ++ (c ++ t)) e ∙ ap (λ t. d ++ t) (sym (append_assoc c shown rest))
@@ -197,12 +197,12 @@ left_some context hunk lt =
     let whole : length (take n hunk.kept) ≡ n = length-take-le n hunk.kept (omega arith) in
     omega (arith, lt, length-drop context (take n hunk.kept), whole)
 
-far : (context : ℕ) (behind : List (List ℕ)) (at : Standing) (hunk : Hunk) (hunks : List Hunk)
+far : (context : ℕ) (after : List (List ℕ)) (at : Standing) (hunk : Hunk) (hunks : List Hunk)
     (shown : List DiffLine) (frames : List DiffFrame) → context + context < length hunk.kept
-    → IsFollowed behind hunks (past_hunk at hunk) shown frames
-    → IsFollowed behind (hunk ∷ hunks) at (kept_lines (take context hunk.kept))
+    → IsFollowed after hunks (past_hunk at hunk) shown frames
+    → IsFollowed after (hunk ∷ hunks) at (kept_lines (take context hunk.kept))
     (frame_at context at hunk shown ∷ frames)
-far context behind at hunk hunks shown frames lt h =
+far context after at hunk hunks shown frames lt h =
     let n : ℕ = left_before context hunk in
     let front : List DiffLine = kept_lines (take context hunk.kept) in
     let left : List (List ℕ) = left_out context hunk in
@@ -210,13 +210,13 @@ far context behind at hunk hunks shown frames lt h =
     let rest : List DiffLine = kept_lines left ++ (frame.lines ++ h.0) in
     let parts : kept_lines (take n hunk.kept) ≡ front ++ kept_lines left =
     ap kept_lines (left_parts context hunk lt) ∙ map-append DiffLine.kept (take context hunk.kept) left in
-    let changed : List DiffLine = changed_lines hunk.changes ++ lines_with behind hunks in
+    let changed : List DiffLine = changed_lines hunk.changes ++ lines_with after hunks in
     let last : List DiffLine = kept_lines (drop n hunk.kept) in
-    let all : lines_with behind (hunk ∷ hunks) ≡ front ++ rest =
+    let all : lines_with after (hunk ∷ hunks) ≡ front ++ rest =
     ap (λ t. t ++ changed) (kept_parts hunk.kept n) ∙ ap (λ t. (t ++ last) ++ changed) parts
     ∙ append_assoc (front ++ kept_lines left) last changed
     ∙ append_assoc front (kept_lines left) (last ++ changed)
-    ∙ ap (λ t. front ++ (kept_lines left ++ t)) (framed behind hunk hunks n shown h.0 h.1) in
+    ∙ ap (λ t. front ++ (kept_lines left ++ t)) (framed after hunk hunks n shown h.0 h.1) in
     let numbered : frame.at ≡ past_lines (past_lines at front) (kept_lines left) =
     sym (past_all_kept at (take n hunk.kept)) ∙ ap (past_lines at) parts
     ∙ past_append at front (kept_lines left) in (
@@ -232,47 +232,47 @@ far context behind at hunk hunks shown frames lt h =
       ),
     )
 
-followed_if : (b : Bool) (context : ℕ) (behind : List (List ℕ)) (at : Standing) (hunk : Hunk) (hunks : List Hunk)
-    → is_near context hunk ≡ b → IsFollowed behind hunks (past_hunk at hunk) (behind_hunk context behind hunks)
-    (frames_from context behind true (past_hunk at hunk) hunks)
-    → IsFollowed behind (hunk ∷ hunks) at (shown_if b context behind hunk hunks)
-    (frames_if b context behind at hunk hunks)
-followed_if true context behind at hunk hunks e h =
-    near behind at hunk hunks (behind_hunk context behind hunks)
-    (frames_from context behind true (past_hunk at hunk) hunks) h
-followed_if false context behind at hunk hunks e h =
-    far context behind at hunk hunks (behind_hunk context behind hunks)
-    (frames_from context behind true (past_hunk at hunk) hunks)
+followed_if : (b : Bool) (context : ℕ) (after : List (List ℕ)) (at : Standing) (hunk : Hunk) (hunks : List Hunk)
+    → is_near context hunk ≡ b → IsFollowed after hunks (past_hunk at hunk) (after_hunk context after hunks)
+    (frames_from context after true (past_hunk at hunk) hunks)
+    → IsFollowed after (hunk ∷ hunks) at (shown_if b context after hunk hunks)
+    (frames_if b context after at hunk hunks)
+followed_if true context after at hunk hunks e h =
+    near after at hunk hunks (after_hunk context after hunks)
+    (frames_from context after true (past_hunk at hunk) hunks) h
+followed_if false context after at hunk hunks e h =
+    far context after at hunk hunks (after_hunk context after hunks)
+    (frames_from context after true (past_hunk at hunk) hunks)
     (leb-false (length hunk.kept) (context + context) e) h
 
-followed : (context : ℕ) (behind : List (List ℕ)) (at : Standing) (hunks : List Hunk)
-    → IsFollowed behind hunks at (behind_hunk context behind hunks) (frames_from context behind true at hunks)
-followed context behind at [] =
-    (kept_lines (drop context behind), kept_parts behind context, (drop context behind, refl))
-followed context behind at (hunk ∷ hunks) =
-    followed_if (is_near context hunk) context behind at hunk hunks refl
-    (followed context behind (past_hunk at hunk) hunks)
+followed : (context : ℕ) (after : List (List ℕ)) (at : Standing) (hunks : List Hunk)
+    → IsFollowed after hunks at (after_hunk context after hunks) (frames_from context after true at hunks)
+followed context after at [] =
+    (kept_lines (drop context after), kept_parts after context, (drop context after, refl))
+followed context after at (hunk ∷ hunks) =
+    followed_if (is_near context hunk) context after at hunk hunks refl
+    (followed context after (past_hunk at hunk) hunks)
 
-stand_from : (context : ℕ) (behind : List (List ℕ)) (at : Standing) (hunks : List Hunk)
-    → StandAmong false at (frames_from context behind false at hunks) (lines_with behind hunks)
-stand_from context behind at [] = (behind, refl)
-stand_from context behind at (hunk ∷ hunks) =
+stand_from : (context : ℕ) (after : List (List ℕ)) (at : Standing) (hunks : List Hunk)
+    → StandAmong false at (frames_from context after false at hunks) (lines_with after hunks)
+stand_from context after at [] = (after, refl)
+stand_from context after at (hunk ∷ hunks) =
     let n : ℕ = left_before context hunk in
-    let shown : List DiffLine = behind_hunk context behind hunks in
-    let frames : List DiffFrame = frames_from context behind true (past_hunk at hunk) hunks in
-    let h : IsFollowed behind hunks (past_hunk at hunk) shown frames =
-    followed context behind (past_hunk at hunk) hunks in
+    let shown : List DiffLine = after_hunk context after hunks in
+    let frames : List DiffFrame = frames_from context after true (past_hunk at hunk) hunks in
+    let h : IsFollowed after hunks (past_hunk at hunk) shown frames =
+    followed context after (past_hunk at hunk) hunks in
     let front : List DiffLine = kept_lines (take n hunk.kept) in
     let last : List DiffLine = kept_lines (drop n hunk.kept) in
-    let changed : List DiffLine = changed_lines hunk.changes ++ lines_with behind hunks in (
+    let changed : List DiffLine = changed_lines hunk.changes ++ lines_with after hunks in (
       take n hunk.kept,
       h.0,
       ap (λ t. t ++ changed) (kept_parts hunk.kept n) ∙ append_assoc front last changed
-          ∙ ap (λ t. front ++ t) (framed behind hunk hunks n shown h.0 h.1),
+          ∙ ap (λ t. front ++ t) (framed after hunk hunks n shown h.0 h.1),
       sym (past_all_kept at (take n hunk.kept)),
       λ on. (let no : false ≡ true = on in cc),
       subst (λ s. StandAmong true s frames h.0) (sym (past_frame at hunk n shown)) h.2,
     )
 
 pub frames_stand : (context : ℕ) (diff : Diff) → StandAmong false at_start (frames_of context diff) (all_lines diff)
-frames_stand context diff = stand_from context diff.behind at_start diff.hunks
+frames_stand context diff = stand_from context diff.after_hunks at_start diff.hunks

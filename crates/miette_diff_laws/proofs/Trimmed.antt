@@ -10,7 +10,7 @@ use Rattle.miette_fixes.specs.rules.Applying.{by_offset}
 use Rattle.miette_fix_rows.specs.laws.Whole.{IsTrimmed}
 use Rattle.miette_fix_rows.specs.rules.Blocks.{blocks, new_lines, old_lines}
 use Rattle.miette_fix_rows.specs.rules.Hunks.{Change, change_of, changes, changes_of, common, common_before, is_nil}
-use Rattle.miette_fix_rows.specs.rules.Hunks.{common_behind, onto_changes, parted}
+use Rattle.miette_fix_rows.specs.rules.Hunks.{common_after, onto_changes, parted}
 use Rattle.miette_fix_rows.proofs.Commons.{common_within, common_within_other}
 
 -- nothing is common after what is common
@@ -38,8 +38,8 @@ common_take (suc i) (suc j) (l ∷ ls) (m ∷ ms) =
 
 -- from the ends
 
-pub behind_is : (k : ℕ) (ls : List (List ℕ)) → reverse ls ≡ reverse (drop k ls) ++ reverse (take k ls)
-behind_is k ls = ap reverse (sym (take-append-drop k ls)) ∙ reverse-append (take k ls) (drop k ls)
+pub after_is : (k : ℕ) (ls : List (List ℕ)) → reverse ls ≡ reverse (drop k ls) ++ reverse (take k ls)
+after_is k ls = ap reverse (sym (take-append-drop k ls)) ∙ reverse-append (take k ls) (drop k ls)
 
 reverse_front : (n : ℕ) (ls : List (List ℕ)) → n ≤ length ls
     → reverse (take (length ls - n) ls) ≡ drop n (reverse ls)
@@ -47,19 +47,19 @@ reverse_front n ls h =
     let k : ℕ = length ls - n in
     let m : length (reverse (drop k ls)) ≡ n =
     omega (arith, h, length-reverse (drop k ls), length-drop k ls) in
-    sym (ap (drop n) (behind_is k ls) ∙ drop_at (reverse (drop k ls)) (reverse (take k ls)) n m)
+    sym (ap (drop n) (after_is k ls) ∙ drop_at (reverse (drop k ls)) (reverse (take k ls)) n m)
 
-reverse_behind : (k : ℕ) (ls : List (List ℕ)) → reverse (drop k ls) ≡ take (length ls - k) (reverse ls)
-reverse_behind k ls =
+reverse_after : (k : ℕ) (ls : List (List ℕ)) → reverse (drop k ls) ≡ take (length ls - k) (reverse ls)
+reverse_after k ls =
     let m : length (reverse (drop k ls)) ≡ length ls - k =
     omega (arith, length-reverse (drop k ls), length-drop k ls) in
-    sym (ap (take (length ls - k)) (behind_is k ls)
+    sym (ap (take (length ls - k)) (after_is k ls)
     ∙ take_at (reverse (drop k ls)) (reverse (take k ls)) (length ls - k) m)
 
 -- at most all lines stay after a change
-pub behind_within : (olds news : List (List ℕ)) → (common_behind olds news ≤ length olds)
-    × (common_behind olds news ≤ length news)
-behind_within olds news = (
+pub after_within : (olds news : List (List ℕ)) → (common_after olds news ≤ length olds)
+    × (common_after olds news ≤ length news)
+after_within olds news = (
   omega (arith, common_within (reverse olds) (reverse news), length-reverse olds),
   omega (arith, common_within_other (reverse olds) (reverse news), length-reverse news),
 )
@@ -67,22 +67,22 @@ behind_within olds news = (
 parted_ends : (olds news : List (List ℕ)) → common (reverse (parted olds news).removed)
     (reverse (parted olds news).added) ≡ 0
 parted_ends olds news =
-    let n : ℕ = common_behind olds news in
+    let n : ℕ = common_after olds news in
     let b : ℕ = common_before olds news n in
     let ls : List (List ℕ) = take (length olds - n) olds in
     let ms : List (List ℕ) = take (length news - n) news in
-    let within = behind_within olds news in
+    let within = after_within olds news in
     let none : common (reverse ls) (reverse ms) ≡ 0 =
     ap₂ common (reverse_front n olds within.0) (reverse_front n news within.1)
     ∙ common_rest (reverse olds) (reverse news) in
     let cut : common (reverse (drop b ls)) (reverse (drop b ms))
     ≡ common (take (length ls - b) (reverse ls)) (take (length ms - b) (reverse ms)) =
-    ap₂ common (reverse_behind b ls) (reverse_behind b ms) in
+    ap₂ common (reverse_after b ls) (reverse_after b ms) in
     omega (arith, cut, none, common_take (length ls - b) (length ms - b) (reverse ls) (reverse ms))
 
 parted_front : (olds news : List (List ℕ)) → common (parted olds news).removed (parted olds news).added ≡ 0
 parted_front olds news =
-    let n : ℕ = common_behind olds news in
+    let n : ℕ = common_after olds news in
     common_rest (take (length olds - n) olds) (take (length news - n) news)
 
 block_trimmed : (source : List ℕ) (block : List Replacement) → IsTrimmed (change_of source block)

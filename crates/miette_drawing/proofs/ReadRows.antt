@@ -199,8 +199,8 @@ lower_le true n a b le top =
     (λ f. by_cases {C = cond (eqb a n) (a - 1) a ≤ cond (eqb b n) (b - 1) b} (eqb b n)
     (λ u. rw (f, u) (omega (arith, le, eqb-true b n u, eqb-false a n f))) (λ u. rw (f, u) le))
 
-placed_after : (behind : Bool) (offset after : ℕ) → offset ≤ after → cond behind (offset - 1) offset
-    ≤ cond behind (offset - 1) after
+placed_after : (after_text : Bool) (offset after : ℕ) → offset ≤ after → cond after_text (offset - 1) offset
+    ≤ cond after_text (offset - 1) after
 placed_after true offset after le = omega arith
 placed_after false offset after le = le
 
@@ -322,12 +322,12 @@ lines_more_of : (out : ℕ → Line → Bool) (gap left : Bool) (s : SnippetSett
 lines_more_of out gap left s w columns drawn start bytes first blank begun was now at number line pieces before page
     more h leaves part low p call e = λ later own.
     let sums : start + (line.end - start) ≡ line.end = omega (arith, low) in
-    let behind : List Line = P.lines_from line.end (drop (line.end - start) bytes) in
+    let onwards : List Line = P.lines_from line.end (drop (line.end - start) bytes) in
     let here : Bool → List Row = λ o. line_or_break gap o (snippet_context s w columns drawn (cells_in s start bytes))
     (line_of_text line) number pieces in
     let there : Bool → List Row = λ o. rows_of_lines out o (snippet_context s w columns drawn (cells_in s start bytes))
-    (number + 1) later behind in
-    let others : EachHasPieces blank (texts_in start bytes behind) later =
+    (number + 1) later onwards in
+    let others : EachHasPieces blank (texts_in start bytes onwards) later =
     subst (λ (n : ℕ). EachHasPieces blank (texts_in start bytes (P.lines_from n (drop (line.end - start) bytes)))
     later) sums own in
     let rest = h (pieces ∷ later) (subst (λ (ls : List Line). EachHasPieces blank (texts_in start bytes ls)
@@ -336,7 +336,7 @@ lines_more_of out gap left s w columns drawn start bytes first blank begun was n
       rest.1,
       (λ calls k. rest.2 calls (subst (λ (ls : List Line). was
           (line_calls (texts_in start bytes ls) (pieces ∷ later) ++ calls)) (sym part)
-          (call (line_calls (texts_in start bytes behind) later ++ calls)
+          (call (line_calls (texts_in start bytes onwards) later ++ calls)
           (subst (λ (n : ℕ). now (line_calls (texts_in start bytes (P.lines_from n (drop (line.end - start) bytes)))
           later ++ calls)) sums k)))),
       ap (λ n. more ⊕ rows_tokens (rows_of_lines out left (snippet_context s w columns drawn (cells_in s start bytes))

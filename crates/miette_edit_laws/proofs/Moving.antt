@@ -8,7 +8,7 @@ use Rattle.std.proofs.lemmas.List.{length-drop, length-take}
 use Rattle.std.proofs.lemmas.List.Sums.{sum_by-cons}
 use Rattle.miette_basics.proofs.Cases.{by_cases}
 use Rattle.miette_edit_laws.specs.laws.Places.{deleted, inserted, is_covered, deleted_before, inserted_before, moved}
-use Rattle.miette_fixes.specs.rules.Edits.{Replacement, end_of, is_behind}
+use Rattle.miette_fixes.specs.rules.Edits.{Replacement, end_of, is_after}
 use Rattle.miette_fixes.specs.rules.Applying.{put_edit, by_offset, applied, refusal, text_from}
 use Rattle.miette_fixes.specs.views.Ordered.{FitFrom}
 use Rattle.miette_fixes.proofs.Overlaps.{any_by_offset, fit_unrefused}
@@ -19,7 +19,7 @@ sum_put : (f : Replacement → ℕ) (edit : Replacement) (edits : List Replaceme
     → sum_by f (put_edit edit edits) ≡ f edit + sum_by f edits
 sum_put f edit [] = sum_by-cons f edit []
 sum_put f edit (next ∷ edits) =
-    by_cases {C = sum_by f (put_edit edit (next ∷ edits)) ≡ f edit + sum_by f (next ∷ edits)} (is_behind edit next)
+    by_cases {C = sum_by f (put_edit edit (next ∷ edits)) ≡ f edit + sum_by f (next ∷ edits)} (is_after edit next)
     (λ t. let there : put_edit edit (next ∷ edits) ≡ next ∷ put_edit edit edits = rw t refl in
     let a : sum_by f (next ∷ put_edit edit edits) ≡ f next + sum_by f (put_edit edit edits) =
     sum_by-cons f next (put_edit edit edits) in
@@ -148,9 +148,9 @@ deleted_within n a k (e ∷ es) h le out =
     deleted_within n (end_of e) k es h.2 end (uncovered_rest k e es out) in
     let c : deleted_before k (e ∷ es) ≡ e.span.len + deleted_before k es = counts (λ x. x.span.len) k e es at_or in
     omega (arith, low, rest, c))
-    (λ f. let behind : k < e.span.offset = leb-false e.span.offset k f in
+    (λ f. let after : k < e.span.offset = leb-false e.span.offset k f in
     let c : deleted_before k (e ∷ es) ≡ 0 =
-    none_counts (λ x. x.span.len) n e.span.offset k (e ∷ es) (omega arith, h.1, h.2) behind in
+    none_counts (λ x. x.span.len) n e.span.offset k (e ∷ es) (omega arith, h.1, h.2) after in
     omega (arith, c, le))
 
 place_from : (source : List ℕ) (a k p : ℕ) (edits : List Replacement) → FitFrom (length source) a edits → a ≤ k
@@ -178,16 +178,16 @@ place_from source a k p (e ∷ es) h le out is =
     let p_is : p ≡ length (front ++ e.text) + q = omega (arith, is, d, i, q_is, l, range) in
     ap (slice_get ((front ++ e.text) ++ rest)) p_is ∙ get_right (front ++ e.text) rest q
     ∙ place_from source (end_of e) k q es h.2 end out' q_is)
-    (λ f. let behind : k < e.span.offset = leb-false e.span.offset k f in
+    (λ f. let after : k < e.span.offset = leb-false e.span.offset k f in
     let d : deleted_before k (e ∷ es) ≡ 0 =
-    none_counts (λ x. x.span.len) (length source) e.span.offset k (e ∷ es) (omega arith, h.1, h.2) behind in
+    none_counts (λ x. x.span.len) (length source) e.span.offset k (e ∷ es) (omega arith, h.1, h.2) after in
     let i : inserted_before k (e ∷ es) ≡ 0 =
-    none_counts (λ x. length x.text) (length source) e.span.offset k (e ∷ es) (omega arith, h.1, h.2) behind in
+    none_counts (λ x. length x.text) (length source) e.span.offset k (e ∷ es) (omega arith, h.1, h.2) after in
     let p_is : a + p ≡ k = omega (arith, is, d, i) in
     let l : length (front ++ e.text) ≡ length front + length e.text = length-append front e.text in
-    get_left (front ++ e.text) rest p (omega (arith, l, range, p_is, behind))
-    ∙ get_left front e.text p (omega (arith, range, p_is, behind))
-    ∙ get_take (e.span.offset - a) (drop a source) p (omega (arith, p_is, behind))
+    get_left (front ++ e.text) rest p (omega (arith, l, range, p_is, after))
+    ∙ get_left front e.text p (omega (arith, range, p_is, after))
+    ∙ get_take (e.span.offset - a) (drop a source) p (omega (arith, p_is, after))
     ∙ get_drop a source p ∙ ap (slice_get source) p_is)
 
 pub outside : (source : List ℕ) (edits : List Replacement) (k : ℕ) → refusal (length source) edits ≡ None
@@ -233,17 +233,17 @@ between_within n a j k (e ∷ es) h lt out out' =
     let y : deleted_before k (e ∷ es) ≡ e.span.len + deleted_before k es =
     counts (λ x. x.span.len) k e es (omega (arith, at_or, lt)) in
     omega (arith, rest, x, y))
-    (λ f. let behind : j < e.span.offset = leb-false e.span.offset j f in
+    (λ f. let after : j < e.span.offset = leb-false e.span.offset j f in
     let none : deleted_before j (e ∷ es) ≡ 0 =
-    none_counts (λ x. x.span.len) n e.span.offset j (e ∷ es) (omega arith, h.1, h.2) behind in
+    none_counts (λ x. x.span.len) n e.span.offset j (e ∷ es) (omega arith, h.1, h.2) after in
     by_cases {C = deleted_before k (e ∷ es) + j + 1 ≤ k + deleted_before j (e ∷ es)} (leb e.span.offset k)
     (λ t. let at_or : e.span.offset ≤ k = leb-true e.span.offset k t in
     let bound : deleted_before k (e ∷ es) + e.span.offset ≤ k =
     deleted_within n e.span.offset k (e ∷ es) (omega arith, h.1, h.2) at_or out' in
-    omega (arith, bound, none, behind))
-    (λ g. let behind' : k < e.span.offset = leb-false e.span.offset k g in
+    omega (arith, bound, none, after))
+    (λ g. let after' : k < e.span.offset = leb-false e.span.offset k g in
     let none' : deleted_before k (e ∷ es) ≡ 0 =
-    none_counts (λ x. x.span.len) n e.span.offset k (e ∷ es) (omega arith, h.1, h.2) behind' in
+    none_counts (λ x. x.span.len) n e.span.offset k (e ∷ es) (omega arith, h.1, h.2) after' in
     omega (arith, none, none', lt)))
 
 pub order : (source : List ℕ) (edits : List Replacement) (j k : ℕ) → refusal (length source) edits ≡ None

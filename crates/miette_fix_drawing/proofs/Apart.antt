@@ -26,16 +26,16 @@ pub ended : (cell : Cell) (span : Span) (offset : ℕ) → nat_le (span.offset +
     → holds_byte cell span ≡ false
 ended cell span offset e le = grind (arith, nat_tests)
 
-pub behind : (cell : Cell) (span : Span) → cell.after ≤ span.offset → holds_byte cell span ≡ false
-behind cell span le = grind (arith, nat_tests)
+pub after_cell : (cell : Cell) (span : Span) → cell.after ≤ span.offset → holds_byte cell span ≡ false
+after_cell cell span le = grind (arith, nat_tests)
 
-pub all_behind : (cell : Cell) (at : ℕ) (spans : List Span) → AreApartFrom at spans → cell.after ≤ at
+pub all_after : (cell : Cell) (at : ℕ) (spans : List Span) → AreApartFrom at spans → cell.after ≤ at
     → list_any (holds_byte cell) spans ≡ false
-all_behind cell at [] h le = refl
-all_behind cell at (s ∷ ss) h le =
-    let first : holds_byte cell s ≡ false = behind cell s (omega (arith, h.0, le)) in
+all_after cell at [] h le = refl
+all_after cell at (s ∷ ss) h le =
+    let first : holds_byte cell s ≡ false = after_cell cell s (omega (arith, h.0, le)) in
     let later : list_any (holds_byte cell) ss ≡ false =
-    all_behind cell (s.offset + s.len) ss h.1 (omega (arith, h.0, le)) in
+    all_after cell (s.offset + s.len) ss h.1 (omega (arith, h.0, le)) in
     rw (first, later) refl
 
 -- the i-th span stands in front
@@ -51,12 +51,12 @@ any_at p spans i d lt e =
     let next : i + 1 ≡ suc i = omega arith in
     ap (λ k. list_any p (drop k spans)) next ∙ any_next p spans i d lt e
 
-pub behind_at : (cell : Cell) (spans : List Span) (i : ℕ) (d : Span) → AreApart spans → i < length spans
+pub after_at : (cell : Cell) (spans : List Span) (i : ℕ) (d : Span) → AreApart spans → i < length spans
     → cell.after ≤ (get_or spans i d).offset → list_any (holds_byte cell) (drop i spans) ≡ false
-behind_at cell [] i d h lt le = absurd (omega (arith, lt))
-behind_at cell (s ∷ ss) zero d h lt le = all_behind cell s.offset (s ∷ ss) (omega arith, h.1) le
-behind_at cell (s ∷ ss) (suc i) d h lt le =
-    behind_at cell ss i d (apart_from (s.offset + s.len) ss h.1) (omega (arith, lt)) le
+after_at cell [] i d h lt le = absurd (omega (arith, lt))
+after_at cell (s ∷ ss) zero d h lt le = all_after cell s.offset (s ∷ ss) (omega arith, h.1) le
+after_at cell (s ∷ ss) (suc i) d h lt le =
+    after_at cell ss i d (apart_from (s.offset + s.len) ss h.1) (omega (arith, lt)) le
 
 pub held_at : (p : Span → Bool) (spans : List Span) (i : ℕ) (d : Span) → i < length spans → p (get_or spans i d) ≡ true
     → list_any p (drop i spans) ≡ true
@@ -73,13 +73,13 @@ none_at p (s ∷ ss) (suc i) le = none_at p ss i (omega (arith, le))
 
 -- ---- spans in front that are left out, and those after them
 
-begins_behind : (at : ℕ) (spans : List Span) (i : ℕ) (d : Span) → AreApartFrom at spans → i < length spans
+begins_after : (at : ℕ) (spans : List Span) (i : ℕ) (d : Span) → AreApartFrom at spans → i < length spans
     → at ≤ (get_or spans i d).offset
-begins_behind at [] i d h lt = absurd (omega (arith, lt))
-begins_behind at (s ∷ ss) zero d h lt = h.0
-begins_behind at (s ∷ ss) (suc i) d h lt =
+begins_after at [] i d h lt = absurd (omega (arith, lt))
+begins_after at (s ∷ ss) zero d h lt = h.0
+begins_after at (s ∷ ss) (suc i) d h lt =
     let later : s.offset + s.len ≤ (get_or ss i d).offset =
-    begins_behind (s.offset + s.len) ss i d h.1 (omega (arith, lt)) in
+    begins_after (s.offset + s.len) ss i d h.1 (omega (arith, lt)) in
     omega (arith, h.0, later)
 
 -- what is the same without a span that ends before an offset is so without all in front of such a one
@@ -91,7 +91,7 @@ left_next f offset step [] i d h lt e = absurd (omega (arith, lt))
 left_next f offset step (s ∷ ss) zero d h lt e = sym (step s ss e)
 left_next f offset step (s ∷ ss) (suc i) d h lt e =
     let some : i < length ss = omega (arith, lt) in
-    let later : s.offset + s.len ≤ (get_or ss i d).offset = begins_behind (s.offset + s.len) ss i d h.1 some in
+    let later : s.offset + s.len ≤ (get_or ss i d).offset = begins_after (s.offset + s.len) ss i d h.1 some in
     left_next f offset step ss i d (apart_from (s.offset + s.len) ss h.1) some e
     ∙ sym (step s ss (omega (arith, later, e)))
 
@@ -113,14 +113,14 @@ nothing_from f end none step at (s ∷ ss) h lt =
     step s ss (omega (arith, h.0, lt))
     ∙ nothing_from f end none step (s.offset + s.len) ss h.1 (omega (arith, h.0, lt))
 
-pub nothing_behind : {B : Type 0} (f : List Span → List B) (end : ℕ) → f [] ≡ []
+pub nothing_after : {B : Type 0} (f : List Span → List B) (end : ℕ) → f [] ≡ []
     → ((s : Span) (ss : List Span) → end < s.offset → f (s ∷ ss) ≡ f ss) → (spans : List Span) (i : ℕ) (d : Span)
     → AreApart spans → i < length spans → end < (get_or spans i d).offset → f (drop i spans) ≡ []
-nothing_behind f end none step [] i d h lt e = absurd (omega (arith, lt))
-nothing_behind f end none step (s ∷ ss) zero d h lt e =
+nothing_after f end none step [] i d h lt e = absurd (omega (arith, lt))
+nothing_after f end none step (s ∷ ss) zero d h lt e =
     nothing_from f end none step s.offset (s ∷ ss) (omega arith, h.1) e
-nothing_behind f end none step (s ∷ ss) (suc i) d h lt e =
-    nothing_behind f end none step ss i d (apart_from (s.offset + s.len) ss h.1) (omega (arith, lt)) e
+nothing_after f end none step (s ∷ ss) (suc i) d h lt e =
+    nothing_after f end none step ss i d (apart_from (s.offset + s.len) ss h.1) (omega (arith, lt)) e
 
 -- a span that ends before a line has nothing there
 pub held_later : (cell : Cell) (offset : ℕ) → offset ≤ cell.start → (s : Span) (ss : List Span)
@@ -157,6 +157,6 @@ pub on_before : (start : ℕ) (line : List ℕ) (s : Span) (ss : List Span) → 
 on_before start line s ss lt =
     let inside : nat_lt s.offset (start + length line) ≡ false =
     le-ltb s.offset (start + length line) (omega (arith, lt)) in
-    let behind : eqb s.offset (start + length line) ≡ false = grind (arith, nat_tests) in
-    let none : is_on start line s ≡ false = rw (inside, behind) (and_never (nat_le start (s.offset + s.len))) in
+    let after_cell : eqb s.offset (start + length line) ≡ false = grind (arith, nat_tests) in
+    let none : is_on start line s ≡ false = rw (inside, after_cell) (and_never (nat_le start (s.offset + s.len))) in
     rw none refl

@@ -69,16 +69,16 @@ drawn_are drawing whole edits (frame ∷ frames) bytes name deleted inserted =
 
 -- the frames of what edits change
 pub drawn_put : (drawing : FixDrawing) (whole : Source) (edits : List Replacement) (made : List Change)
-    (hunks : List Hunk) (behind : List (List ℕ)) (p n : Printout)
+    (hunks : List Hunk) (after : List (List ℕ)) (p n : Printout)
     → whole.bytes ≡ drawing.source.now → whole.name ≡ option_copied drawing.name
     → drawing.deleted.now ≡ deleted_spans (by_offset edits) → drawing.inserted.now ≡ inserted_spans (by_offset edits)
     → made ≡ changes drawing.source.now edits → hunks ≡ (diff_from drawing.source.now 0 made).hunks
-    → behind ≡ (diff_from drawing.source.now 0 made).behind
+    → after ≡ (diff_from drawing.source.now 0 made).after_hunks
     → n ≡ p ⊕ rows_tokens (drawn_frames drawing
-    (frames_from drawing.settings.layout.now.context_lines behind false start_standing hunks))
+    (frames_from drawing.settings.layout.now.context_lines after false start_standing hunks))
     → n ≡ p ⊕ rows_tokens (rows_of_frames (settings_of drawing.settings) whole (by_offset edits)
     (frames_of (settings_of drawing.settings).layout.context_lines (diff whole.bytes edits)))
-drawn_put drawing whole edits made hunks behind p n bytes name deleted inserted c h b put =
+drawn_put drawing whole edits made hunks after p n bytes name deleted inserted c h b put =
     let k : ℕ = drawing.settings.layout.now.context_lines in
     put
     ∙ ap₂ (λ ls hs. p ⊕ rows_tokens (drawn_frames drawing (frames_from k ls false start_standing hs))) b h

@@ -10,7 +10,7 @@ use Rattle.miette_snippet_rules.specs.views.Settings.{settings_of}
 use Rattle.miette_frames.proofs.TextRows.{rows_then}
 use Rattle.miette_frames.specs.views.Places as made
 use Rattle.miette_fix_rows.specs.rules.Hunks.{Hunk}
-use Rattle.miette_fix_rows.specs.rules.DiffFrames.{DiffFrame, Standing, behind_hunk, frame_at, frames_from, past_hunk}
+use Rattle.miette_fix_rows.specs.rules.DiffFrames.{DiffFrame, Standing, after_hunk, frame_at, frames_from, past_hunk}
 use Rattle.miette_fix_rows.specs.rules.DiffRows.{frame_width, largest, rows_of_lines}
 use Rattle.miette_fix_drawing.specs.declared.frames.FixDrawing.{FixDrawing}
 use Rattle.miette_fix_drawing.specs.steps.Framing.{context_over, drawn_frame, drawn_frames}
@@ -45,16 +45,16 @@ frame_put d f w place p a b n most hw hm hl hc ha hb hn =
     (place_by (line_of d.source.now f.place) (column_of d.source.now f.place)))) width
 
 -- the rows of frames, once those of the first are put
-pub frames_go_on : (d : FixDrawing) (context : ℕ) (behind : List (List ℕ)) (at next : Standing) (hunk : Hunk)
+pub frames_go_on : (d : FixDrawing) (context : ℕ) (after : List (List ℕ)) (at next : Standing) (hunk : Hunk)
     (more later : List Hunk) (hunks : List Hunk) (f : DiffFrame) (p q : Printout) → hunks ≡ hunk ∷ more
-    → f ≡ frame_at context at hunk (behind_hunk context behind more)
-    → frames_from context behind true (past_hunk at hunk) more ≡ frames_from context behind false next later
+    → f ≡ frame_at context at hunk (after_hunk context after more)
+    → frames_from context after true (past_hunk at hunk) more ≡ frames_from context after false next later
     → q ≡ p ⊕ rows_tokens (drawn_frame d f)
-    → q ⊕ rows_tokens (drawn_frames d (frames_from context behind false next later))
-    ≡ p ⊕ rows_tokens (drawn_frames d (frames_from context behind false at hunks))
-frames_go_on d context behind at next hunk more later hunks f p q e hf rest hq =
-    rows_then (drawn_frame d f) (drawn_frames d (frames_from context behind false next later)) p q _ hq refl
+    → q ⊕ rows_tokens (drawn_frames d (frames_from context after false next later))
+    ≡ p ⊕ rows_tokens (drawn_frames d (frames_from context after false at hunks))
+frames_go_on d context after at next hunk more later hunks f p q e hf rest hq =
+    rows_then (drawn_frame d f) (drawn_frames d (frames_from context after false next later)) p q _ hq refl
     ∙ ap (λ x. p ⊕ rows_tokens (drawn_frame d f ++ drawn_frames d x)) (sym rest)
     ∙ ap (λ x. p ⊕ rows_tokens (drawn_frame d x ++ drawn_frames d
-    (frames_from context behind true (past_hunk at hunk) more))) hf
-    ∙ ap (λ x. p ⊕ rows_tokens (drawn_frames d (frames_from context behind false at x))) (sym e)
+    (frames_from context after true (past_hunk at hunk) more))) hf
+    ∙ ap (λ x. p ⊕ rows_tokens (drawn_frames d (frames_from context after false at x))) (sym e)

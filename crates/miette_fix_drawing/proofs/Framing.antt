@@ -14,7 +14,7 @@ use Rattle.miette_frames.proofs.TextRows.{rows_then}
 use Rattle.miette_fix_rows.specs.rules.Blocks.{bytes_of, line_texts}
 use Rattle.miette_fix_rows.specs.rules.Hunks.{Change, Hunk, removed_lines}
 use Rattle.miette_fix_rows.specs.rules.DiffFrames.{DiffFrame, DiffLine, Standing, added_from, added_with}
-use Rattle.miette_fix_rows.specs.rules.DiffFrames.{behind_hunk, changed_lines, removed_from, removed_with}
+use Rattle.miette_fix_rows.specs.rules.DiffFrames.{after_hunk, changed_lines, removed_from, removed_with}
 use Rattle.miette_fix_rows.specs.rules.DiffFrames.{first_place, frame_at, frames_from, is_near, kept_lines}
 use Rattle.miette_fix_rows.specs.rules.DiffFrames.{left_before, past_hunk, past_kept}
 use Rattle.miette_fix_rows.specs.rules.DiffRows.{DiffContext, largest, number_of, past, rows_of_line, rows_of_lines}
@@ -98,51 +98,51 @@ rest_texts bs n k e =
 
 -- ---- hunks
 
-near_frames : (context : ℕ) (behind : List (List ℕ)) (at : Standing) (hunk : Hunk) (more : List Hunk)
+near_frames : (context : ℕ) (after : List (List ℕ)) (at : Standing) (hunk : Hunk) (more : List Hunk)
     → is_near context hunk ≡ true
-    → frames_from context behind true at (hunk ∷ more) ≡ frames_from context behind true (past_hunk at hunk) more
-near_frames context behind at hunk more e =
-    ap (λ b. cond b (frames_from context behind true (past_hunk at hunk) more)
-    (frame_at context at hunk (behind_hunk context behind more) ∷ frames_from context behind true (past_hunk at hunk)
+    → frames_from context after true at (hunk ∷ more) ≡ frames_from context after true (past_hunk at hunk) more
+near_frames context after at hunk more e =
+    ap (λ b. cond b (frames_from context after true (past_hunk at hunk) more)
+    (frame_at context at hunk (after_hunk context after more) ∷ frames_from context after true (past_hunk at hunk)
     more)) e
 
-near_behind : (context : ℕ) (behind : List (List ℕ)) (hunk : Hunk) (more : List Hunk) → is_near context hunk ≡ true
-    → behind_hunk context behind (hunk ∷ more)
-    ≡ kept_lines hunk.kept ++ (changed_lines hunk.changes ++ behind_hunk context behind more)
-near_behind context behind hunk more e =
-    ap (λ b. cond b (kept_lines hunk.kept ++ (changed_lines hunk.changes ++ behind_hunk context behind more))
+near_after : (context : ℕ) (after : List (List ℕ)) (hunk : Hunk) (more : List Hunk) → is_near context hunk ≡ true
+    → after_hunk context after (hunk ∷ more)
+    ≡ kept_lines hunk.kept ++ (changed_lines hunk.changes ++ after_hunk context after more)
+near_after context after hunk more e =
+    ap (λ b. cond b (kept_lines hunk.kept ++ (changed_lines hunk.changes ++ after_hunk context after more))
     (kept_lines (take context hunk.kept))) e
 
-pub far_frames : (context : ℕ) (behind : List (List ℕ)) (at : Standing) (hunks : List Hunk) → IsFar context hunks
-    → frames_from context behind true at hunks ≡ frames_from context behind false at hunks
-far_frames context behind at [] far = refl
-far_frames context behind at (hunk ∷ more) far =
-    ap (λ b. cond b (frames_from context behind true (past_hunk at hunk) more)
-    (frame_at context at hunk (behind_hunk context behind more) ∷ frames_from context behind true (past_hunk at hunk)
+pub far_frames : (context : ℕ) (after : List (List ℕ)) (at : Standing) (hunks : List Hunk) → IsFar context hunks
+    → frames_from context after true at hunks ≡ frames_from context after false at hunks
+far_frames context after at [] far = refl
+far_frames context after at (hunk ∷ more) far =
+    ap (λ b. cond b (frames_from context after true (past_hunk at hunk) more)
+    (frame_at context at hunk (after_hunk context after more) ∷ frames_from context after true (past_hunk at hunk)
     more)) far
 
 -- lines with those of a hunk that is near, and what goes on after it
-pub near_lines : (context : ℕ) (behind : List (List ℕ)) (hunk : Hunk) (more : List Hunk) (made next : List DiffLine)
+pub near_lines : (context : ℕ) (after : List (List ℕ)) (hunk : Hunk) (more : List Hunk) (made next : List DiffLine)
     → is_near context hunk ≡ true → next ≡ made ++ (kept_lines hunk.kept ++ changed_lines hunk.changes)
-    → next ++ behind_hunk context behind more ≡ made ++ behind_hunk context behind (hunk ∷ more)
-near_lines context behind hunk more made next e h =
+    → next ++ after_hunk context after more ≡ made ++ after_hunk context after (hunk ∷ more)
+near_lines context after hunk more made next e h =
     let kept : List DiffLine = kept_lines hunk.kept in
     let changed : List DiffLine = changed_lines hunk.changes in
-    let rest : List DiffLine = behind_hunk context behind more in
+    let rest : List DiffLine = after_hunk context after more in
     ap (λ ls. ls ++ rest) h ∙ append_assoc made (kept ++ changed) rest
     ∙ ap (λ ls. made ++ ls) (append_assoc kept changed rest) ∙ ap (λ ls. made ++ ls)
-    (sym (near_behind context behind hunk more e))
+    (sym (near_after context after hunk more e))
 
-pub near_standing : (context : ℕ) (behind : List (List ℕ)) (at : Standing) (hunk : Hunk) (more : List Hunk)
+pub near_standing : (context : ℕ) (after : List (List ℕ)) (at : Standing) (hunk : Hunk) (more : List Hunk)
     (made next : List DiffLine) → is_near context hunk ≡ true
     → next ≡ made ++ (kept_lines hunk.kept ++ changed_lines hunk.changes)
-    → frames_from context behind true (past_lines at next) more
-    ≡ frames_from context behind true (past_lines at made) (hunk ∷ more)
-near_standing context behind at hunk more made next e h =
-    ap (λ s. frames_from context behind true s more)
+    → frames_from context after true (past_lines at next) more
+    ≡ frames_from context after true (past_lines at made) (hunk ∷ more)
+near_standing context after at hunk more made next e h =
+    ap (λ s. frames_from context after true s more)
     (ap (past_lines at) h ∙ past_append at made (kept_lines hunk.kept ++ changed_lines hunk.changes)
     ∙ past_whole_hunk (past_lines at made) hunk)
-    ∙ sym (near_frames context behind (past_lines at made) hunk more e)
+    ∙ sym (near_frames context after (past_lines at made) hunk more e)
 
 -- ---- the ends of loops
 
@@ -190,24 +190,24 @@ pub texts_size : (bs : List ℕ) (lines : List (List ℕ)) → line_texts bs ≡
 texts_size bs lines e = sym (bytes_of_texts bs) ∙ ap bytes_of e
 
 pub removed_more : (ss next : List Segment) (own : Segment) (cs : List Change) (i : ℕ) (change : Change)
-    (away behind : ℕ) (all : List DiffLine) → i < length cs → change ≡ get_or cs i change → next ≡ ss ++ own ∷ []
-    → lines_of_segment own ≡ removed_with away change.removed change.added → behind ≡ away + bytes_of change.added
+    (away after : ℕ) (all : List DiffLine) → i < length cs → change ≡ get_or cs i change → next ≡ ss ++ own ∷ []
+    → lines_of_segment own ≡ removed_with away change.removed change.added → after ≡ away + bytes_of change.added
     → lines_of_segments ss ++ removed_from away (drop i cs) ≡ all
-    → lines_of_segments next ++ removed_from behind (drop (i + 1) cs) ≡ all
-removed_more ss next own cs i change away behind all lt at put is past h =
+    → lines_of_segments next ++ removed_from after (drop (i + 1) cs) ≡ all
+removed_more ss next own cs i change away after all lt at put is past h =
     let lines : List DiffLine = removed_with away change.removed change.added in
-    lines_more ss next own lines (removed_from behind (drop (i + 1) cs)) all put is
+    lines_more ss next own lines (removed_from after (drop (i + 1) cs)) all put is
     (ap (λ n. lines_of_segments ss ++ (lines ++ removed_from n (drop (i + 1) cs))) past
     ∙ ap (λ xs. lines_of_segments ss ++ removed_from away xs) (sym (item_first cs i change lt at)) ∙ h)
 
 pub added_more : (ss next : List Segment) (own : Segment) (cs : List Change) (i : ℕ) (change : Change)
-    (away behind : ℕ) (all : List DiffLine) → i < length cs → change ≡ get_or cs i change → next ≡ ss ++ own ∷ []
-    → lines_of_segment own ≡ added_with away change.added change.removed → behind ≡ away - bytes_of change.removed
+    (away after : ℕ) (all : List DiffLine) → i < length cs → change ≡ get_or cs i change → next ≡ ss ++ own ∷ []
+    → lines_of_segment own ≡ added_with away change.added change.removed → after ≡ away - bytes_of change.removed
     → lines_of_segments ss ++ added_from away (drop i cs) ≡ all
-    → lines_of_segments next ++ added_from behind (drop (i + 1) cs) ≡ all
-added_more ss next own cs i change away behind all lt at put is past h =
+    → lines_of_segments next ++ added_from after (drop (i + 1) cs) ≡ all
+added_more ss next own cs i change away after all lt at put is past h =
     let lines : List DiffLine = added_with away change.added change.removed in
-    lines_more ss next own lines (added_from behind (drop (i + 1) cs)) all put is
+    lines_more ss next own lines (added_from after (drop (i + 1) cs)) all put is
     (ap (λ n. lines_of_segments ss ++ (lines ++ added_from n (drop (i + 1) cs))) past
     ∙ ap (λ xs. lines_of_segments ss ++ added_from away xs) (sym (item_first cs i change lt at)) ∙ h)
 
@@ -241,18 +241,18 @@ largest_pushed at next ss s m n hm hn h =
 abbrev framed : Standing → ℕ → List DiffLine → DiffFrame
 framed at place lines = record { at = at; place = place; lines = lines }
 
-pub frame_made : (context : ℕ) (behind : List (List ℕ)) (at from : Standing) (hunk : Hunk) (rest more : List Hunk)
+pub frame_made : (context : ℕ) (after : List (List ℕ)) (at from : Standing) (hunk : Hunk) (rest more : List Hunk)
     (place : ℕ) (first made all : List Segment) (last : Segment)
     → from ≡ past_kept at (take (left_before context hunk) hunk.kept)
     → lines_of_segments first
     ≡ kept_lines (drop (left_before context hunk) hunk.kept) ++ changed_lines hunk.changes
     → place ≡ first_place hunk.changes
-    → lines_of_segments made ++ behind_hunk context behind rest
-    ≡ lines_of_segments first ++ behind_hunk context behind more
-    → lines_of_segment last ≡ behind_hunk context behind rest → all ≡ made ++ last ∷ []
-    → framed from place (lines_of_segments all) ≡ frame_at context at hunk (behind_hunk context behind more)
-frame_made context behind at from hunk rest more place first made all last begins firsts points goes ends pushed =
-    let later : List DiffLine = behind_hunk context behind more in
+    → lines_of_segments made ++ after_hunk context after rest
+    ≡ lines_of_segments first ++ after_hunk context after more
+    → lines_of_segment last ≡ after_hunk context after rest → all ≡ made ++ last ∷ []
+    → framed from place (lines_of_segments all) ≡ frame_at context at hunk (after_hunk context after more)
+frame_made context after at from hunk rest more place first made all last begins firsts points goes ends pushed =
+    let later : List DiffLine = after_hunk context after more in
     let own : List DiffLine = kept_lines (drop (left_before context hunk) hunk.kept) in
     let changed : List DiffLine = changed_lines hunk.changes in
     let lines : lines_of_segments all ≡ own ++ (changed ++ later) =
@@ -289,6 +289,6 @@ hunks_drop (suc n) [] = refl
 hunks_drop (suc n) (x ∷ xs) = hunks_drop n xs
 
 -- what is left after some of what is left
-pub left_behind : {A : Type 0} (xs : List A) (at n : ℕ)
+pub left_after : {A : Type 0} (xs : List A) (at n : ℕ)
     → drop n (take (length xs - at) (drop at xs)) ≡ drop (at + n) xs
-left_behind xs at n = ap (drop n) (take_rest xs at) ∙ drop-drop n at xs
+left_after xs at n = ap (drop n) (take_rest xs at) ∙ drop-drop n at xs

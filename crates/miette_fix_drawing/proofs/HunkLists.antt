@@ -29,7 +29,8 @@ none_between source at = let e : at - at ≡ 0 = omega arith in ap (λ n. take n
 
 -- hunks of which the first has these changes
 abbrev headed : List (List ℕ) → List Change → Diff → Diff
-headed kept changes d = record { hunks = record { kept = kept; changes = changes } ∷ d.hunks; behind = d.behind }
+headed kept changes d =
+    record { hunks = record { kept = kept; changes = changes } ∷ d.hunks; after_hunks = d.after_hunks }
 
 joins : (change : Change) (kept : List (List ℕ)) (changes : List Change) (d : Diff) → is_nil kept ≡ true
     → with_change change (headed kept changes d) ≡ headed [] (change ∷ changes) d
@@ -166,11 +167,12 @@ hunk_put source at from n end xs made next hunk d h some f many last k cs put e 
     ∙ ap (λ x. hunks_of made ++ (x ∷ left)) (hunk_is source at from n xs hunk k cs)
     ∙ ap (λ x. hunks_of made ++ x.hunks) (sym (hunk_by source at from n end xs h some f many last)) ∙ e
 
-pub behind_put : (source : List ℕ) (at from n end : ℕ) (xs : List Change) (d : Diff) → AreRising (length source) at xs
+pub after_put : (source : List ℕ) (at from n end : ℕ) (xs : List Change) (d : Diff) → AreRising (length source) at xs
     → 0 < length xs → from ≡ first_from xs → n ≡ joined from xs → end ≡ joined_end from xs
-    → (diff_from source at xs).behind ≡ d.behind → (diff_from source end (drop n xs)).behind ≡ d.behind
-behind_put source at from n end xs d h some f many last e =
-    ap (λ x. x.behind) (sym (hunk_by source at from n end xs h some f many last)) ∙ e
+    → (diff_from source at xs).after_hunks ≡ d.after_hunks → (diff_from source end (drop n xs)).after_hunks
+    ≡ d.after_hunks
+after_put source at from n end xs d h some f many last e =
+    ap (λ x. x.after_hunks) (sym (hunk_by source at from n end xs h some f many last)) ∙ e
 
 pub rising_put : (size at from n end : ℕ) (xs : List Change) → AreRising size at xs → 0 < length xs
     → from ≡ first_from xs → n ≡ joined from xs → end ≡ joined_end from xs → AreRising size end (drop n xs)

@@ -12,11 +12,11 @@ use Rattle.miette_fix_drawing.specs.steps.Framing.{PointsWithin}
 use Rattle.miette_fix_drawing.specs.steps.Places.{StandsIn}
 use Rattle.miette_fix_drawing.specs.steps.Rising.{AreRising}
 
-kept_within : (size : ℕ) (lines : List (List ℕ)) (hunks : List Hunk) (behind : List (List ℕ))
+kept_within : (size : ℕ) (lines : List (List ℕ)) (hunks : List Hunk) (after : List (List ℕ))
     → AllByRecursion (PointsWithin size) hunks
-    → AllByRecursion (PointsWithin size) (onto_kept lines hunks behind).hunks
-kept_within size lines [] behind h = h
-kept_within size lines (hunk ∷ hunks) behind h = h
+    → AllByRecursion (PointsWithin size) (onto_kept lines hunks after).hunks
+kept_within size lines [] after h = h
+kept_within size lines (hunk ∷ hunks) after h = h
 
 change_within : (size : ℕ) (change : Change) (hunks : List Hunk) → change.place ≤ size
     → AllByRecursion (PointsWithin size) hunks → AllByRecursion (PointsWithin size) (onto_hunks change hunks)
@@ -30,7 +30,7 @@ pub hunks_within : (source : List ℕ) (size at : ℕ) (changes : List Change) �
 hunks_within source size at [] h = tt
 hunks_within source size at (c ∷ cs) h =
     let rest : Diff = diff_from source c.to cs in
-    kept_within size (line_texts (slice_range source at c.from)) (onto_hunks c rest.hunks) rest.behind
+    kept_within size (line_texts (slice_range source at c.from)) (onto_hunks c rest.hunks) rest.after_hunks
     (change_within size c rest.hunks h.3 (hunks_within source size c.to cs h.4))
 
 -- ---- where they stand

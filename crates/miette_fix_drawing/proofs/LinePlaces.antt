@@ -60,14 +60,14 @@ ends_nil : (n : ℕ) → ends_before n [] ≡ 0
 ends_nil zero = refl
 ends_nil (suc n) = refl
 
-behind_front : (o n : ℕ) (bs : List ℕ) → ends_before (o + n) bs ≡ ends_before o bs + ends_before n (drop o bs)
-behind_front zero n bs = let e : 0 + n ≡ n = omega arith in omega (arith, ap (λ m. ends_before m bs) e)
-behind_front (suc o) n [] = omega (arith, ends_nil (suc o + n), ends_nil n)
-behind_front (suc o) n (b ∷ bs) =
+after_front : (o n : ℕ) (bs : List ℕ) → ends_before (o + n) bs ≡ ends_before o bs + ends_before n (drop o bs)
+after_front zero n bs = let e : 0 + n ≡ n = omega arith in omega (arith, ap (λ m. ends_before m bs) e)
+after_front (suc o) n [] = omega (arith, ends_nil (suc o + n), ends_nil n)
+after_front (suc o) n (b ∷ bs) =
     let e : suc o + n ≡ suc (o + n) = omega arith in
     ap (λ m. ends_before m (b ∷ bs)) e
     ∙ front-step (ends_line b (slice_index bs 0)) (ends_before o bs) (ends_before n (drop o bs))
-    (ends_before (o + n) bs) (behind_front o n bs)
+    (ends_before (o + n) bs) (after_front o n bs)
 
 take_no_more : (n : ℕ) (bs : List ℕ) → length (take n bs) ≤ length bs
 take_no_more zero bs = omega arith
@@ -91,7 +91,7 @@ lines_over bs part at (suc n) some within e =
       arith,
       ap (λ l. length (line_texts l)) same,
       own,
-      behind_front at n bs,
+      after_front at n bs,
       line_of-is bs at,
       line_of-is bs (at + n),
       ap (line_of bs) last,

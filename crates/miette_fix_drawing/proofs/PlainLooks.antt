@@ -28,7 +28,7 @@ no_white : (b : ℕ) → 32 ≤ b → b < 127 → eqb b 32 ≡ false → (eqb b 
 no_white b low high other =
     let tab : eqb b 9 ≡ false = ne_eqb b 9 (omega arith) in
     let controls : ltb b 14 ≡ false = le-ltb b 14 (omega arith) in
-    let behind : ltb 8 b ≡ true = lt-ltb 8 b (omega arith) in
+    let after : ltb 8 b ≡ true = lt-ltb 8 b (omega arith) in
     let a : eqb b 133 ≡ false = ne_eqb b 133 (omega arith) in
     let c : eqb b 160 ≡ false = ne_eqb b 160 (omega arith) in
     let d : eqb b 5760 ≡ false = ne_eqb b 5760 (omega arith) in
@@ -38,7 +38,7 @@ no_white b low high other =
     let i : eqb b 8239 ≡ false = ne_eqb b 8239 (omega arith) in
     let j : eqb b 8287 ≡ false = ne_eqb b 8287 (omega arith) in
     let k : eqb b 12288 ≡ false = ne_eqb b 12288 (omega arith) in
-    rw (tab, controls, behind, other, a, c, d, e, g, h, i, j, k) refl
+    rw (tab, controls, after, other, a, c, d, e, g, h, i, j, k) refl
 
 other_seen : (column b : ℕ) (rest : List ℕ) → is_printable b ≡ true → eqb b 32 ≡ false
     → one_seen column b rest ≡ b ∷ rest

@@ -30,10 +30,10 @@ pub shown_first : (kind : Kind) (n next : ℕ) (text : List ℕ) (all ls os more
     (other : Option (List ℕ)) (shown : Option OtherLine) → all ≡ text ∷ ls → os ≡ text_before other more
     → (other ≡ None → more ≡ []) → shown ≡ beside n other → next ≡ away_past kind n other →
     lines_by kind n all os ≡ line_by kind text shown ∷ lines_by kind next ls more
-shown_first kind n next text all ls os more other shown k e h is behind =
+shown_first kind n next text all ls os more other shown k e h is after =
     ap (λ ts. lines_by kind n ts os) k ∙ first_shown kind n text ls os more other e h
     ∙ ap (λ o. line_by kind text o ∷ lines_by kind (away_past kind n other) ls more) (sym is)
-    ∙ ap (λ m. line_by kind text shown ∷ lines_by kind m ls more) (sym behind)
+    ∙ ap (λ m. line_by kind text shown ∷ lines_by kind m ls more) (sym after)
 
 -- rows of lines, once those of the first are put
 pub rows_go_on : (c : DiffContext) (at next : Standing) (line : DiffLine) (all lines : List DiffLine) (p q r : Printout)

@@ -123,7 +123,7 @@ fn push_ordered_fix<O: Canvas, S: SourceCode>(
     };
     let deleted = deleted_spans(alloc, edits)?;
     let inserted = inserted_spans(alloc, edits)?;
-    let (hunks, behind) = hunks_of(alloc, source.bytes, &made)?;
+    let (hunks, after) = hunks_of(alloc, source.bytes, &made)?;
     let drawing = FixDrawing {
         settings: *settings,
         name: source.name,
@@ -131,7 +131,7 @@ fn push_ordered_fix<O: Canvas, S: SourceCode>(
         deleted: &deleted,
         inserted: &inserted,
     };
-    push_frames(page, &drawing, source.asked, &hunks, behind)
+    push_frames(page, &drawing, source.asked, &hunks, after)
 }
 
 /// The rows below a fix's message: none without edits or where nothing changes, the row of a refusal, or the frames.

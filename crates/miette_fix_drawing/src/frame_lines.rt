@@ -3,7 +3,7 @@
 ghost use Rattle.std.specs.Prelude.{◌≡◌, ◌≤◌, ◌++◌, ℕ, List, drop, length, take, true, false, IfOk, OnOk};
 ghost use Rattle.miette_fix_rows.specs.rules.Blocks.{bytes_of, line_texts};
 ghost use Rattle.miette_fix_rows.specs.rules.DiffFrames.{Standing as RuledStanding};
-ghost use Rattle.miette_fix_rows.specs.rules.DiffFrames.{added_from, behind_hunk, changed_lines, frames_from, is_near};
+ghost use Rattle.miette_fix_rows.specs.rules.DiffFrames.{added_from, after_hunk, changed_lines, frames_from, is_near};
 ghost use Rattle.miette_fix_rows.specs.rules.DiffFrames.{kept_lines, past_kept, removed_from};
 ghost use Rattle.miette_fix_rows.specs.rules.Hunks.{removed_lines};
 ghost use Rattle.miette_fix_rows.specs.rules.DiffRows.{largest};
@@ -129,13 +129,13 @@ pub(crate) fn take_near<'a>(
     context: usize,
     hunks: &'a [Hunk<'a>],
 ) -> Result<usize, AllocError>
-    ensures lines { IfOk result (λ taken. (behind : List (List ℕ)) →
-        lines_of_segments list.new.items ++ behind_hunk context behind (hunks_of (drop taken hunks.now))
-        ≡ lines_of_segments list.old.items ++ behind_hunk context behind (hunks_of hunks.now)) }
-    ensures frames { IfOk result (λ taken. (behind : List (List ℕ)) → (at : RuledStanding) →
-        frames_from context behind true (past_lines at (lines_of_segments list.new.items))
+    ensures lines { IfOk result (λ taken. (after : List (List ℕ)) →
+        lines_of_segments list.new.items ++ after_hunk context after (hunks_of (drop taken hunks.now))
+        ≡ lines_of_segments list.old.items ++ after_hunk context after (hunks_of hunks.now)) }
+    ensures frames { IfOk result (λ taken. (after : List (List ℕ)) → (at : RuledStanding) →
+        frames_from context after true (past_lines at (lines_of_segments list.new.items))
         (hunks_of (drop taken hunks.now))
-        ≡ frames_from context behind true (past_lines at (lines_of_segments list.old.items)) (hunks_of hunks.now)) }
+        ≡ frames_from context after true (past_lines at (lines_of_segments list.old.items)) (hunks_of hunks.now)) }
     ensures far { IfOk result (λ taken. IsFar context (hunks_of (drop taken hunks.now))) }
     ensures within { IfOk result (λ taken. taken ≤ length hunks.now) }
 {
@@ -156,20 +156,20 @@ fn kept_front<'a>(context: usize, lines: &'a [u8]) -> Segment<'a>
 }
 
 /// The unchanged lines after a frame that are shown in it.
-pub(crate) fn lines_behind<'a>(context: usize, rest: &[Hunk<'a>], behind: &'a [u8]) -> Segment<'a>
+pub(crate) fn lines_after<'a>(context: usize, rest: &[Hunk<'a>], after: &'a [u8]) -> Segment<'a>
     requires { IsFar context (hunks_of rest.now) }
-    ensures { lines_of_segment result ≡ behind_hunk context (line_texts behind.now) (hunks_of rest.now) }
+    ensures { lines_of_segment result ≡ after_hunk context (line_texts after.now) (hunks_of rest.now) }
 {
     match rest {
-        [] => kept_front(context, behind),
+        [] => kept_front(context, after),
         [hunk, ..] => kept_front(context, hunk.kept),
     }
 }
 
 /// Where stands what comes after unchanged lines, told how many there are and how many bytes they have.
 pub(crate) fn past_kept(at: &Standing, lines: usize, bytes: usize) -> Result<Standing, AllocError>
-    ensures { IfOk result (λ behind. (kept : List (List ℕ)) → lines ≡ length kept → bytes ≡ bytes_of kept →
-        standing_of behind ≡ past_kept (standing_of at.now) kept) }
+    ensures { IfOk result (λ after. (kept : List (List ℕ)) → lines ≡ length kept → bytes ≡ bytes_of kept →
+        standing_of after ≡ past_kept (standing_of at.now) kept) }
 {
     Ok(Standing {
         old_line: sum(at.old_line, lines)?,

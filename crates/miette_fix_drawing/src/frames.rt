@@ -6,7 +6,7 @@ ghost use Rattle.std.specs.List.{AllByRecursion};
 ghost use Rattle.miette_page.specs.views.Printouts.{◌⊕◌};
 ghost use Rattle.miette_page.specs.views.Tokens.{rows_tokens};
 ghost use Rattle.miette_fix_rows.specs.rules.Blocks.{line_texts};
-ghost use Rattle.miette_fix_rows.specs.rules.DiffFrames.{behind_hunk, changed_lines, first_place, frame_at};
+ghost use Rattle.miette_fix_rows.specs.rules.DiffFrames.{after_hunk, changed_lines, first_place, frame_at};
 ghost use Rattle.miette_fix_rows.specs.rules.DiffFrames.{frames_from, kept_lines, left_before, past_hunk, past_kept};
 ghost use Rattle.miette_fix_rows.specs.rules.DiffRows.{largest, rows_of_lines};
 ghost use Rattle.miette_fix_drawing.specs.steps.Framing.{PointsWithin, drawn_frame, drawn_frames};
@@ -20,7 +20,7 @@ ghost use Rattle.miette_fix_drawing.specs.views.Standings.{standing_of};
 
 use crate::counting::before_last_lines;
 use crate::digits::Outcome;
-use crate::frame_lines::{lines_behind, measured_all, past_kept, push_hunk, take_near};
+use crate::frame_lines::{lines_after, measured_all, past_kept, push_hunk, take_near};
 use crate::hunks::Hunk;
 use crate::places::{Cursor, count_lines, place_of};
 use crate::segments::{DiffDrawing, Segment, measured, push_segment};
@@ -177,17 +177,18 @@ fn next_frame<'a, S: SourceCode>(
     progress: &mut Progress<'_, S>,
     hunk: &'a Hunk<'a>,
     more: &'a [Hunk<'a>],
-    behind: &'a [u8],
+    kept_after: &'a [u8],
 ) -> Result<(FrameLines<'a>, usize), AllocError>
     requires stands { StandsIn drawing.now.source.now hunk.now }
     requires cursor { IsCursor S.source drawing.now.source.now progress.old.cursor }
     ensures frame { IfOk result (λ it. frame_of it.0 ≡ frame_at drawing.now.settings.layout.now.context_lines
         (standing_of progress.old.at) (hunk_of hunk.now)
-        (behind_hunk drawing.now.settings.layout.now.context_lines (line_texts behind.now) (hunks_of more.now))) }
+        (after_hunk drawing.now.settings.layout.now.context_lines (line_texts kept_after.now) (hunks_of more.now))) }
     ensures largest { IfOk result (λ it. it.0.largest ≡ largest (frame_of it.0).at (frame_of it.0).lines) }
-    ensures rest { IfOk result (λ it. frames_from drawing.now.settings.layout.now.context_lines (line_texts behind.now)
-        true (past_hunk (standing_of progress.old.at) (hunk_of hunk.now)) (hunks_of more.now)
-        ≡ frames_from drawing.now.settings.layout.now.context_lines (line_texts behind.now) false
+    ensures rest { IfOk result (λ it. frames_from drawing.now.settings.layout.now.context_lines
+        (line_texts kept_after.now) true (past_hunk (standing_of progress.old.at) (hunk_of hunk.now))
+        (hunks_of more.now)
+        ≡ frames_from drawing.now.settings.layout.now.context_lines (line_texts kept_after.now) false
         (standing_of progress.new.at) (hunks_of (drop it.1 more.now))) }
     ensures within { IfOk result (λ it. it.1 ≤ length more.now) }
     ensures cursor { IsCursor S.source drawing.now.source.now progress.new.cursor }
@@ -196,7 +197,7 @@ fn next_frame<'a, S: SourceCode>(
     let (from, mut lines) = first_hunk(drawing, progress, hunk)?;
     let taken = take_near(&mut lines, context, more)?;
     let (end, most) = measured_all(&from, &lines)?;
-    let after = lines_behind(context, &more[taken..], behind);
+    let after = lines_after(context, &more[taken..], kept_after);
     let most = measured(&end, &after, most)?.1;
     lines.push(after)?;
     let frame = FrameLines {
@@ -216,7 +217,7 @@ fn push_next<'a, O: Canvas, S: SourceCode>(
     drawing: &FixDrawing,
     progress: &mut Progress<'_, S>,
     hunks: &'a [Hunk<'a>],
-    behind: &'a [u8],
+    kept_after: &'a [u8],
 ) -> Result<usize, AllocError>
     requires some { 0 < length hunks.now }
     requires deleted { AreApart drawing.now.deleted.now }
@@ -225,16 +226,16 @@ fn push_next<'a, O: Canvas, S: SourceCode>(
     requires places { AllByRecursion (PointsWithin (length drawing.now.source.now)) (hunks_of hunks.now) }
     requires cursor { IsCursor S.source drawing.now.source.now progress.old.cursor }
     ensures rows { IfOk result (λ many. page.new ⊕ rows_tokens (drawn_frames drawing.now
-        (frames_from drawing.now.settings.layout.now.context_lines (line_texts behind.now) false
+        (frames_from drawing.now.settings.layout.now.context_lines (line_texts kept_after.now) false
         (standing_of progress.new.at) (hunks_of (drop many hunks.now))))
         ≡ page.old ⊕ rows_tokens (drawn_frames drawing.now
-        (frames_from drawing.now.settings.layout.now.context_lines (line_texts behind.now) false
+        (frames_from drawing.now.settings.layout.now.context_lines (line_texts kept_after.now) false
         (standing_of progress.old.at) (hunks_of hunks.now)))) }
     ensures cursor { IsCursor S.source drawing.now.source.now progress.new.cursor }
     ensures some { IfOk result (λ many. 0 < many) }
     ensures within { IfOk result (λ many. many ≤ length hunks.now) }
 {
-    let (frame, taken) = next_frame(drawing, progress, &hunks[0], &hunks[1..], behind)?;
+    let (frame, taken) = next_frame(drawing, progress, &hunks[0], &hunks[1..], kept_after)?;
     push_frame(page, drawing, &progress.cursor, &frame)?;
     Ok(taken + 1)
 }
@@ -246,7 +247,7 @@ pub(crate) fn push_frames<'a, O: Canvas, S: SourceCode>(
     drawing: &FixDrawing,
     asked: &S,
     hunks: &'a [Hunk<'a>],
-    behind: &'a [u8],
+    kept_after: &'a [u8],
 ) -> Outcome
     requires deleted { AreApart drawing.now.deleted.now }
     requires inserted { AreApart drawing.now.inserted.now }
@@ -254,7 +255,7 @@ pub(crate) fn push_frames<'a, O: Canvas, S: SourceCode>(
     requires stand { AllByRecursion (StandsIn drawing.now.source.now) hunks.now }
     requires places { AllByRecursion (PointsWithin (length drawing.now.source.now)) (hunks_of hunks.now) }
     ensures { OnOk result (page.new ≡ page.old ⊕ rows_tokens (drawn_frames drawing.now
-        (frames_from drawing.now.settings.layout.now.context_lines (line_texts behind.now) false start_standing
+        (frames_from drawing.now.settings.layout.now.context_lines (line_texts kept_after.now) false start_standing
         (hunks_of hunks.now)))) }
 {
     let mut progress = Progress {
@@ -267,7 +268,7 @@ pub(crate) fn push_frames<'a, O: Canvas, S: SourceCode>(
     };
     let mut done = 0;
     while done < hunks.len() {
-        done += push_next(page, drawing, &mut progress, &hunks[done..], behind)?;
+        done += push_next(page, drawing, &mut progress, &hunks[done..], kept_after)?;
     }
     Ok(())
 }

@@ -60,7 +60,7 @@ pub(crate) fn hunks_of<'a>(
     requires { AreRising (length source.now) 0 changes.now }
     ensures hunks { IfOk result (λ it. hunks_of it.0.items ≡ (diff_from source.now 0 changes.now).hunks) }
     ensures stand { IfOk result (λ it. AllByRecursion (StandsIn source.now) it.0.items) }
-    ensures behind { IfOk result (λ it. line_texts it.1.now ≡ (diff_from source.now 0 changes.now).behind) }
+    ensures behind { IfOk result (λ it. line_texts it.1.now ≡ (diff_from source.now 0 changes.now).after_hunks) }
 {
     let mut list = Vec::new(alloc);
     let mut low = 0;

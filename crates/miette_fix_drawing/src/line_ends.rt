@@ -43,8 +43,8 @@ fn push_ends(
     let first = columns.first_column(part.start)?;
     ends.push(first)?;
     if part.start < part.after {
-        let behind = columns.last_column(part.after)?;
-        ends.push(behind.saturating_sub(1).max(first))?;
+        let after = columns.last_column(part.after)?;
+        ends.push(after.saturating_sub(1).max(first))?;
     }
     Ok(())
 }

@@ -37,7 +37,7 @@ pub(crate) fn part_in<'a>(line: &ChangedLine, span: &SourceSpan) -> PlacedLabel<
         after: end.min(span.offset().saturating_add(span.len())),
         style: line.style,
         text: None,
-        behind: false,
+        after_text: false,
     }
 }
 

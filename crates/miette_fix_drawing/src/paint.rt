@@ -77,7 +77,7 @@ fn painted_cell(spans: &[SourceSpan], cell: &Cell) -> Painted
 }
 
 // The pieces of these characters, and of the cells after them.
-fn pieces_behind(
+fn pieces_after(
     alloc: Global,
     style: Style,
     spans: &[SourceSpan],
@@ -119,5 +119,5 @@ pub fn pieces_of(
         return Ok(Vec::new(alloc));
     };
     let first = painted_cell(spans, &cell);
-    pieces_behind(alloc, style, spans, walk, first)
+    pieces_after(alloc, style, spans, walk, first)
 }

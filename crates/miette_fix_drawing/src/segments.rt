@@ -13,7 +13,7 @@ ghost use Rattle.miette_fix_rows.specs.laws.Frames.{past_lines};
 ghost use Rattle.miette_fix_drawing.specs.steps.Spans.{AreApart};
 ghost use Rattle.miette_fix_drawing.specs.views.Contexts.{context_with};
 ghost use Rattle.miette_fix_drawing.specs.views.ShownLines.{Fits, line_of_shown, lines_of_segment, shown_before};
-ghost use Rattle.miette_fix_drawing.specs.views.ShownLines.{away_behind, away_past, other_of, text_before};
+ghost use Rattle.miette_fix_drawing.specs.views.ShownLines.{away_after, away_past, other_of, text_before};
 ghost use Rattle.miette_fix_drawing.specs.views.Standings.{standing_of};
 
 use crate::changed_line::ChangedLine;
@@ -90,8 +90,8 @@ fn next_line<'a>(bytes: &mut &'a [u8]) -> Option<&'a [u8]>
 }
 
 // Where the next of the others stands, after one of `size` bytes.
-fn away_behind(kind: Kind, away: usize, size: usize) -> Result<usize, AllocError>
-    ensures { IfOk result (λ next. next ≡ away_behind kind away size) }
+fn away_after(kind: Kind, away: usize, size: usize) -> Result<usize, AllocError>
+    ensures { IfOk result (λ next. next ≡ away_after kind away size) }
 {
     match kind {
         Kind::Kept => Ok(away),
@@ -105,7 +105,7 @@ fn away_past(kind: Kind, away: usize, other: Option<&[u8]>) -> Result<usize, All
     ensures { IfOk result (λ next. next ≡ away_past kind away (option_copied other.entry)) }
 {
     match other {
-        Some(text) => away_behind(kind, away, text.len()),
+        Some(text) => away_after(kind, away, text.len()),
         None => Ok(away),
     }
 }
@@ -145,19 +145,19 @@ impl<'a> Segment<'a> {
 
 /// Where stands what comes after a line.
 pub(crate) fn past(at: &Standing, line: &SegmentLine) -> Result<Standing, AllocError>
-    ensures { IfOk result (λ behind. standing_of behind ≡ past (standing_of at.now) (line_of_shown line.now)) }
+    ensures { IfOk result (λ after. standing_of after ≡ past (standing_of at.now) (line_of_shown line.now)) }
 {
     let size = line.text.len();
-    let mut behind = *at;
+    let mut after = *at;
     if line.kind != Kind::Added {
-        behind.old_line = sum(at.old_line, 1)?;
-        behind.old_offset = sum(at.old_offset, size)?;
+        after.old_line = sum(at.old_line, 1)?;
+        after.old_offset = sum(at.old_offset, size)?;
     }
     if line.kind != Kind::Removed {
-        behind.new_line = sum(at.new_line, 1)?;
-        behind.new_offset = sum(at.new_offset, size)?;
+        after.new_line = sum(at.new_line, 1)?;
+        after.new_offset = sum(at.new_offset, size)?;
     }
-    Ok(behind)
+    Ok(after)
 }
 
 // The number of a line.
@@ -287,11 +287,11 @@ fn push_line<O: Canvas>(
     requires inserted { AreApart drawing.now.inserted.now }
     ensures rows { OnOk result (page.new ≡ page.old ⊕ rows_tokens (rows_of_line (context_with drawing.now)
         (standing_of at.now) (line_of_shown line.now))) }
-    ensures behind { IfOk result (λ behind. standing_of behind ≡ past (standing_of at.now) (line_of_shown line.now)) }
+    ensures behind { IfOk result (λ after. standing_of after ≡ past (standing_of at.now) (line_of_shown line.now)) }
 {
-    let behind = past(at, line)?;
+    let after = past(at, line)?;
     push_changed_line(page, drawing, at, line)?;
-    Ok(behind)
+    Ok(after)
 }
 
 /// The rows of lines one after the other; gives where stands what comes after them.
@@ -305,8 +305,8 @@ pub(crate) fn push_segment<O: Canvas>(
     requires inserted { AreApart drawing.now.inserted.now }
     ensures rows { OnOk result (page.new ≡ page.old ⊕ rows_tokens (rows_of_lines (context_with drawing.now)
         (standing_of at.now) (lines_of_segment segment.now))) }
-    ensures behind { IfOk result (λ behind.
-        standing_of behind ≡ past_lines (standing_of at.now) (lines_of_segment segment.now)) }
+    ensures behind { IfOk result (λ after.
+        standing_of after ≡ past_lines (standing_of at.now) (lines_of_segment segment.now)) }
 {
     let mut at = *at;
     let mut left = *segment;

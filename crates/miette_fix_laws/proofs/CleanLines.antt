@@ -7,16 +7,16 @@ use Rattle.std.specs.List.{AllByRecursion}
 use Rattle.miette_basics.proofs.Cases.{by_cases}
 use Rattle.miette_source_lines.specs.rules.Lines.{ends_line}
 use Rattle.miette_fixes.specs.rules.Applying.{by_offset, put_edit, text_from}
-use Rattle.miette_fixes.specs.rules.Edits.{Replacement, end_of, is_behind}
+use Rattle.miette_fixes.specs.rules.Edits.{Replacement, end_of, is_after}
 use Rattle.miette_fix_rows.specs.rules.Blocks.{block_from, block_to, blocks, line_texts, new_lines, old_lines}
 use Rattle.miette_fix_rows.specs.rules.Blocks.{bytes_of, onto_blocks}
 use Rattle.miette_fix_rows.specs.rules.Blocks.{onto_line, text_between}
 use Rattle.miette_fix_rows.specs.rules.DiffFrames.{DiffFrame, DiffLine, Standing, added, added_from, added_with}
-use Rattle.miette_fix_rows.specs.rules.DiffFrames.{behind_hunk, removed_from}
+use Rattle.miette_fix_rows.specs.rules.DiffFrames.{after_hunk, removed_from}
 use Rattle.miette_fix_rows.specs.rules.DiffFrames.{changed_lines, frame_at, frames_from, frames_of, is_near, kept}
 use Rattle.miette_fix_rows.specs.rules.DiffFrames.{kept_lines, left_before, past_hunk, removed, removed_with}
 use Rattle.miette_fix_rows.specs.rules.Hunks.{Change, Diff, Hunk, change_of, changes, changes_of, common_before}
-use Rattle.miette_fix_rows.specs.rules.Hunks.{common_behind, diff, diff_from, is_nil, onto_changes, onto_hunks}
+use Rattle.miette_fix_rows.specs.rules.Hunks.{common_after, diff, diff_from, is_nil, onto_changes, onto_hunks}
 use Rattle.miette_fix_rows.specs.rules.Hunks.{onto_kept, removed_lines}
 use Rattle.miette_row_laws.specs.laws.Clean.{IsClean, IsCleanCode}
 use Rattle.miette_row_laws.proofs.CleanTexts.{clean_append, clean_cons, clean_drop, clean_first, clean_range}
@@ -63,7 +63,7 @@ put_clean : (edit : Replacement) (edits : List Replacement) → IsClean edit.tex
     → AreCleanEdits (put_edit edit edits)
 put_clean edit [] h k = (h, tt)
 put_clean edit (next ∷ edits) h k =
-    by_cases {C = AreCleanEdits (put_edit edit (next ∷ edits))} (is_behind edit next)
+    by_cases {C = AreCleanEdits (put_edit edit (next ∷ edits))} (is_after edit next)
     (λ y. rw y (k.0, put_clean edit edits h k.1))
     (λ n. rw n (h, k))
 
@@ -105,13 +105,13 @@ change_clean : (source : List ℕ) (block : List Replacement) → IsClean source
 change_clean source block h k =
     let olds = old_lines source block in
     let news = new_lines source block in
-    let behind = common_behind olds news in
-    let before = common_before olds news behind in
+    let after = common_after olds news in
+    let before = common_before olds news after in
     let from = block_from source block in
     let to = block_to source block in (
-      all_drop IsClean before (take (length olds - behind) olds) (all_take IsClean (length olds - behind) olds
+      all_drop IsClean before (take (length olds - after) olds) (all_take IsClean (length olds - after) olds
           (lines_clean (slice_range source from to) (clean_range source from to h))),
-      all_drop IsClean before (take (length news - behind) news) (all_take IsClean (length news - behind) news
+      all_drop IsClean before (take (length news - after) news) (all_take IsClean (length news - after) news
           (lines_clean (text_between source from to block) (text_clean (take to source) from block
           (clean_take to source h) k))),
     )
@@ -141,12 +141,12 @@ abbrev pub IsCleanHunk : Hunk → Type 0
 IsCleanHunk hunk = AreClean hunk.kept × AllByRecursion IsCleanChange hunk.changes
 
 abbrev pub IsCleanDiff : Diff → Type 0
-IsCleanDiff it = AllByRecursion IsCleanHunk it.hunks × AreClean it.behind
+IsCleanDiff it = AllByRecursion IsCleanHunk it.hunks × AreClean it.after_hunks
 
-onto_kept_clean : (lines : List (List ℕ)) (hunks : List Hunk) (behind : List (List ℕ)) → AreClean lines
-    → AllByRecursion IsCleanHunk hunks → AreClean behind → IsCleanDiff (onto_kept lines hunks behind)
-onto_kept_clean lines [] behind h k j = (tt, all_append IsClean lines behind h j)
-onto_kept_clean lines (hunk ∷ hunks) behind h k j =
+onto_kept_clean : (lines : List (List ℕ)) (hunks : List Hunk) (after : List (List ℕ)) → AreClean lines
+    → AllByRecursion IsCleanHunk hunks → AreClean after → IsCleanDiff (onto_kept lines hunks after)
+onto_kept_clean lines [] after h k j = (tt, all_append IsClean lines after h j)
+onto_kept_clean lines (hunk ∷ hunks) after h k j =
     (((all_append IsClean lines hunk.kept h k.0.0, k.0.1), k.1), j)
 
 onto_hunks_clean : (change : Change) (hunks : List Hunk) → IsCleanChange change → AllByRecursion IsCleanHunk hunks
@@ -163,7 +163,7 @@ diff_from_clean source at [] h k = (tt, lines_clean (drop at source) (clean_drop
 diff_from_clean source at (change ∷ cs) h k =
     let rest = diff_from source change.to cs in
     let clean = diff_from_clean source change.to cs h k.1 in
-    onto_kept_clean (line_texts (slice_range source at change.from)) (onto_hunks change rest.hunks) rest.behind
+    onto_kept_clean (line_texts (slice_range source at change.from)) (onto_hunks change rest.hunks) rest.after_hunks
     (lines_clean (slice_range source at change.from) (clean_range source at change.from h))
     (onto_hunks_clean change rest.hunks k.0 clean.0) clean.1
 
@@ -209,15 +209,15 @@ changed_clean cs h =
     all_append IsCleanShown (removed_from 0 cs) (added_from all cs) (all_removed_clean 0 cs h)
     (all_added_clean all cs h)
 
-behind_clean : (context : ℕ) (behind : List (List ℕ)) (hunks : List Hunk) → AreClean behind
-    → AllByRecursion IsCleanHunk hunks → AreCleanShown (behind_hunk context behind hunks)
-behind_clean context behind [] h k = kept_clean (take context behind) (all_take IsClean context behind h)
-behind_clean context behind (hunk ∷ hunks) h k =
-    by_cases {C = AreCleanShown (behind_hunk context behind (hunk ∷ hunks))} (is_near context hunk)
+after_clean : (context : ℕ) (after : List (List ℕ)) (hunks : List Hunk) → AreClean after
+    → AllByRecursion IsCleanHunk hunks → AreCleanShown (after_hunk context after hunks)
+after_clean context after [] h k = kept_clean (take context after) (all_take IsClean context after h)
+after_clean context after (hunk ∷ hunks) h k =
+    by_cases {C = AreCleanShown (after_hunk context after (hunk ∷ hunks))} (is_near context hunk)
     (λ y. rw y (all_append IsCleanShown (kept_lines hunk.kept)
-    (changed_lines hunk.changes ++ behind_hunk context behind hunks) (kept_clean hunk.kept k.0.0)
-    (all_append IsCleanShown (changed_lines hunk.changes) (behind_hunk context behind hunks)
-    (changed_clean hunk.changes k.0.1) (behind_clean context behind hunks h k.1))))
+    (changed_lines hunk.changes ++ after_hunk context after hunks) (kept_clean hunk.kept k.0.0)
+    (all_append IsCleanShown (changed_lines hunk.changes) (after_hunk context after hunks)
+    (changed_clean hunk.changes k.0.1) (after_clean context after hunks h k.1))))
     (λ n. rw n (kept_clean (take context hunk.kept) (all_take IsClean context hunk.kept k.0.0)))
 
 abbrev pub IsCleanFrame : DiffFrame → Type 0
@@ -231,18 +231,18 @@ frame_clean context at hunk later h k =
     (kept_clean shown (all_drop IsClean (left_before context hunk) hunk.kept h.0))
     (all_append IsCleanShown (changed_lines hunk.changes) later (changed_clean hunk.changes h.1) k)
 
-frames_from_clean : (context : ℕ) (behind : List (List ℕ)) (goes_on : Bool) (at : Standing) (hunks : List Hunk)
-    → AreClean behind → AllByRecursion IsCleanHunk hunks
-    → AllByRecursion IsCleanFrame (frames_from context behind goes_on at hunks)
-frames_from_clean context behind goes_on at [] h k = tt
-frames_from_clean context behind goes_on at (hunk ∷ hunks) h k =
-    let rest = frames_from_clean context behind true (past_hunk at hunk) hunks h k.1 in
-    by_cases {C = AllByRecursion IsCleanFrame (frames_from context behind goes_on at (hunk ∷ hunks))}
+frames_from_clean : (context : ℕ) (after : List (List ℕ)) (goes_on : Bool) (at : Standing) (hunks : List Hunk)
+    → AreClean after → AllByRecursion IsCleanHunk hunks
+    → AllByRecursion IsCleanFrame (frames_from context after goes_on at hunks)
+frames_from_clean context after goes_on at [] h k = tt
+frames_from_clean context after goes_on at (hunk ∷ hunks) h k =
+    let rest = frames_from_clean context after true (past_hunk at hunk) hunks h k.1 in
+    by_cases {C = AllByRecursion IsCleanFrame (frames_from context after goes_on at (hunk ∷ hunks))}
     (goes_on && is_near context hunk)
     (λ y. rw y rest)
     (λ n. rw n (
-      frame_clean context at hunk (behind_hunk context behind hunks) k.0
-          (behind_clean context behind hunks h k.1),
+      frame_clean context at hunk (after_hunk context after hunks) k.0
+          (after_clean context after hunks h k.1),
       rest,
     ))
 
@@ -252,5 +252,5 @@ pub frames_clean : (context : ℕ) (source : List ℕ) (edits : List Replacement
 frames_clean context source edits h k =
     let it = diff source edits in
     let clean = diff_from_clean source 0 (changes source edits) h (changes_clean source edits h k) in
-    frames_from_clean context it.behind false
+    frames_from_clean context it.after_hunks false
     (record { old_line = 0; new_line = 0; old_offset = 0; new_offset = 0 }) it.hunks clean.1 clean.0

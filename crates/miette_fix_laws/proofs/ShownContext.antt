@@ -12,14 +12,14 @@ use Rattle.miette_fixes.specs.rules.Applying.{by_offset}
 use Rattle.miette_fix_rows.specs.laws.Frames.{all_lines, at_start, lines_with}
 use Rattle.miette_fix_rows.specs.rules.Blocks.{blocks, bytes_of, line_texts}
 use Rattle.miette_fix_rows.specs.rules.DiffFrames.{DiffLine, Standing, added_from, added_with}
-use Rattle.miette_fix_rows.specs.rules.DiffFrames.{behind_hunk, removed_from}
+use Rattle.miette_fix_rows.specs.rules.DiffFrames.{after_hunk, removed_from}
 use Rattle.miette_fix_rows.specs.rules.DiffFrames.{changed_lines, frames_from, frames_of, is_near}
 use Rattle.miette_fix_rows.specs.rules.DiffFrames.{kept_lines, left_before}
 use Rattle.miette_fix_rows.specs.rules.DiffFrames.{past_hunk, removed_with, kept, removed, added}
 use Rattle.miette_fix_rows.specs.rules.Hunks.{Change, Diff, Hunk, change_of, changes, changes_of, diff, diff_from}
 use Rattle.miette_fix_rows.specs.rules.Hunks.{is_nil, onto_hunks, onto_kept, removed_lines}
 use Rattle.miette_fix_rows.proofs.NearHunks.{frames_if, shown_if}
-use Rattle.miette_fix_laws.specs.laws.Context.{is_changed, lines_in, shown_behind, shown_lines}
+use Rattle.miette_fix_laws.specs.laws.Context.{is_changed, lines_in, shown_after, shown_lines}
 
 -- ---- how many lines are still shown after a change
 
@@ -50,15 +50,15 @@ down (suc n) (kept text ∷ before) = down n before
 down (suc n) (removed text other ∷ before) = omega arith
 down (suc n) (added text other ∷ before) = omega arith
 
-behind_kept : (n : ℕ) (text : List ℕ) (before : List DiffLine)
+after_kept : (n : ℕ) (text : List ℕ) (before : List DiffLine)
     → left_over n (kept text ∷ before) ≡ left_over n before - 1
-behind_kept zero text before = omega arith
-behind_kept (suc n) text before = down n before
+after_kept zero text before = omega arith
+after_kept (suc n) text before = down n before
 
-behind_changed : (n : ℕ) (line : DiffLine) (before : List DiffLine) → is_changed line ≡ true
+after_changed : (n : ℕ) (line : DiffLine) (before : List DiffLine) → is_changed line ≡ true
     → left_over n (line ∷ before) ≡ n
-behind_changed zero line before e = refl
-behind_changed (suc n) line before e = ap (λ b. cond b (suc n) (left_over n before)) e
+after_changed zero line before e = refl
+after_changed (suc n) line before e = ap (λ b. cond b (suc n) (left_over n before)) e
 
 -- the lines that are shown, of which `left` are still shown after a change
 abbrev shown_with : ℕ → ℕ → List DiffLine → List DiffLine
@@ -69,25 +69,25 @@ shown_with context left (line ∷ lines) =
     (shown_with context (left - 1) lines))
 
 shown_same : (context : ℕ) (before lines : List DiffLine)
-    → shown_behind context before lines ≡ shown_with context (left_over context before) lines
+    → shown_after context before lines ≡ shown_with context (left_over context before) lines
 shown_same context before [] = refl
 shown_same context before (kept text ∷ lines) =
     let line : DiffLine = kept text in
     let left : ℕ = left_over context before in
     let soon : Bool = list_any is_changed (take context lines) in
-    let rest : List DiffLine = shown_behind context (line ∷ before) lines in
+    let rest : List DiffLine = shown_after context (line ∷ before) lines in
     ap (λ b. cond (b || soon) (line ∷ rest) rest) (any_left context before)
     ∙ ap (λ ls. cond (nat_lt 0 left || soon) (line ∷ ls) ls)
     (shown_same context (line ∷ before) lines
-    ∙ ap (λ n. shown_with context n lines) (behind_kept context text before))
+    ∙ ap (λ n. shown_with context n lines) (after_kept context text before))
 shown_same context before (removed text other ∷ lines) =
     let line : DiffLine = removed text other in
     ap (λ ls. line ∷ ls) (shown_same context (line ∷ before) lines
-    ∙ ap (λ n. shown_with context n lines) (behind_changed context line before refl))
+    ∙ ap (λ n. shown_with context n lines) (after_changed context line before refl))
 shown_same context before (added text other ∷ lines) =
     let line : DiffLine = added text other in
     ap (λ ls. line ∷ ls) (shown_same context (line ∷ before) lines
-    ∙ ap (λ n. shown_with context n lines) (behind_changed context line before refl))
+    ∙ ap (λ n. shown_with context n lines) (after_changed context line before refl))
 
 -- ---- unchanged lines
 
@@ -296,54 +296,54 @@ framed : (a b shown more rest : List DiffLine) → shown ++ more ≡ rest
 framed a b shown more rest e =
     append_assoc a (b ++ shown) more ∙ ap (λ t. a ++ t) (append_assoc b shown more) ∙ ap (λ t. a ++ (b ++ t)) e
 
-next_shown : (b : Bool) (context : ℕ) (behind : List (List ℕ)) (at : Standing) (hunk : Hunk) (hunks : List Hunk)
+next_shown : (b : Bool) (context : ℕ) (after : List (List ℕ)) (at : Standing) (hunk : Hunk) (hunks : List Hunk)
     → is_near context hunk ≡ b → IsChanging hunk
-    → behind_hunk context behind hunks ++ lines_in (frames_from context behind true (past_hunk at hunk) hunks)
-    ≡ shown_with context context (lines_with behind hunks)
-    → shown_if b context behind hunk hunks ++ lines_in (frames_if b context behind at hunk hunks)
-    ≡ shown_with context context (lines_with behind (hunk ∷ hunks))
-next_shown true context behind at hunk hunks near some e =
+    → after_hunk context after hunks ++ lines_in (frames_from context after true (past_hunk at hunk) hunks)
+    ≡ shown_with context context (lines_with after hunks)
+    → shown_if b context after hunk hunks ++ lines_in (frames_if b context after at hunk hunks)
+    ≡ shown_with context context (lines_with after (hunk ∷ hunks))
+next_shown true context after at hunk hunks near some e =
     let changed : List DiffLine = changed_lines hunk.changes in
-    let rest : List DiffLine = shown_with context context (lines_with behind hunks) in
-    framed (kept_lines hunk.kept) changed (behind_hunk context behind hunks)
-    (lines_in (frames_from context behind true (past_hunk at hunk) hunks)) rest e
+    let rest : List DiffLine = shown_with context context (lines_with after hunks) in
+    framed (kept_lines hunk.kept) changed (after_hunk context after hunks)
+    (lines_in (frames_from context after true (past_hunk at hunk) hunks)) rest e
     ∙ ap (λ ls. kept_lines ls ++ (changed ++ rest))
     (sym (part_whole context hunk.kept (leb-true (length hunk.kept) (context + context) near)))
-    ∙ sym (hunk_run context context hunk.kept changed (lines_with behind hunks) (all_changed hunk.changes) some)
-next_shown false context behind at hunk hunks near some e =
+    ∙ sym (hunk_run context context hunk.kept changed (lines_with after hunks) (all_changed hunk.changes) some)
+next_shown false context after at hunk hunks near some e =
     let changed : List DiffLine = changed_lines hunk.changes in
-    let rest : List DiffLine = shown_with context context (lines_with behind hunks) in
+    let rest : List DiffLine = shown_with context context (lines_with after hunks) in
     let front : List DiffLine = kept_lines (take context hunk.kept) in
     let last : List DiffLine = kept_lines (drop (left_before context hunk) hunk.kept) in
     let lt : context + context < length hunk.kept = leb-false (length hunk.kept) (context + context) near in
-    ap (λ t. front ++ t) (framed last changed (behind_hunk context behind hunks)
-    (lines_in (frames_from context behind true (past_hunk at hunk) hunks)) rest e)
+    ap (λ t. front ++ t) (framed last changed (after_hunk context after hunks)
+    (lines_in (frames_from context after true (past_hunk at hunk) hunks)) rest e)
     ∙ sym (append_assoc front last (changed ++ rest))
     ∙ ap (λ t. t ++ (changed ++ rest)) (sym (part_apart context hunk.kept lt))
-    ∙ sym (hunk_run context context hunk.kept changed (lines_with behind hunks) (all_changed hunk.changes) some)
+    ∙ sym (hunk_run context context hunk.kept changed (lines_with after hunks) (all_changed hunk.changes) some)
 
-behind_shown : (context : ℕ) (behind : List (List ℕ)) (at : Standing) (hunks : List Hunk)
+after_shown : (context : ℕ) (after : List (List ℕ)) (at : Standing) (hunks : List Hunk)
     → AllByRecursion IsChanging hunks
-    → behind_hunk context behind hunks ++ lines_in (frames_from context behind true at hunks)
-    ≡ shown_with context context (lines_with behind hunks)
-behind_shown context behind at [] h =
-    append-nil (kept_lines (take context behind)) ∙ sym (kept_end context context behind)
-behind_shown context behind at (hunk ∷ hunks) h =
-    next_shown (is_near context hunk) context behind at hunk hunks refl h.0
-    (behind_shown context behind (past_hunk at hunk) hunks h.1)
+    → after_hunk context after hunks ++ lines_in (frames_from context after true at hunks)
+    ≡ shown_with context context (lines_with after hunks)
+after_shown context after at [] h =
+    append-nil (kept_lines (take context after)) ∙ sym (kept_end context context after)
+after_shown context after at (hunk ∷ hunks) h =
+    next_shown (is_near context hunk) context after at hunk hunks refl h.0
+    (after_shown context after (past_hunk at hunk) hunks h.1)
 
-all_shown : (context : ℕ) (behind : List (List ℕ)) (at : Standing) (hunks : List Hunk)
+all_shown : (context : ℕ) (after : List (List ℕ)) (at : Standing) (hunks : List Hunk)
     → AllByRecursion IsChanging hunks
-    → lines_in (frames_from context behind false at hunks) ≡ shown_with context 0 (lines_with behind hunks)
-all_shown context behind at [] h = sym (kept_end context 0 behind)
-all_shown context behind at (hunk ∷ hunks) h =
+    → lines_in (frames_from context after false at hunks) ≡ shown_with context 0 (lines_with after hunks)
+all_shown context after at [] h = sym (kept_end context 0 after)
+all_shown context after at (hunk ∷ hunks) h =
     let changed : List DiffLine = changed_lines hunk.changes in
-    let rest : List DiffLine = shown_with context context (lines_with behind hunks) in
-    framed (kept_lines (drop (left_before context hunk) hunk.kept)) changed (behind_hunk context behind hunks)
-    (lines_in (frames_from context behind true (past_hunk at hunk) hunks)) rest
-    (behind_shown context behind (past_hunk at hunk) hunks h.1)
+    let rest : List DiffLine = shown_with context context (lines_with after hunks) in
+    framed (kept_lines (drop (left_before context hunk) hunk.kept)) changed (after_hunk context after hunks)
+    (lines_in (frames_from context after true (past_hunk at hunk) hunks)) rest
+    (after_shown context after (past_hunk at hunk) hunks h.1)
     ∙ ap (λ ls. kept_lines ls ++ (changed ++ rest)) (sym (part_first context hunk.kept))
-    ∙ sym (hunk_run context 0 hunk.kept changed (lines_with behind hunks) (all_changed hunk.changes) h.0)
+    ∙ sym (hunk_run context 0 hunk.kept changed (lines_with after hunks) (all_changed hunk.changes) h.0)
 
 -- ---- the hunks of edits change something
 
@@ -385,10 +385,10 @@ one_changing change more front h =
       added_many whole change.added change.removed,
     )
 
-kept_changing : (lines : List (List ℕ)) (hunks : List Hunk) (behind : List (List ℕ)) → AllByRecursion IsChanging hunks
-    → AllByRecursion IsChanging (onto_kept lines hunks behind).hunks
-kept_changing lines [] behind h = h
-kept_changing lines (hunk ∷ hunks) behind h = h
+kept_changing : (lines : List (List ℕ)) (hunks : List Hunk) (after : List (List ℕ)) → AllByRecursion IsChanging hunks
+    → AllByRecursion IsChanging (onto_kept lines hunks after).hunks
+kept_changing lines [] after h = h
+kept_changing lines (hunk ∷ hunks) after h = h
 
 change_changing : (change : Change) (hunks : List Hunk) → HasLines change → AllByRecursion IsChanging hunks
     → AllByRecursion IsChanging (onto_hunks change hunks)
@@ -402,7 +402,7 @@ hunks_changing : (source : List ℕ) (at : ℕ) (cs : List Change) → AllByRecu
 hunks_changing source at [] h = tt
 hunks_changing source at (c ∷ cs) h =
     let rest : Diff = diff_from source c.to cs in
-    kept_changing (line_texts (slice_range source at c.from)) (onto_hunks c rest.hunks) rest.behind
+    kept_changing (line_texts (slice_range source at c.from)) (onto_hunks c rest.hunks) rest.after_hunks
     (change_changing c rest.hunks h.0 (hunks_changing source c.to cs h.1))
 
 changes_have_lines : (source : List ℕ) (bs : List (List Replacement)) → AllByRecursion HasLines (changes_of source bs)
@@ -418,7 +418,7 @@ pub frames_show : (context : ℕ) (source : List ℕ) (edits : List Replacement)
     ≡ shown_lines context (all_lines (diff source edits))
 frames_show context source edits =
     let d : Diff = diff source edits in
-    all_shown context d.behind at_start d.hunks
+    all_shown context d.after_hunks at_start d.hunks
     (hunks_changing source 0 (changes source edits) (changes_have_lines source (blocks source (by_offset edits))))
     ∙ ap (λ n. shown_with context n (all_lines d)) (sym (no_lines context))
     ∙ sym (shown_same context [] (all_lines d))

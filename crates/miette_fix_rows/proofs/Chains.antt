@@ -46,9 +46,9 @@ chain source at (e ∷ es) h = onto_chain source at e (blocks source es) h.0 h.1
 
 -- ---- where blocks begin and end
 
-behind_line : (source : List ℕ) (x k : ℕ) → x < line_start source k
+after_line : (source : List ℕ) (x k : ℕ) → x < line_start source k
     → line_end source (line_of source x) ≤ line_start source k
-behind_line source x k lt =
+after_line source x k lt =
     elim (cases_lt (line_of source x) k) [
       | inl h ↦ (let m : line_start source (line_of source x + 1) ≤ line_start source k =
           line_start_mono source (line_of source x + 1) k (omega (arith, h)) in
@@ -116,13 +116,13 @@ block_within source block h =
     omega (arith, to_line source block h, line_end_le source (line_of source (last_end block)))
 
 -- the next block begins where one ends, or after that
-pub next_behind : (source : List ℕ) (at : ℕ) (block next : List Replacement) (bs : List (List Replacement))
+pub next_after : (source : List ℕ) (at : ℕ) (block next : List Replacement) (bs : List (List Replacement))
     → Chain source at (block ∷ next ∷ bs) → block_to source block ≤ block_from source next
-next_behind source at block next bs h =
+next_after source at block next bs h =
     let f = from_line source next h.3.0 in
     let lt : last_end block < block_from source next = h.2 in
     let m : line_end source (line_of source (last_end block)) ≤ line_start source f.0 =
-    behind_line source (last_end block) f.0 (omega (arith, lt, f.1)) in
+    after_line source (last_end block) f.0 (omega (arith, lt, f.1)) in
     omega (arith, m, f.1, to_line source block h.0)
 
 -- the edits of a block fit up to where it ends
@@ -136,9 +136,9 @@ fit_upto n m at (e ∷ x ∷ xs) some h le =
     let last : end_of x ≤ m = rest.1 in
     (h.0, omega (arith, first, last), rest)
 
-pub first_at_or_behind : (source : List ℕ) (e : Replacement) (es : List Replacement)
+pub first_at_or_after : (source : List ℕ) (e : Replacement) (es : List Replacement)
     → block_from source (e ∷ es) ≤ e.span.offset
-first_at_or_behind source e es =
+first_at_or_after source e es =
     let low : block_from source (e ∷ es) ≤ touched_from source (e ∷ es) = block_from_le source (e ∷ es) in
     let start : touched_from source (e ∷ es) ≤ e.span.offset =
     line_start_le source (line_of source e.span.offset) e.span.offset (omega arith) in
@@ -149,7 +149,7 @@ pub block_fits : (source : List ℕ) (at : ℕ) (block : List Replacement) → 0
 block_fits source at [] some h = absurd (omega (arith, some))
 block_fits source at (e ∷ es) some h =
     let own : FitFrom (length source) (block_from source (e ∷ es)) (e ∷ es) =
-    (first_at_or_behind source e es, h.1, h.2) in
+    (first_at_or_after source e es, h.1, h.2) in
     let last = last_within source (block_from source (e ∷ es)) (e ∷ es) some own in
     let after : last_end (e ∷ es) ≤ line_end source (line_of source (last_end (e ∷ es))) =
     line_end_after source (last_end (e ∷ es)) (line_of source (last_end (e ∷ es))) last.1 (omega arith) in

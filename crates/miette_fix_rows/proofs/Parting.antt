@@ -5,7 +5,7 @@ use Rattle.std.specs.Prelude.{slice_range}
 use Rattle.std.proofs.lemmas.List.{length-map, length-take, take-map, take-take}
 use Rattle.miette_fix_rows.specs.declared.changes.Sizes.{Sizes}
 use Rattle.miette_fix_rows.specs.rules.Blocks.{bytes_of, line_texts}
-use Rattle.miette_fix_rows.specs.rules.Hunks.{Change, Parted, change_at, common, common_behind, parted}
+use Rattle.miette_fix_rows.specs.rules.Hunks.{Change, Parted, change_at, common, common_after, parted}
 use Rattle.miette_fix_rows.specs.steps.Parting.{AreSizes, IsSized, new_until, old_until, staying}
 use Rattle.miette_fix_rows.specs.views.LineLists.{texts_of}
 use Rattle.miette_fix_rows.proofs.Commons.{common_within, common_within_other}
@@ -70,32 +70,32 @@ total_fits ls i n h =
     let e : take i (texts_of ls) ≡ texts_of (take i ls) = take-map (λ (l : Bor (List ℕ)). l.now) i ls in
     omega (arith, h, bytes_of-take i (texts_of ls), ap bytes_of e)
 
-until_is : (ls : List (Bor (List ℕ))) (behind : ℕ)
-    → texts_of (take (length ls - behind) ls) ≡ take (length (texts_of ls) - behind) (texts_of ls)
-until_is ls behind =
-    sym (take-map (λ (l : Bor (List ℕ)). l.now) (length ls - behind) ls)
-    ∙ ap (λ n. take (n - behind) (texts_of ls)) (sym (length-map ls (λ l. l.now)))
+until_is : (ls : List (Bor (List ℕ))) (after : ℕ)
+    → texts_of (take (length ls - after) ls) ≡ take (length (texts_of ls) - after) (texts_of ls)
+until_is ls after =
+    sym (take-map (λ (l : Bor (List ℕ)). l.now) (length ls - after) ls)
+    ∙ ap (λ n. take (n - after) (texts_of ls)) (sym (length-map ls (λ l. l.now)))
 
 -- what a sweep over two lists finds
-pub sizes_are : (ls ms : List (Bor (List ℕ))) (sizes : Sizes) (behind before : ℕ)
-    → behind ≡ common_behind (texts_of ls) (texts_of ms)
-    → before ≡ common (texts_of (take (length ls - behind) ls)) (texts_of (take (length ms - behind) ms))
+pub sizes_are : (ls ms : List (Bor (List ℕ))) (sizes : Sizes) (after before : ℕ)
+    → after ≡ common_after (texts_of ls) (texts_of ms)
+    → before ≡ common (texts_of (take (length ls - after) ls)) (texts_of (take (length ms - after) ms))
     → sizes.removed_from ≡ bytes_of (texts_of (take before ls))
-    → sizes.removed_to ≡ bytes_of (texts_of (take (length ls - behind) ls))
+    → sizes.removed_to ≡ bytes_of (texts_of (take (length ls - after) ls))
     → sizes.added_from ≡ bytes_of (texts_of (take before ms))
-    → sizes.added_to ≡ bytes_of (texts_of (take (length ms - behind) ms))
+    → sizes.added_to ≡ bytes_of (texts_of (take (length ms - after) ms))
     → AreSizes (texts_of ls) (texts_of ms) sizes
-sizes_are ls ms sizes behind before e f a b d g =
+sizes_are ls ms sizes after before e f a b d g =
     let olds : List (List ℕ) = texts_of ls in
     let news : List (List ℕ) = texts_of ms in
     let at : before ≡ staying olds news =
-    f ∙ ap₂ common (until_is ls behind) (until_is ms behind)
+    f ∙ ap₂ common (until_is ls after) (until_is ms after)
     ∙ ap (λ n. common (take (length olds - n) olds) (take (length news - n) news)) e in
     record {
       removed_from = total_of ls before sizes.removed_from a ∙ ap (λ n. bytes_of (take n olds)) at;
-      removed_to = b ∙ ap bytes_of (until_is ls behind) ∙ ap (λ n. bytes_of (take (length olds - n) olds)) e;
+      removed_to = b ∙ ap bytes_of (until_is ls after) ∙ ap (λ n. bytes_of (take (length olds - n) olds)) e;
       added_from = total_of ms before sizes.added_from d ∙ ap (λ n. bytes_of (take n news)) at;
-      added_to = g ∙ ap bytes_of (until_is ms behind) ∙ ap (λ n. bytes_of (take (length news - n) news)) e;
+      added_to = g ∙ ap bytes_of (until_is ms after) ∙ ap (λ n. bytes_of (take (length news - n) news)) e;
     }
 
 pub sized_by : (old new : List ℕ) (ls ms : List (Bor (List ℕ))) (sizes : Sizes) → texts_of ls ≡ line_texts old

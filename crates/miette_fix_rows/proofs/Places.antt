@@ -27,9 +27,9 @@ after_rest (suc o) (b ∷ bs) h =
     (after_rest o bs (omega (arith, h)))
 
 -- the line of an offset ends where the first line does of what stands there
-pub line_end_behind : (source rest : List ℕ) (o : ℕ) (line : LineOfText) → o ≤ length source → rest ≡ drop o source
+pub rest_line_end : (source rest : List ℕ) (o : ℕ) (line : LineOfText) → o ≤ length source → rest ≡ drop o source
     → IsFirst (record { start = o; bytes = rest }) line → line.end ≡ line_end source (line_of source o)
-line_end_behind source rest o line le e h =
+rest_line_end source rest o line le e h =
     let d : ℕ = o + length rest in
     let first : line.end ≡ o + after 1 rest =
     sym (ap (λ ls. option_map_or (λ l. l.end) (slice_get ls 0) d) h.lines) ∙ end_at-lines_from o rest 0 d refl in

@@ -12,7 +12,7 @@ use Rattle.miette_fixes.proofs.Overlaps.{fit_unrefused}
 use Rattle.miette_fix_rows.specs.rules.Blocks.{block_from, block_to, blocks, bytes_of, line_texts, new_lines, old_lines}
 use Rattle.miette_fix_rows.specs.rules.Hunks.{Change, change_of, changes_of, diff, diff_from}
 use Rattle.miette_fix_rows.specs.rules.Hunks.{is_nil, lines_before, onto_changes}
-use Rattle.miette_fix_rows.proofs.Chains.{Chain, block_order, block_within, chain, from_ended, last_end, next_behind}
+use Rattle.miette_fix_rows.proofs.Chains.{Chain, block_order, block_within, chain, from_ended, last_end, next_after}
 use Rattle.miette_fix_rows.proofs.Chains.{to_ended}
 use Rattle.miette_fix_rows.proofs.Parting.{staying_old}
 use Rattle.miette_fix_rows.specs.steps.Parting.{old_until, staying}
@@ -83,7 +83,7 @@ At source at (block ∷ blocks) = at ≤ block_from source block
 pub at_next : (source : List ℕ) (before at : ℕ) (block : List Replacement) (bs : List (List Replacement))
     → Chain source before (block ∷ bs) → at ≤ block_to source block → At source at bs
 at_next source before at block [] h le = tt
-at_next source before at block (next ∷ bs) h le = omega (arith, le, next_behind source before block next bs h)
+at_next source before at block (next ∷ bs) h le = omega (arith, le, next_after source before block next bs h)
 
 pub without : (source : List ℕ) (at : ℕ) (change : Change) (list : List Change)
     → (is_nil change.removed && is_nil change.added) ≡ true

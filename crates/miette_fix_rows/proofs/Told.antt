@@ -10,17 +10,17 @@ of_hunks f hunks = flat_map (λ hunk. hunk.kept ++ flat_map f hunk.changes) hunk
 
 -- the unchanged lines of a diff, and some of those of its changes
 abbrev pub told : (Change → List (List ℕ)) → Diff → List (List ℕ)
-told f d = of_hunks f d.hunks ++ d.behind
+told f d = of_hunks f d.hunks ++ d.after_hunks
 
-kept_told : (f : Change → List (List ℕ)) (lines : List (List ℕ)) (hunks : List Hunk) (behind : List (List ℕ))
-    → of_hunks f (onto_kept lines hunks behind).hunks ++ (onto_kept lines hunks behind).behind ≡ lines ++
-    (of_hunks f hunks ++ behind)
-kept_told f lines [] behind = refl
-kept_told f lines (hunk ∷ hunks) behind =
-    ap (λ ls. (ls ++ of_hunks f hunks) ++ behind) (append_assoc lines hunk.kept (flat_map f hunk.changes))
-    ∙ ap (λ ls. ls ++ behind)
+kept_told : (f : Change → List (List ℕ)) (lines : List (List ℕ)) (hunks : List Hunk) (after : List (List ℕ))
+    → of_hunks f (onto_kept lines hunks after).hunks ++ (onto_kept lines hunks after).after_hunks ≡ lines ++
+    (of_hunks f hunks ++ after)
+kept_told f lines [] after = refl
+kept_told f lines (hunk ∷ hunks) after =
+    ap (λ ls. (ls ++ of_hunks f hunks) ++ after) (append_assoc lines hunk.kept (flat_map f hunk.changes))
+    ∙ ap (λ ls. ls ++ after)
     (append_assoc lines (hunk.kept ++ flat_map f hunk.changes) (of_hunks f hunks))
-    ∙ append_assoc lines ((hunk.kept ++ flat_map f hunk.changes) ++ of_hunks f hunks) behind
+    ∙ append_assoc lines ((hunk.kept ++ flat_map f hunk.changes) ++ of_hunks f hunks) after
 
 pub nil_of : (ls : List (List ℕ)) → is_nil ls ≡ true → ls ≡ []
 nil_of [] h = refl
@@ -40,6 +40,6 @@ change_told f change (hunk ∷ hunks) =
 pub told_more : (f : Change → List (List ℕ)) (lines : List (List ℕ)) (change : Change) (d : Diff)
     → told f (with_kept lines (with_change change d)) ≡ lines ++ (f change ++ told f d)
 told_more f lines change d =
-    kept_told f lines (onto_hunks change d.hunks) d.behind
-    ∙ ap (λ ls. lines ++ (ls ++ d.behind)) (change_told f change d.hunks)
-    ∙ ap (λ ls. lines ++ ls) (append_assoc (f change) (of_hunks f d.hunks) d.behind)
+    kept_told f lines (onto_hunks change d.hunks) d.after_hunks
+    ∙ ap (λ ls. lines ++ (ls ++ d.after_hunks)) (change_told f change d.hunks)
+    ∙ ap (λ ls. lines ++ ls) (append_assoc (f change) (of_hunks f d.hunks) d.after_hunks)

@@ -109,9 +109,9 @@ fn sizes_of(olds: &[&[u8]], news: &[&[u8]]) -> Sizes
     requires new { bytes_of (texts_of news.now) < 2 ^ 64 }
     ensures { AreSizes (texts_of olds.now) (texts_of news.now) result }
 {
-    let behind = common(Side::Back, olds, news);
-    let old_kept = &olds[..olds.len() - behind];
-    let new_kept = &news[..news.len() - behind];
+    let after = common(Side::Back, olds, news);
+    let old_kept = &olds[..olds.len() - after];
+    let new_kept = &news[..news.len() - after];
     let before = common(Side::Front, old_kept, new_kept);
     Sizes {
         removed_from: total(&olds[..before]),

@@ -54,8 +54,8 @@ conflict_is e x =
     (λ t. let before = ltb-true x.span.offset e.span.offset t in
     let v : leb e.span.offset x.span.offset ≡ false = grind (arith, before) in
     rw (f, u, t, v) (sym (or_nothing (ltb e.span.offset (end_of x)))))
-    (λ g. let behind = ltb-false x.span.offset e.span.offset g in
-    let v : leb e.span.offset x.span.offset ≡ true = grind (arith, behind) in rw (f, u, g, v) refl))
+    (λ g. let after = ltb-false x.span.offset e.span.offset g in
+    let v : leb e.span.offset x.span.offset ≡ true = grind (arith, after) in rw (f, u, g, v) refl))
 
 any_conflict : (e : Replacement) (xs : List Replacement)
     → list_any (conflict e) xs ≡ (list_any (meets_from e) xs || list_any (is_inside e) xs)
@@ -104,8 +104,8 @@ any_from offset len p (x ∷ xs) h there =
 apart : (x y : Replacement) → x.span.offset < y.span.offset → overlap x y ≡ false → end_of x ≤ y.span.offset
 apart x y before h = grind (arith, before, h)
 
-behind_apart : (x y : Replacement) → y.span.offset < x.span.offset → overlap x y ≡ false → end_of y ≤ x.span.offset
-behind_apart x y before h = grind (arith, before, h)
+after_apart : (x y : Replacement) → y.span.offset < x.span.offset → overlap x y ≡ false → end_of y ≤ x.span.offset
+after_apart x y before h = grind (arith, before, h)
 
 -- where an edit that begins there overlaps none of those, it ends before
 none_inside : (x : Replacement) (xs : List Replacement) (offset len : ℕ) → list_any (overlap x) xs ≡ false
@@ -122,7 +122,7 @@ none_inside x (y ∷ ys) offset len h there =
     let o = eqb-true y.span.offset offset is.0 in
     let l = eqb-true y.span.len len is.1 in (
       λ before. let end = apart x y (omega (arith, before, o)) parts.0 in omega (arith, end, o),
-      λ behind. let end = behind_apart x y (omega (arith, behind, o)) parts.0 in omega (arith, end, o, l),
+      λ after. let end = after_apart x y (omega (arith, after, o)) parts.0 in omega (arith, end, o, l),
     ))
     (λ f. none_inside x ys offset len parts.1
     (sym (ap (λ b. b || list_any (begins_with offset len) ys) f) ∙ there))
@@ -344,9 +344,9 @@ pub conflict_before : (e : Replacement) (xs : List Replacement) (b : Bool) → b
 conflict_before e xs b is t =
     t ∙ sym (any_conflict e xs ∙ or_left (list_any (meets_from e) xs) (list_any (is_inside e) xs) (sym is ∙ t))
 
-pub conflict_behind : (e : Replacement) (xs : List Replacement) (b c : Bool) → b ≡ list_any (meets_from e) xs
+pub conflict_after : (e : Replacement) (xs : List Replacement) (b c : Bool) → b ≡ list_any (meets_from e) xs
     → b ≡ false → c ≡ list_any (is_inside e) xs → c ≡ list_any (conflict e) xs
-conflict_behind e xs b c is f also =
+conflict_after e xs b c is f also =
     also ∙ sym (any_conflict e xs ∙ ap (λ m. m || list_any (is_inside e) xs) (sym is ∙ f))
 
 conflict_split : (edits others : List Replacement) (i : ℕ) (e : Replacement) → i < length edits → e ≡ get_or edits i e

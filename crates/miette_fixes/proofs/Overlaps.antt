@@ -6,11 +6,11 @@ use Rattle.miette_fixes.specs.declared.error.FixError.TheVariants.{Overlap}
 use Rattle.std.specs.List.{AllByRecursion, list_any}
 use Rattle.std.proofs.lemmas.Bool.{le-ltb, ltb-false, or_parts}
 use Rattle.miette_basics.proofs.Cases.{by_cases}
-use Rattle.miette_fixes.specs.rules.Edits.{Replacement, end_of, ends_behind, is_behind, overlap, some_overlap}
+use Rattle.miette_fixes.specs.rules.Edits.{Replacement, end_of, ends_after, is_after, overlap, some_overlap}
 use Rattle.miette_fixes.specs.rules.Applying.{put_edit, by_offset, refusal}
 use Rattle.miette_fixes.specs.steps.Sweeping.{crosses_from}
 use Rattle.miette_fixes.specs.views.Ordered.{FitFrom}
-use Rattle.miette_fixes.proofs.Sorting.{Climbs, less, less_order, not_behind, by_offset_climbs}
+use Rattle.miette_fixes.proofs.Sorting.{Climbs, less, less_order, not_after, by_offset_climbs}
 
 or_swap : (p q r s : Bool) → ((p || q) || (r || s)) ≡ ((p || r) || (q || s))
 or_swap true q r s = refl
@@ -30,7 +30,7 @@ any_put : (p : Replacement → Bool) (edit : Replacement) (edits : List Replacem
 any_put p edit [] = refl
 any_put p edit (next ∷ edits) =
     by_cases {C = list_any p (put_edit edit (next ∷ edits)) ≡ (p edit || list_any p (next ∷ edits))}
-    (is_behind edit next)
+    (is_after edit next)
     (λ t. rw t (ap (λ r. p next || r) (any_put p edit edits) ∙ or_front (p next) (p edit) (list_any p edits)))
     (λ f. rw f refl)
 
@@ -40,12 +40,12 @@ any_by_offset p [] = refl
 any_by_offset p (edit ∷ edits) = any_put p edit (by_offset edits) ∙ ap (λ r. p edit || r) (any_by_offset p edits)
 
 -- nor to whether two overlap
-overlap_same : (a b : Replacement) → is_behind a b ≡ false → is_behind b a ≡ false → overlap a b ≡ overlap b a
+overlap_same : (a b : Replacement) → is_after a b ≡ false → is_after b a ≡ false → overlap a b ≡ overlap b a
 overlap_same a b h k =
     let x : (a.span.offset ≤ b.span.offset) × (b.span.offset ≡ a.span.offset → a.span.len ≤ b.span.len) =
-    not_behind a b h in
+    not_after a b h in
     let y : (b.span.offset ≤ a.span.offset) × (a.span.offset ≡ b.span.offset → b.span.len ≤ a.span.len) =
-    not_behind b a k in
+    not_after b a k in
     let x0 : a.span.offset ≤ b.span.offset = x.0 in
     let y0 : b.span.offset ≤ a.span.offset = y.0 in
     let x1 : a.span.len ≤ b.span.len = x.1 (omega (arith, x0, y0)) in
@@ -56,16 +56,16 @@ overlap_same a b h k =
 
 pub overlap_turned : (a b : Replacement) → overlap a b ≡ overlap b a
 overlap_turned a b =
-    by_cases {C = overlap a b ≡ overlap b a} (is_behind a b)
-    (λ t. let u : is_behind b a ≡ false = less_order.one_way b a t in rw (t, u) refl)
-    (λ f. by_cases {C = overlap a b ≡ overlap b a} (is_behind b a) (λ t. rw (f, t) refl) (λ g. overlap_same a b f g))
+    by_cases {C = overlap a b ≡ overlap b a} (is_after a b)
+    (λ t. let u : is_after b a ≡ false = less_order.one_way b a t in rw (t, u) refl)
+    (λ f. by_cases {C = overlap a b ≡ overlap b a} (is_after b a) (λ t. rw (f, t) refl) (λ g. overlap_same a b f g))
 
 overlap_put : (edit : Replacement) (edits : List Replacement)
     → some_overlap (put_edit edit edits) ≡ some_overlap (edit ∷ edits)
 overlap_put edit [] = refl
 overlap_put edit (next ∷ edits) =
     by_cases {C = some_overlap (put_edit edit (next ∷ edits)) ≡ some_overlap (edit ∷ next ∷ edits)}
-    (is_behind edit next)
+    (is_after edit next)
     (λ t. let split : some_overlap (next ∷ put_edit edit edits) ≡ ((overlap next edit || list_any (overlap next) edits)
     || (list_any (overlap edit) edits || some_overlap edits)) =
     ap (λ r. r || some_overlap (put_edit edit edits)) (any_put (overlap next) edit edits)
@@ -92,9 +92,9 @@ none_further : (a e : Replacement) (edits : List Replacement) → end_of a ≤ e
 none_further a e [] le h k = refl
 none_further a e (y ∷ ys) le h k =
     let low : (e.span.offset ≤ y.span.offset) × (y.span.offset ≡ e.span.offset → e.span.len ≤ y.span.len) =
-    not_behind e y k.0 in
+    not_after e y k.0 in
     let off : e.span.offset ≤ y.span.offset = low.0 in
-    let first : is_behind a y ≡ false = h.0 in
+    let first : is_after a y ≡ false = h.0 in
     let no : ltb y.span.offset (end_of a) ≡ false = le-ltb y.span.offset (end_of a) (omega (arith, le, off)) in
     rw (first, no) (none_further a e ys le h.1 k.1)
 
@@ -102,7 +102,7 @@ crosses_after : (a : Replacement) (edits : List Replacement) → Climbs less (a 
     → crosses_from (end_of a) edits ≡ some_overlap (a ∷ edits)
 crosses_after a [] h = refl
 crosses_after a (e ∷ es) h =
-    let first : is_behind a e ≡ false = h.0.0 in
+    let first : is_after a e ≡ false = h.0.0 in
     let rest : crosses_from (end_of e) es ≡ some_overlap (e ∷ es) = crosses_after e es h.1 in
     by_cases {C = crosses_from (end_of a) (e ∷ es) ≡ some_overlap (a ∷ e ∷ es)} (ltb e.span.offset (end_of a))
     (λ t. rw (first, t) refl)
@@ -120,47 +120,47 @@ pub crosses_is : (edits : List Replacement) → crosses_from 0 (by_offset edits)
 crosses_is edits = crosses_all (by_offset edits) (by_offset_climbs edits) ∙ overlap_by_offset edits
 
 fit_from : (n a : ℕ) (edits : List Replacement) → a ≤ n → crosses_from a edits ≡ false
-    → list_any (ends_behind n) edits ≡ false → FitFrom n a edits
+    → list_any (ends_after n) edits ≡ false → FitFrom n a edits
 fit_from n a [] le h k = le
 fit_from n a (e ∷ es) le h k =
     let x : (ltb e.span.offset a ≡ false) × (crosses_from (end_of e) es ≡ false) =
     or_parts (ltb e.span.offset a) (crosses_from (end_of e) es) h in
-    let y : (ltb n (end_of e) ≡ false) × (list_any (ends_behind n) es ≡ false) =
-    or_parts (ltb n (end_of e)) (list_any (ends_behind n) es) k in
+    let y : (ltb n (end_of e) ≡ false) × (list_any (ends_after n) es ≡ false) =
+    or_parts (ltb n (end_of e)) (list_any (ends_after n) es) k in
     let end : end_of e ≤ n = ltb-false n (end_of e) y.0 in
     (ltb-false e.span.offset a x.0, end, fit_from n (end_of e) es end x.1 y.1)
 
 -- of the list that a sort gives
 
 pub sorted_inside : (n : ℕ) (edits sorted : List Replacement) → sorted ≡ by_offset edits
-    → list_any (ends_behind n) edits ≡ false → list_any (ends_behind n) sorted ≡ false
-sorted_inside n edits sorted is h = ap (list_any (ends_behind n)) is ∙ any_by_offset (ends_behind n) edits ∙ h
+    → list_any (ends_after n) edits ≡ false → list_any (ends_after n) sorted ≡ false
+sorted_inside n edits sorted is h = ap (list_any (ends_after n)) is ∙ any_by_offset (ends_after n) edits ∙ h
 
 pub sorted_crosses : (n : ℕ) (edits sorted : List Replacement) (found : Bool) → sorted ≡ by_offset edits
     → found ≡ crosses_from 0 sorted → some_overlap edits ≡ found
 sorted_crosses n edits sorted found is h = sym (crosses_is edits) ∙ ap (crosses_from 0) (sym is) ∙ sym h
 
-pub refused_overlap : (n : ℕ) (edits : List Replacement) → list_any (ends_behind n) edits ≡ false
+pub refused_overlap : (n : ℕ) (edits : List Replacement) → list_any (ends_after n) edits ≡ false
     → some_overlap edits ≡ true → refusal n edits ≡ Some Overlap
 refused_overlap n edits h k = rw (h, k) refl
 
-pub unrefused : (n : ℕ) (edits : List Replacement) → list_any (ends_behind n) edits ≡ false
+pub unrefused : (n : ℕ) (edits : List Replacement) → list_any (ends_after n) edits ≡ false
     → some_overlap edits ≡ false → refusal n edits ≡ None
 unrefused n edits h k = rw (h, k) refl
 
 -- edits that can be applied
 pub none_refused : (n : ℕ) (edits : List Replacement) → refusal n edits ≡ None
-    → (list_any (ends_behind n) edits ≡ false) × (some_overlap edits ≡ false)
+    → (list_any (ends_after n) edits ≡ false) × (some_overlap edits ≡ false)
 none_refused n edits h =
-    by_cases {C = (list_any (ends_behind n) edits ≡ false) × (some_overlap edits ≡ false)}
-    (list_any (ends_behind n) edits)
+    by_cases {C = (list_any (ends_after n) edits ≡ false) × (some_overlap edits ≡ false)}
+    (list_any (ends_after n) edits)
     (λ t. let bad = rw t at h in cc)
-    (λ f. by_cases {C = (list_any (ends_behind n) edits ≡ false) × (some_overlap edits ≡ false)} (some_overlap edits)
+    (λ f. by_cases {C = (list_any (ends_after n) edits ≡ false) × (some_overlap edits ≡ false)} (some_overlap edits)
     (λ t. let bad = rw (f, t) at h in cc) (λ g. (f, g)))
 
 pub fit_unrefused : (n : ℕ) (edits : List Replacement) → refusal n edits ≡ None → FitFrom n 0 (by_offset edits)
 fit_unrefused n edits h =
-    let parts : (list_any (ends_behind n) edits ≡ false) × (some_overlap edits ≡ false) = none_refused n edits h in
+    let parts : (list_any (ends_after n) edits ≡ false) × (some_overlap edits ≡ false) = none_refused n edits h in
     fit_from n 0 (by_offset edits) (omega arith) (crosses_is edits ∙ parts.1)
     (sorted_inside n edits (by_offset edits) refl parts.0)
 

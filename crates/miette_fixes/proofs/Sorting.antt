@@ -13,7 +13,7 @@ use Rattle.std.proofs.lemmas.List.Elements.{filter-append}
 use denote.Ref.{Bor}
 use Rattle.miette_protocol.specs.rules.Reading.{Span}
 use Rattle.miette_basics.proofs.Cases.{by_cases}
-use Rattle.miette_fixes.specs.rules.Edits.{Replacement, is_behind}
+use Rattle.miette_fixes.specs.rules.Edits.{Replacement, is_after}
 use Rattle.miette_fixes.specs.rules.Applying.{put_edit, by_offset}
 use Rattle.miette_fixes.specs.steps.Sweeping.{ascends_after, ascends}
 use Rattle.miette_fixes.specs.views.Ordered.{edits_of}
@@ -147,16 +147,16 @@ sort_is lt o xs ys up stable =
 
 -- ---- edits by offset
 
-put_mapped : {X : Type 0} (f : X → Replacement) (lt : X → X → Bool) → ((x y : X) → lt x y ≡ is_behind (f y) (f x))
+put_mapped : {X : Type 0} (f : X → Replacement) (lt : X → X → Bool) → ((x y : X) → lt x y ≡ is_after (f y) (f x))
     → (x : X) (ys : List X) → map f (put lt x ys) ≡ put_edit (f x) (map f ys)
 put_mapped f lt is x [] = refl
 put_mapped f lt is x (y ∷ ys) =
     by_cases {C = map f (put lt x (y ∷ ys)) ≡ put_edit (f x) (map f (y ∷ ys))} (lt y x)
-    (λ t. let u : is_behind (f x) (f y) ≡ true = sym (is y x) ∙ t in
+    (λ t. let u : is_after (f x) (f y) ≡ true = sym (is y x) ∙ t in
     rw (t, u) (ap (λ r. f y ∷ r) (put_mapped f lt is x ys)))
-    (λ g. let u : is_behind (f x) (f y) ≡ false = sym (is y x) ∙ g in rw (g, u) refl)
+    (λ g. let u : is_after (f x) (f y) ≡ false = sym (is y x) ∙ g in rw (g, u) refl)
 
-sorted_mapped : {X : Type 0} (f : X → Replacement) (lt : X → X → Bool) → ((x y : X) → lt x y ≡ is_behind (f y) (f x))
+sorted_mapped : {X : Type 0} (f : X → Replacement) (lt : X → X → Bool) → ((x y : X) → lt x y ≡ is_after (f y) (f x))
     → (xs : List X) → map f (sorted lt xs) ≡ by_offset (map f xs)
 sorted_mapped f lt is [] = refl
 sorted_mapped f lt is (x ∷ xs) = put_mapped f lt is x (sorted lt xs) ∙ ap (put_edit (f x)) (sorted_mapped f lt is xs)
@@ -196,7 +196,7 @@ below_chain a b c d e f h k =
 
 -- an edit that comes before another one
 abbrev pub less : Replacement → Replacement → Bool
-less edit other = is_behind other edit
+less edit other = is_after other edit
 
 -- an order that goes by the edits of its elements
 pub order_of : {X : Type 0} (f : X → Replacement) (lt : X → X → Bool) → ((x y : X) → lt x y ≡ less (f x) (f y))
@@ -212,9 +212,9 @@ pub less_order : IsStrictWeakOrder less
 less_order = order_of (λ edit. edit) less (λ x y. refl)
 
 -- An edit that isn't after another one doesn't begin after it, and isn't longer where they begin at one offset.
-pub not_behind : (edit other : Replacement) → is_behind edit other ≡ false
+pub not_after : (edit other : Replacement) → is_after edit other ≡ false
     → (edit.span.offset ≤ other.span.offset) × (other.span.offset ≡ edit.span.offset → edit.span.len ≤ other.span.len)
-not_behind edit other h = from_false other.span.offset other.span.len edit.span.offset edit.span.len h
+not_after edit other h = from_false other.span.offset other.span.len edit.span.offset edit.span.len h
 
 pub sorted_is : (edits : List Replacement) → sorted less edits ≡ by_offset edits
 sorted_is edits = sym (map-id (sorted less edits)) ∙ sorted_mapped (λ edit. edit) less (λ x y. refl) edits
@@ -264,13 +264,13 @@ put_ascending : (edit : Replacement) (edits : List Replacement) → ascends_afte
     → put_edit edit edits ≡ edit ∷ edits
 put_ascending edit [] h = refl
 put_ascending edit (next ∷ edits) h =
-    by_cases {C = put_edit edit (next ∷ edits) ≡ edit ∷ next ∷ edits} (is_behind edit next)
+    by_cases {C = put_edit edit (next ∷ edits) ≡ edit ∷ next ∷ edits} (is_after edit next)
     (λ t. let e = rw t at h in cc) (λ f. rw f refl)
 
 rest_ascends : (edit next : Replacement) (edits : List Replacement) → ascends_after edit (next ∷ edits) ≡ true
     → ascends_after next edits ≡ true
 rest_ascends edit next edits h =
-    by_cases {C = ascends_after next edits ≡ true} (is_behind edit next)
+    by_cases {C = ascends_after next edits ≡ true} (is_after edit next)
     (λ t. let e = rw t at h in cc) (λ f. rw f at h)
 
 stays_after : (edit : Replacement) (edits : List Replacement) → ascends_after edit edits ≡ true

@@ -16,9 +16,9 @@ use Rattle.miette_fixes.specs.rules.Applying.{applied, by_offset, refusal, text_
 use Rattle.miette_fixes.specs.rules.ApplyingAll.{all_of, conflict, counted, counted_with, counts, is_among}
 use Rattle.miette_fixes.specs.rules.ApplyingAll.{is_taken, lists_of, some_conflict, taken}
 use Rattle.miette_fixes.specs.declared.error.FixError.{FixError}
-use Rattle.miette_fixes.specs.rules.Edits.{Proposal, Replacement, ends_behind, overlap, some_overlap}
+use Rattle.miette_fixes.specs.rules.Edits.{Proposal, Replacement, ends_after, overlap, some_overlap}
 use Rattle.miette_fixes.proofs.Overlaps.{none_refused, overlap_turned, unrefused}
-use Rattle.miette_fixes.proofs.Sorting.{less, not_behind, same_order}
+use Rattle.miette_fixes.proofs.Sorting.{less, not_after, same_order}
 
 -- ---- what can be applied
 
@@ -74,12 +74,12 @@ pub counted_fit : (n : ℕ) (others edits : List Replacement) → refusal n othe
 counted_fit n others edits h may =
     let parts : (is_none (refusal n edits) ≡ true) × (not (some_conflict edits others) ≡ true) =
     and_parts (is_none (refusal n edits)) (not (some_conflict edits others)) may in
-    let own : (list_any (ends_behind n) edits ≡ false) × (some_overlap edits ≡ false) =
+    let own : (list_any (ends_after n) edits ≡ false) × (some_overlap edits ≡ false) =
     none_refused n edits (some_none (refusal n edits) parts.0) in
-    let before : (list_any (ends_behind n) others ≡ false) × (some_overlap others ≡ false) = none_refused n others h in
+    let before : (list_any (ends_after n) others ≡ false) × (some_overlap others ≡ false) = none_refused n others h in
     unrefused n (others ++ edits)
-    (list_any-append (ends_behind n) others edits
-    ∙ or_from (list_any (ends_behind n) others) (list_any (ends_behind n) edits) before.0 own.0)
+    (list_any-append (ends_after n) others edits
+    ∙ or_from (list_any (ends_after n) others) (list_any (ends_after n) edits) before.0 own.0)
     (joined others edits before.1 own.1 (not-true (some_conflict edits others) parts.1))
 
 -- the edits of fixes from one on
@@ -106,9 +106,9 @@ tied_offset : (z x : Replacement) → ties less z x ≡ true → x.span.offset �
 tied_offset z x h =
     let parts : (not (less z x) ≡ true) × (not (less x z) ≡ true) = and_parts (not (less z x)) (not (less x z)) h in
     let a : (x.span.offset ≤ z.span.offset) × (z.span.offset ≡ x.span.offset → x.span.len ≤ z.span.len) =
-    not_behind x z (not-true (less z x) parts.0) in
+    not_after x z (not-true (less z x) parts.0) in
     let b : (z.span.offset ≤ x.span.offset) × (x.span.offset ≡ z.span.offset → z.span.len ≤ x.span.len) =
-    not_behind z x (not-true (less x z) parts.1) in
+    not_after z x (not-true (less x z) parts.1) in
     let a0 : x.span.offset ≤ z.span.offset = a.0 in
     let b0 : z.span.offset ≤ x.span.offset = b.0 in
     omega (arith, a0, b0)

@@ -4,7 +4,7 @@ ghost use Rattle.std.specs.Prelude.{◌≡◌, ◌≢◌, false, length, IfOk, I
 ghost use Rattle.std.specs.List.{list_any};
 ghost use Rattle.miette_fixes.specs.declared.error.FixError.TheVariants.{Memory};
 ghost use Rattle.miette_fixes.specs.rules.Applying.{applied, by_offset, refusal, text_from};
-ghost use Rattle.miette_fixes.specs.rules.Edits.{ends_behind};
+ghost use Rattle.miette_fixes.specs.rules.Edits.{ends_after};
 ghost use Rattle.miette_fixes.specs.steps.Sweeping.{crosses_from};
 ghost use Rattle.miette_fixes.specs.views.Ordered.{FitFrom, edits_of};
 
@@ -15,14 +15,14 @@ use std::alloc::{AllocError, Global};
 
 // Whether an edit ends after the end of a source of `length` bytes.
 fn is_outside(length: usize, edit: &Edit) -> bool
-    ensures { result ≡ ends_behind length edit.now }
+    ensures { result ≡ ends_after length edit.now }
 {
     length < edit.offset() || length - edit.offset() < edit.len()
 }
 
 // Whether one of these edits does.
 fn some_outside(length: usize, edits: &[Edit]) -> bool
-    ensures { result ≡ list_any (ends_behind length) edits.now }
+    ensures { result ≡ list_any (ends_after length) edits.now }
 {
     for edit in edits {
         if is_outside(length, edit) {
@@ -34,7 +34,7 @@ fn some_outside(length: usize, edits: &[Edit]) -> bool
 
 // Whether one of these edits begins before the one before it ends. None ends after the source's end.
 fn some_cross(length: usize, edits: &[&Edit]) -> bool
-    requires { list_any (ends_behind length) (edits_of edits.now) ≡ false }
+    requires { list_any (ends_after length) (edits_of edits.now) ≡ false }
     ensures { result ≡ crosses_from 0 (edits_of edits.now) }
 {
     let mut end = 0;

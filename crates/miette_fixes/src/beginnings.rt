@@ -39,7 +39,7 @@ fn meets_before(edit: &Edit, begun: &Beginnings) -> bool
 }
 
 // Whether the next one at an edit's offset, or after it, begins inside the edit.
-fn meets_behind(edit: &Edit, begun: &Beginnings) -> bool
+fn meets_after(edit: &Edit, begun: &Beginnings) -> bool
     ensures { (lists : List (List Replacement)) → AreBegun begun.now lists →
         result ≡ list_any (is_inside edit.now) (all_of lists) }
 {
@@ -55,7 +55,7 @@ fn conflicts(edit: &Edit, begun: &Beginnings) -> bool
     ensures { (lists : List (List Replacement)) → AreBegun begun.now lists →
         some_overlap (all_of lists) ≡ false → result ≡ list_any (conflict edit.now) (all_of lists) }
 {
-    meets_before(edit, begun) || meets_behind(edit, begun)
+    meets_before(edit, begun) || meets_after(edit, begun)
 }
 
 /// Whether one of these edits conflicts with one of those that begin there, of which no two overlap.

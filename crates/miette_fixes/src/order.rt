@@ -2,7 +2,7 @@
 
 ghost use Rattle.std.specs.Prelude.{◌≡◌, ◌++◌, IfOk, OnOk};
 ghost use Rattle.miette_fixes.specs.rules.Applying.{by_offset};
-ghost use Rattle.miette_fixes.specs.rules.Edits.{is_behind};
+ghost use Rattle.miette_fixes.specs.rules.Edits.{is_after};
 ghost use Rattle.miette_fixes.specs.steps.Sweeping.{ascends};
 ghost use Rattle.miette_fixes.specs.views.Ordered.{edits_of};
 
@@ -26,8 +26,8 @@ pub(crate) fn extended<'a>(
 }
 
 // Whether an edit comes after another one: by offset, then by length.
-fn comes_behind(edit: &Edit, other: &Edit) -> bool
-    ensures { result ≡ is_behind edit.now other.now }
+fn comes_after(edit: &Edit, other: &Edit) -> bool
+    ensures { result ≡ is_after edit.now other.now }
 {
     other.offset() < edit.offset() || (other.offset() == edit.offset() && other.len() < edit.len())
 }
@@ -41,7 +41,7 @@ fn ascend(edits: &[&Edit]) -> bool
     };
     let mut before = *first;
     for edit in rest {
-        if comes_behind(before, edit) {
+        if comes_after(before, edit) {
             return false;
         }
         before = edit;

@@ -58,14 +58,14 @@ off_from line s end test high le =
     ∙ ap (λ b. b && test) (and-false (ltb line.start s.until))
 
 -- so those in between say of lines what all do
-pub around_part : (start end : ℕ) (all some : List MadeSpread) (first behind : ℕ)
-    → IsWindow start end all first behind → some ≡ take (behind - first) (drop first all)
+pub around_part : (start end : ℕ) (all some : List MadeSpread) (first after : ℕ)
+    → IsWindow start end all first after → some ≡ take (after - first) (drop first all)
     → AreAround start end all some
-around_part start end all some first behind w is = λ line low high test.
+around_part start end all some first after w is = λ line low high test.
     let p : MadeSpread → Bool = λ s. is_around line (spread_of s) && test (spread_of s) in
     let rest : List MadeSpread = drop first all in
     any-mapped (λ s. is_around line s && test s) some ∙ ap (list_any p) is
-    ∙ any-taken p rest (behind - first) (λ k d ge inside.
+    ∙ any-taken p rest (after - first) (λ k d ge inside.
     let later : first + k < length all = omega (arith, inside, length-drop first all) in
     let same : get_or rest k d ≡ get_or all (first + k) d = get_or-drop first all k d in
     ap p same ∙ off_from line (get_or all (first + k) d) end (test (spread_of (get_or all (first + k) d))) high
@@ -75,11 +75,11 @@ around_part start end all some first behind w is = λ line low high test.
     ∙ sym (any-mapped (λ s. is_around line s && test s) all)
 
 -- where the first and the last ones are off by the bounds
-pub window_is : (start end : ℕ) (all : List MadeSpread) (untils froms : List ℕ) (first later behind : ℕ)
+pub window_is : (start end : ℕ) (all : List MadeSpread) (untils froms : List ℕ) (first later after : ℕ)
     → AreBounds all untils froms → first ≤ length untils → (0 < first → get_or untils (first - 1) 0 < min start end) →
-    later ≤ length froms → (0 < later → end ≤ get_or froms (later - 1) 0) → behind ≡ max (length untils - later) first →
-    IsWindow start end all first behind
-window_is start end all untils froms first later behind bounds few low many high b = record {
+    later ≤ length froms → (0 < later → end ≤ get_or froms (later - 1) 0) → after ≡ max (length untils - later) first →
+    IsWindow start end all first after
+window_is start end all untils froms first later after bounds few low many high b = record {
   order = omega (arith, b);
   within = omega (arith, b, few, bounds.untils);
   until = λ k d lt. omega (arith, reach k d lt, low (omega (arith, lt)));

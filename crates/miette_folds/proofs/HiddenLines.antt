@@ -67,13 +67,13 @@ beside_before limit lines rest labels place line gap there is own out =
     sym (gap_hidden limit lines rest labels place line gap there is own) ∙ out in
     sym (ap (λ b. b || is_hidden limit lines labels (place + 1) (line_at lines (place + 1))) before)
 
-pub beside_behind : (limit : ℕ) (lines rest : List Line) (labels : List Spread) (place : ℕ) (line : Line)
+pub beside_after : (limit : ℕ) (lines rest : List Line) (labels : List Spread) (place : ℕ) (line : Line)
     (gap result : Bool) → drop place lines ≡ line ∷ rest
     → gap ≡ leaves_out (Some limit) lines labels (place - 1) (line_at lines (place - 1))
     → is_hidden limit lines labels place line ≡ true → gap ≡ false
     → result ≡ is_hidden limit lines labels (place + 1) (line_at lines (place + 1))
     → result ≡ is_beside_hidden limit lines labels place
-beside_behind limit lines rest labels place line gap result there is own out next =
+beside_after limit lines rest labels place line gap result there is own out next =
     let before : is_hidden limit lines labels (place - 1) (line_at lines (place - 1)) ≡ false =
     sym (gap_hidden limit lines rest labels place line gap there is own) ∙ out in
     next ∙ sym (ap (λ b. b || is_hidden limit lines labels (place + 1) (line_at lines (place + 1))) before)

@@ -154,7 +154,7 @@ max_turned : (a b c : ℕ) → max (max a b) c ≡ max b (max a c)
 max_turned a b c = omega arith
 
 -- the greatest number after a gap
-most_behind : (labels : List PlacedLabel) (start : ℕ) (bytes : List ℕ) (line : Line) (next most : ℕ)
+most_after : (labels : List PlacedLabel) (start : ℕ) (bytes : List ℕ) (line : Line) (next most : ℕ)
     (near far : LineStart) (jumps : Bool) → AreSorted labels → line.start < line.end → near.offset ≡ line.end →
     ((k : ℕ) → k < next → start_at labels k < line.end) → length (filter (is_multi line) labels) ≤ most
     → (jumps ≡ false → far ≡ near) → (jumps ≡ true → (k : ℕ) → next ≤ k → k < length labels → far.offset
@@ -162,10 +162,10 @@ most_behind : (labels : List PlacedLabel) (start : ℕ) (bytes : List ℕ) (line
     Begins start bytes near.offset near.place → Begins start bytes far.offset far.place → near.offset ≤ far.offset →
     max most (most_multi labels (P.lines_from near.offset (drop (near.offset - start) bytes)))
     ≡ max most (most_multi labels (P.lines_from far.offset (drop (far.offset - start) bytes)))
-most_behind labels start bytes line next most near far false sorted own at before few one clear a b le =
+most_after labels start bytes line next most near far false sorted own at before few one clear a b le =
     ap (λ (x : LineStart). max most (most_multi labels (P.lines_from x.offset (drop (x.offset - start) bytes))))
     (sym (one refl))
-most_behind labels start bytes line next most near far true sorted own at before few one clear a b le =
+most_after labels start bytes line next most near far true sorted own at before few one clear a b le =
     let r : RunOf start bytes near far = run_of start bytes near far a b le in
     ap (λ ls. max most (most_multi labels ls)) r.parts
     ∙ most_run labels (length (filter (is_multi line) labels)) most r.run
@@ -192,14 +192,14 @@ counted_more_to labels start bytes at place most most' next next' running on run
     let own : length on ≡ length (filter (is_multi (line_of_text line)) labels) = ap length is.multi in
     let sums : far.offset ≡ start + (far.offset - start) = omega (arith, b.low) in
     let later : List Line = P.lines_from line.end (drop (line.end - start) bytes) in
-    let behind : max most' (most_multi labels later) ≡ max most'
+    let is_past : max most' (most_multi labels later) ≡ max most'
     (most_multi labels (P.lines_from far.offset (drop (far.offset - start) bytes))) =
-    most_behind labels start bytes (line_of_text line) first most' near far jumps sorted some refl is.before
+    most_after labels start bytes (line_of_text line) first most' near far jumps sorted some refl is.before
     (omega (arith, own, m)) one clear a b le in
     record {
       begun = subst (λ (n : ℕ). Begins start bytes n far.place) sums b;
       widest = ap (λ n. max most' (most_multi labels (P.lines_from n (drop (far.offset - start) bytes)))) (sym sums)
-          ∙ sym behind
+          ∙ sym is_past
           ∙ ap (λ n. max n (most_multi labels later)) (m ∙ ap (λ n. max n most) own)
           ∙ max_turned (length (filter (is_multi (line_of_text line)) labels)) most (most_multi labels later)
           ∙ ap (λ ls. max most (most_multi labels ls)) (sym part) ∙ h.widest;
@@ -269,11 +269,11 @@ counted_rest labels start bytes at place most most' next next' running on runnin
     to is m none end all state =
     let ls : List Line = P.lines_from start bytes in
     let a : Begins start bytes line.end (place + 1) = begins_next start bytes at place line h.begun part low to in
-    let behind : length (drop (place + 1) ls) ≡ length ls - (place + 1) = length-drop (place + 1) ls in
+    let is_past : length (drop (place + 1) ls) ≡ length ls - (place + 1) = length-drop (place + 1) ls in
     let same : length (drop (place + 1) ls) ≡ length (P.lines_from line.end (drop (line.end - start) bytes)) =
     ap length a.lines in
     let b : Begins start bytes far.offset far.place = begins_end start bytes far.offset far.place end
-    (omega (arith, all, behind, same, a.count)) in
+    (omega (arith, all, is_past, same, a.count)) in
     counted_more_to labels start bytes at place most most' next next' running on running' line first far true sorted h
     part low some to is m (λ f. absurd (cc))
     (λ t k ge lt. let clear : start + length bytes ≤ start_at labels k =

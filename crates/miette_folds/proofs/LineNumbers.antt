@@ -39,8 +39,8 @@ ends bytes span c ok = omega (arith, ok.begins, end_after_span bytes span c)
 
 -- ---- a read parts no CRLF at its end
 
-behind_lf : (bytes : List ℕ) (e : ℕ) → splits_crlf bytes e ≡ true → IsWhole bytes (e + 1)
-behind_lf bytes e t = λ k s.
+after_lf : (bytes : List ℕ) (e : ℕ) → splits_crlf bytes e ≡ true → IsWhole bytes (e + 1)
+after_lf bytes e t = λ k s.
     let here : k ≡ e = omega (arith, s) in
     let lf : slice_index bytes k ≡ 10 = ap (slice_index bytes) here
     ∙ eqb-true (slice_index bytes e) 10 ((and_parts (slice_index bytes (e - 1) == CR) (slice_index bytes e == LF) t).1)
@@ -59,7 +59,7 @@ whole_if bytes e false f g = g refl
 
 reading_whole : (bytes : List ℕ) (span : Span) → IsWhole bytes (reading_end bytes span)
 reading_whole bytes span =
-    whole_if bytes (span_end span) (splits_crlf bytes (span_end span)) (behind_lf bytes (span_end span))
+    whole_if bytes (span_end span) (splits_crlf bytes (span_end span)) (after_lf bytes (span_end span))
     (not_parted bytes (span_end span))
 
 bare_whole : (bytes : List ℕ) (span : Span) → IsWhole bytes (min (length bytes) (reading_end bytes span))

@@ -26,16 +26,16 @@ labels_of start bytes [] = refl
 labels_of start bytes (label ∷ labels) = ap (λ ls. label ∷ ls) (labels_of start bytes labels)
 
 -- the labels before one end before a line, and those from another one on begin after it
-pub record IsNear (line : Line) (folds : List Fold) (first behind : ℕ) : Type 0 where
-  pub order : first ≤ behind
-  pub within : behind ≤ length folds
+pub record IsNear (line : Line) (folds : List Fold) (first after : ℕ) : Type 0 where
+  pub order : first ≤ after
+  pub within : after ≤ length folds
   pub until : (k : ℕ) (d : Fold) → k < first → (get_or folds k d).label.until ≤ line.start
   pub begun : (k : ℕ) (d : Fold) → k < first → (get_or folds k d).label.from < line.end
-  pub from : (k : ℕ) (d : Fold) → behind ≤ k → k < length folds → line.end ≤ (get_or folds k d).label.from
+  pub from : (k : ℕ) (d : Fold) → after ≤ k → k < length folds → line.end ≤ (get_or folds k d).label.from
 
-pub near_window : (line : Line) (folds : List Fold) (first behind : ℕ)
-    → IsWindow line.start line.end (map (λ (f : Fold). f.label) folds) first behind → IsNear line folds first behind
-near_window line folds first behind w = record {
+pub near_window : (line : Line) (folds : List Fold) (first after : ℕ)
+    → IsWindow line.start line.end (map (λ (f : Fold). f.label) folds) first after → IsNear line folds first after
+near_window line folds first after w = record {
   order = w.order;
   within = within;
   until = λ k d lt. omega (
@@ -55,7 +55,7 @@ near_window line folds first behind w = record {
   );
 }
   where
-    within : behind ≤ length folds
+    within : after ≤ length folds
     within = omega (arith, w.within, length-map folds (λ (f : Fold). f.label))
 
     label : (k : ℕ) (d : Fold) → k < length folds → get_or (map (λ (f : Fold). f.label) folds) k d.label
@@ -69,9 +69,9 @@ around_before : (line : Line) (fold : Fold) (test : Bool) → fold.label.until �
 around_before line fold test le =
     ap (λ b. (b && ltb fold.label.from line.end) && test) (le-ltb line.start fold.label.until le)
 
-around_behind : (line : Line) (fold : Fold) (test : Bool) → line.end ≤ fold.label.from
+around_after : (line : Line) (fold : Fold) (test : Bool) → line.end ≤ fold.label.from
     → (is_around_fold line fold && test) ≡ false
-around_behind line fold test le =
+around_after line fold test le =
     ap (λ b. (ltb line.start fold.label.until && b) && test) (le-ltb fold.label.from line.end le)
     ∙ ap (λ b. b && test) (and-false (ltb line.start fold.label.until))
 
@@ -84,16 +84,16 @@ pub around_alone : (line : Line) (folds : List Fold) → list_any (is_around_fol
 around_alone line [] = refl
 around_alone line (f ∷ folds) = ap₂ (λ a b. a || b) (and_true (is_around_fold line f)) (around_alone line folds)
 
-pub around_near : (line : Line) (all near : List Fold) (first behind : ℕ) (test : Fold → Bool)
-    → IsNear line all first behind → near ≡ take (behind - first) (drop first all) →
+pub around_near : (line : Line) (all near : List Fold) (first after : ℕ) (test : Fold → Bool)
+    → IsNear line all first after → near ≡ take (after - first) (drop first all) →
     list_any (λ f. is_around_fold line f && test f) near ≡ list_any (λ f. is_around_fold line f && test f) all
-around_near line all near first behind test w is =
+around_near line all near first after test w is =
     let p : Fold → Bool = λ f. is_around_fold line f && test f in
     let rest : List Fold = drop first all in
     ap (list_any p) is
-    ∙ any-taken p rest (behind - first) (λ k d ge inside.
+    ∙ any-taken p rest (after - first) (λ k d ge inside.
     let later : first + k < length all = omega (arith, inside, length-drop first all) in
-    ap p (get_or-drop first all k d) ∙ around_behind line (get_or all (first + k) d) (test (get_or all (first + k) d))
+    ap p (get_or-drop first all k d) ∙ around_after line (get_or all (first + k) d) (test (get_or all (first + k) d))
     (w.from (first + k) d (omega (arith, ge)) later))
     ∙ any-dropped p all first (λ k d lt inside. around_before line (get_or all k d) (test (get_or all k d))
     (w.until k d lt))
@@ -184,38 +184,38 @@ stop_dropped line (f ∷ folds) (suc n) end u b =
     ∙ ap (λ e. nearest_stop line e folds) (sym (stop_before line f end (u 0 f (omega arith)) (b 0 f (omega arith))))
 
 -- of labels that begin after a line each stops lines where its context begins
-stop_behind_all : (line : Line) (folds : List Fold) (end : Option LineStart)
+stop_after_all : (line : Line) (folds : List Fold) (end : Option LineStart)
     → ((k : ℕ) (d : Fold) → k < length folds → line.end ≤ (get_or folds k d).label.from) →
     nearest_stop line end folds ≡ nearer_of end (first_begun folds)
-stop_behind_all line [] end h = refl
-stop_behind_all line (f ∷ folds) end h =
+stop_after_all line [] end h = refl
+stop_after_all line (f ∷ folds) end h =
     ap (λ b. nearest_stop line (cond b (Some (nearest end f.begun)) (cond (ltb line.start f.label.until)
     (Some (nearest end f.resumed)) end)) folds) (le-leb line.end f.label.from (h 0 f (omega arith)))
-    ∙ stop_behind_all line folds (Some (nearest end f.begun)) (λ k d lt. h (suc k) d (omega (arith, lt)))
+    ∙ stop_after_all line folds (Some (nearest end f.begun)) (λ k d lt. h (suc k) d (omega (arith, lt)))
     ∙ together end f.begun (first_begun folds)
 
-pub stop_near : (line : Line) (all near : List Fold) (first behind : ℕ) (stop : Option LineStart)
-    → IsNear line all first behind → near ≡ take (behind - first) (drop first all) → stop
-    ≡ first_begun (drop behind all) →
+pub stop_near : (line : Line) (all near : List Fold) (first after : ℕ) (stop : Option LineStart)
+    → IsNear line all first after → near ≡ take (after - first) (drop first all) → stop
+    ≡ first_begun (drop after all) →
     nearest_stop line stop near ≡ nearest_stop line None all
-stop_near line all near first behind stop w is s =
+stop_near line all near first after stop w is s =
     let rest : List Fold = drop first all in
-    let some : List Fold = take (behind - first) rest in
-    let later : List Fold = drop (behind - first) rest in
-    let sums : first + (behind - first) ≡ behind = omega (arith, w.order) in
-    let same : later ≡ drop behind all = drop-drop (behind - first) first all ∙ ap (λ n. drop n all) sums in
+    let some : List Fold = take (after - first) rest in
+    let later : List Fold = drop (after - first) rest in
+    let sums : first + (after - first) ≡ after = omega (arith, w.order) in
+    let same : later ≡ drop after all = drop-drop (after - first) first all ∙ ap (λ n. drop n all) sums in
     let own : stop ≡ first_begun later = s ∙ ap first_begun (sym same) in
-    let behinds : nearest_stop line (nearest_stop line None some) later
+    let afters : nearest_stop line (nearest_stop line None some) later
     ≡ nearer_of (nearest_stop line None some) (first_begun later) =
-    stop_behind_all line later (nearest_stop line None some) (λ k d lt.
-    let at : get_or later k d ≡ get_or all (behind + k) d = ap (λ xs. get_or xs k d) same ∙ get_or-drop behind all k d
+    stop_after_all line later (nearest_stop line None some) (λ k d lt.
+    let at : get_or later k d ≡ get_or all (after + k) d = ap (λ xs. get_or xs k d) same ∙ get_or-drop after all k d
     in
-    let inside : behind + k < length all = omega (arith, lt, ap length same, length-drop behind all) in
-    omega (arith, ap (λ (f : Fold). f.label.from) at, w.from (behind + k) d (omega arith) inside)) in
+    let inside : after + k < length all = omega (arith, lt, ap length same, length-drop after all) in
+    omega (arith, ap (λ (f : Fold). f.label.from) at, w.from (after + k) d (omega arith) inside)) in
     ap₂ (λ e xs. nearest_stop line e xs) (own ∙ sym (none_nearer (first_begun later))) is
     ∙ stop_later line some None (first_begun later)
-    ∙ sym behinds ∙ sym (stop_joined line some later None)
-    ∙ ap (nearest_stop line None) (take-append-drop (behind - first) rest)
+    ∙ sym afters ∙ sym (stop_joined line some later None)
+    ∙ ap (nearest_stop line None) (take-append-drop (after - first) rest)
     ∙ stop_dropped line all first None w.until w.begun
 
 -- ---- where a gap ends

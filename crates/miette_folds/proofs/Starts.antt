@@ -162,17 +162,17 @@ run_by_place start bytes from to a b le =
     let ls : List Line = P.lines_from start bytes in
     let d : ℕ = to.place - from.place in
     let left : List Line = drop from.place ls in
-    let behind : List Line = P.lines_from to.offset (drop (to.offset - start) bytes) in
+    let lines_on : List Line = P.lines_from to.offset (drop (to.offset - start) bytes) in
     let sums : from.place + d ≡ to.place = omega (arith, le) in
-    let there : drop d left ≡ behind = drop-drop d from.place ls ∙ ap (λ n. drop n ls) sums ∙ b.lines in
-    let parts : P.lines_from from.offset (drop (from.offset - start) bytes) ≡ take d left ++ behind = sym a.lines
+    let there : drop d left ≡ lines_on = drop-drop d from.place ls ∙ ap (λ n. drop n ls) sums ∙ b.lines in
+    let parts : P.lines_from from.offset (drop (from.offset - start) bytes) ≡ take d left ++ lines_on = sym a.lines
     ∙ sym (take-append-drop d left) ∙ ap (λ xs. take d left ++ xs) there in
     let size : length (take d left) ≡ d = length-take-le d left (omega (arith, le, b.count, length-drop from.place ls))
     in
     record {
       run = take d left;
       parts = parts;
-      cut = cut_part from.offset to.offset (start + length bytes) (take d left) behind
+      cut = cut_part from.offset to.offset (start + length bytes) (take d left) lines_on
           (subst (λ (xs : List Line). IsCut from.offset xs (start + length bytes)) parts
           (begins_cut start bytes from.offset from.place a)) (begins_cut start bytes to.offset to.place b);
       size = omega (arith, size, le);

@@ -90,9 +90,9 @@ fn is_next_hidden(limit: usize, folds: &Folds, at: &PlacedLine<'_>) -> bool
         result ≡ is_hidden limit (lines_of_bytes at.now) (map spread_of labels) (at.now.place + 1)
         (line_at (lines_of_bytes at.now) (at.now.place + 1)) }
 {
-    let behind = at.line.end - at.start;
-    if behind < at.bytes.len() {
-        let next = line_at(at.bytes, at.start, behind);
+    let after = at.line.end - at.start;
+    if after < at.bytes.len() {
+        let next = line_at(at.bytes, at.start, after);
         return is_hidden(limit, folds, at.place + 1, &next);
     }
     false

@@ -75,11 +75,11 @@ fn stops_of(alloc: Global, folds: &[Fold]) -> Result<Vec<LineStart>, AllocError>
 }
 
 // Where the nearest context begins of the labels from this one on.
-fn stop_behind(stops: &[LineStart], behind: usize) -> Option<LineStart>
-    ensures { (folds : List MadeFold) → AreStops folds stops.now → result ≡ first_begun (drop behind folds) }
+fn stop_after(stops: &[LineStart], after: usize) -> Option<LineStart>
+    ensures { (folds : List MadeFold) → AreStops folds stops.now → result ≡ first_begun (drop after folds) }
 {
-    if behind < stops.len() {
-        return Some(stops[stops.len() - 1 - behind]);
+    if after < stops.len() {
+        return Some(stops[stops.len() - 1 - after]);
     }
     None
 }
@@ -118,8 +118,8 @@ impl Folds {
     {
         let near = touching(&self.bounds, line.start, line.end);
         FoldsNear {
-            folds: &self.all[near.first..near.behind],
-            stop: stop_behind(&self.stops, near.behind),
+            folds: &self.all[near.first..near.after],
+            stop: stop_after(&self.stops, near.after),
         }
     }
 }

@@ -47,7 +47,7 @@ fn last_byte(read: &ReadLabel<'_>) -> Result<usize, AllocError>
 }
 
 // The offset after a span, which counts as at least one byte.
-fn behind(span: &SourceSpan) -> Result<usize, AllocError>
+fn end_after(span: &SourceSpan) -> Result<usize, AllocError>
     ensures { IfOk result (λ end. end ≡ max (end_of_span span.now) (span.now.offset + 1)) }
 {
     Ok(end_of(span)?.max(sum(span.offset(), 1)?))
@@ -71,7 +71,7 @@ fn bytes_before(contents: &MietteSpanContents<'_>, offset: usize) -> usize
 }
 
 // The number of the line that stands `lines` lines after the one where a read's bytes begin.
-fn line_behind(contents: &MietteSpanContents<'_>, lines: usize) -> Result<usize, AllocError>
+fn line_after(contents: &MietteSpanContents<'_>, lines: usize) -> Result<usize, AllocError>
     ensures { IfOk result (λ line. line ≡ contents.now.line + lines) }
 {
     sum(contents.line(), lines)
@@ -81,7 +81,7 @@ fn line_behind(contents: &MietteSpanContents<'_>, lines: usize) -> Result<usize,
 fn line_from_front(contents: &MietteSpanContents<'_>, offset: usize) -> Result<usize, AllocError>
     ensures { IfOk result (IsLineIn contents.now offset) }
 {
-    line_behind(
+    line_after(
         contents,
         line_of(contents.data(), bytes_before(contents, offset)),
     )
@@ -95,7 +95,7 @@ fn line_from_back(contents: &MietteSpanContents<'_>, offset: usize) -> Result<us
     let at = bytes_before(contents, offset);
     let rest = &data[at..];
     let ends = line_of(rest, rest.len());
-    line_behind(contents, contents.line_count().saturating_sub(ends))
+    line_after(contents, contents.line_count().saturating_sub(ends))
 }
 
 // A label as it may be folded. Of its lines only those near its ends are looked at.
@@ -116,7 +116,7 @@ fn spread(
         first,
         last,
         from: contents.span().offset(),
-        until: behind(contents.span())?,
+        until: end_after(contents.span())?,
         around: lines_at(context, own, labels, read.index),
         first_line: line_from_front(contents, first)?,
         last_line: line_from_back(contents, last)?,

@@ -26,7 +26,7 @@ pub struct Window {
     /// The index of the first one.
     pub first: usize,
     /// The index after the last one.
-    pub behind: usize,
+    pub after: usize,
 }
 
 /// Labels as they may be folded.
@@ -107,7 +107,7 @@ fn many_before(untils: &[usize], offset: usize) -> usize
 }
 
 // Of how many labels, from the last on, no context begins before an offset, by where they begin at least.
-fn many_behind(froms: &[usize], end: usize) -> usize
+fn many_after(froms: &[usize], end: usize) -> usize
     ensures few { result ≤ length froms.now }
     ensures from { 0 < result → end ≤ slice_index froms.now (result - 1) }
 {
@@ -124,13 +124,13 @@ fn many_behind(froms: &[usize], end: usize) -> usize
 /// The labels that may touch the bytes from one offset up to another, by how far their contexts go.
 pub fn touching(bounds: &ContextReach, start: usize, end: usize) -> Window
     ensures { (labels : List MadeSpread) → AreBounds labels bounds.now.untils.items bounds.now.froms.items →
-        IsWindow start end labels result.first result.behind }
+        IsWindow start end labels result.first result.after }
 {
     let first = many_before(&bounds.untils, start.min(end));
-    let later = many_behind(&bounds.froms, end);
+    let later = many_after(&bounds.froms, end);
     Window {
         first,
-        behind: bounds.untils.len().saturating_sub(later).max(first),
+        after: bounds.untils.len().saturating_sub(later).max(first),
     }
 }
 
@@ -150,6 +150,6 @@ impl Spreads {
             → All (IsNumbered contents) result.now }
     {
         let near = touching(&self.bounds, start, end);
-        &self.all[near.first..near.behind]
+        &self.all[near.first..near.after]
     }
 }

@@ -76,8 +76,8 @@ utf8_before a b u =
     subst IsUtf8 (take-append_seam a (10 ∷ b)) (IsUtf8-take (a ++ 10 ∷ b) (length a) u
     (IsCharBoundary-before_ascii (a ++ 10 ∷ b) (length a) within (omega arith)))
 
-utf8_behind : (a b : List ℕ) → IsUtf8 (a ++ 10 ∷ b) → IsUtf8 b
-utf8_behind a b u =
+utf8_after : (a b : List ℕ) → IsUtf8 (a ++ 10 ∷ b) → IsUtf8 b
+utf8_after a b u =
     let within : length a < length (a ++ 10 ∷ b) = omega (arith, length-append a (10 ∷ b)) in
     let at : get_or (a ++ 10 ∷ b) (length a) 0 ≡ 10 = at_lf a b in
     subst IsUtf8 (drop-append-add a (10 ∷ b) 1) (IsUtf8-drop (a ++ 10 ∷ b) (length a + 1) u
@@ -88,7 +88,7 @@ pub cut_parted : (text a b : List ℕ) → IsUtf8 text → text ≡ a ++ 10 ∷ 
 cut_parted text a b u e h =
     let utf : IsUtf8 (a ++ 10 ∷ b) = subst IsUtf8 e u in
     let ua : IsUtf8 a = utf8_before a b utf in
-    ap (λ bs. cut_at_lf (chars bs)) e ∙ ap cut_at_lf (chars_parted a b ua (utf8_behind a b utf))
+    ap (λ bs. cut_at_lf (chars bs)) e ∙ ap cut_at_lf (chars_parted a b ua (utf8_after a b utf))
     ∙ cut_at (chars a) (chars b) (no_lf_chars a ua h)
 
 -- a text has a first part

@@ -47,7 +47,7 @@ pub fn push_before_marks<O: Canvas>(page: &mut Page<O>, context: &LineContext) -
 }
 
 // The column after the one from which a mark's text hangs.
-fn behind_anchor(mark: &Mark) -> usize
+fn after_anchor(mark: &Mark) -> usize
     requires { IsAnchored mark.now }
     ensures { result ≡ mark.now.anchor + 1 }
 {
@@ -72,7 +72,7 @@ fn push_leaders<O: Canvas>(
     for mark in earlier {
         page.push_blank(mark.anchor.saturating_sub(reached))?;
         page.push_line(mark.label.style, bar, bar, 0)?;
-        reached = behind_anchor(mark);
+        reached = after_anchor(mark);
     }
     page.push_blank(column.saturating_sub(reached))
 }

@@ -24,12 +24,12 @@ pub cuts_char : (rest after : List ℕ) (c n : ℕ) (style : Style) (more : List
     ++ after
     → n ≡ length (encode_utf8 c) → CutsLine after more → CutsLine rest ((n, style) ∷ more)
 cuts_char rest after c n style more utf8 e w cuts =
-    let behind : drop n rest ≡ after =
+    let dropped : drop n rest ≡ after =
     ap (λ k. drop k rest) w ∙ ap (λ bs. drop (length (encode_utf8 c)) bs) e ∙ drop-append_seam (encode_utf8 c) after in
     let P : List ℕ → Type 0 = λ bs. CutsLine bs more in
     let Q : ℕ → Type 0 = λ i. IsCharBoundary rest i in
     let there : n ≡ 0 + len_utf8 c = w ∙ length-encode c ∙ sym (zero-add (len_utf8 c)) in
-    (subst Q (sym there) (IsCharBoundary-past_char rest after 0 c (omega arith) utf8 e), subst P (sym behind) cuts)
+    (subst Q (sym there) (IsCharBoundary-past_char rest after 0 c (omega arith) utf8 e), subst P (sym dropped) cuts)
 
 -- and so with the styles
 pub styles_char : (Goes : ℕ → Style → Type 0) (rest after : List ℕ) (c n : ℕ) (style : Style) (more : List Piece)

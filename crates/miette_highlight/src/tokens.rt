@@ -157,11 +157,11 @@ fn hash_count(text: &[u8]) -> usize
 }
 
 // Whether a byte is a quote with `hashes` hashes after it.
-fn closes_raw(hashes: usize, byte: u8, behind: &[u8]) -> bool
-    ensures closes { result ≡ (byte == 34 && nat_le hashes (hash_count behind.now)) }
-    ensures bound { IsTrue result → hashes ≤ length behind.now }
+fn closes_raw(hashes: usize, byte: u8, after: &[u8]) -> bool
+    ensures closes { result ≡ (byte == 34 && nat_le hashes (hash_count after.now)) }
+    ensures bound { IsTrue result → hashes ≤ length after.now }
 {
-    byte == b'"' && hashes <= hash_count(behind)
+    byte == b'"' && hashes <= hash_count(after)
 }
 
 // Where the first quote with `hashes` hashes after it ends with these, the text beginning at a place.
@@ -253,8 +253,8 @@ fn character_end(delimiters: &Delimiters, start: usize, text: &[u8]) -> Option<F
         return None;
     }
     if escapes_next(delimiters.escape, *first) {
-        let (_, behind) = rest.split_first()?;
-        return held_end(delimiters, true, start + 2, behind);
+        let (_, after) = rest.split_first()?;
+        return held_end(delimiters, true, start + 2, after);
     }
     held_end(delimiters, false, start + 1, rest)
 }

@@ -32,9 +32,9 @@ inside : (pre rest : List ℕ) (x : ℕ) → length pre < length (pre ++ x ∷ r
 inside [] rest x = omega arith
 inside (y ∷ pre) rest x = let h = inside pre rest x in omega (arith, h)
 
-behind : (pre rest : List ℕ) (x : ℕ) → drop (suc (length pre)) (pre ++ x ∷ rest) ≡ rest
-behind [] rest x = refl
-behind (y ∷ pre) rest x = behind pre rest x
+dropped_after : (pre rest : List ℕ) (x : ℕ) → drop (suc (length pre)) (pre ++ x ∷ rest) ≡ rest
+dropped_after [] rest x = refl
+dropped_after (y ∷ pre) rest x = dropped_after pre rest x
 
 cut : (pre rest : List ℕ) (x : ℕ) → x < 128 → IsUtf8 (pre ++ x ∷ rest) → IsUtf8 pre × IsUtf8 rest
 cut pre rest x low u =
@@ -42,7 +42,7 @@ cut pre rest x low u =
     let i : ℕ = length pre in
     let on : i < length bytes = inside pre rest x in
     let here : get_or bytes i 0 < 128 = subst (λ n. n < 128) (sym (at_seam pre rest x)) low in
-    let back : drop (i + 1) bytes ≡ rest = ap (λ n. drop n bytes) (add-one i) ∙ behind pre rest x in (
+    let back : drop (i + 1) bytes ≡ rest = ap (λ n. drop n bytes) (add-one i) ∙ dropped_after pre rest x in (
       subst IsUtf8 (take_at pre (x ∷ rest) (length pre) refl)
           (IsUtf8-take bytes i u (IsCharBoundary-before_ascii bytes i on here)),
       subst IsUtf8 back (IsUtf8-drop bytes (i + 1) u (IsCharBoundary-after_ascii bytes i u on here)),
@@ -62,8 +62,8 @@ scalar_above x h k = grind (arith, nat_tests)
 one_low : (x : ℕ) → x < 128 → IsUtf8 (x ∷ [])
 one_low x low = subst IsUtf8 (encode_ascii x low) (IsUtf8-encode x (scalar_below x (omega arith)))
 
-behind_low : (x : ℕ) (rest : List ℕ) → x < 128 → IsUtf8 rest → IsUtf8 (x ∷ rest)
-behind_low x rest low u = IsUtf8-append (x ∷ []) rest (one_low x low) u
+after_low : (x : ℕ) (rest : List ℕ) → x < 128 → IsUtf8 rest → IsUtf8 (x ∷ rest)
+after_low x rest low u = IsUtf8-append (x ∷ []) rest (one_low x low) u
 
 -- ---- escapes are ASCII
 
@@ -90,12 +90,12 @@ digit_low : (d : ℕ) → d < 16 → digit_char d < 128
 digit_low d h = let e = digit_value-digit_char d (omega arith) in hex_low (digit_char d) (omega (arith, e))
 
 two_low : (x y : ℕ) → x < 128 → y < 128 → IsUtf8 (x ∷ y ∷ [])
-two_low x y a b = behind_low x (y ∷ []) a (one_low y b)
+two_low x y a b = after_low x (y ∷ []) a (one_low y b)
 
 control_utf8 : (x y : ℕ) → x < 128 → y < 128 → IsUtf8 (92 ∷ 117 ∷ 48 ∷ 48 ∷ x ∷ y ∷ [])
 control_utf8 x y a b =
-    behind_low 92 _ (omega arith) (behind_low 117 _ (omega arith)
-    (behind_low 48 _ (omega arith) (behind_low 48 _ (omega arith) (two_low x y a b))))
+    after_low 92 _ (omega arith) (after_low 117 _ (omega arith)
+    (after_low 48 _ (omega arith) (after_low 48 _ (omega arith) (two_low x y a b))))
 
 no_letter_low : (x : ℕ) → is_escaped x ≡ true → escape_letter x ≡ 0 → x < 32
 no_letter_low x e n = grind (arith, nat_tests)
@@ -130,12 +130,12 @@ escaped_utf8 [] pre u = u
 escaped_utf8 (x ∷ s) pre u = escaped_step pre x s (is_escaped x) refl u (escaped_utf8 s)
 
 quoted_utf8 : (s : List ℕ) → IsUtf8 s → IsUtf8 (quoted_text s)
-quoted_utf8 s u = behind_low 34 _ (omega arith) (IsUtf8-append (escaped_text s) (34 ∷ []) (escaped_utf8 s [] u)
+quoted_utf8 s u = after_low 34 _ (omega arith) (IsUtf8-append (escaped_text s) (34 ∷ []) (escaped_utf8 s [] u)
     (one_low 34 (omega arith)))
 
 digits_utf8 : (ds : List ℕ) → AreDigits ds → IsUtf8 ds
 digits_utf8 [] d = IsUtf8-nil
-digits_utf8 (x ∷ ds) d = let l = d.0.1 in behind_low x ds (omega (arith, l)) (digits_utf8 ds d.1)
+digits_utf8 (x ∷ ds) d = let l = d.0.1 in after_low x ds (omega (arith, l)) (digits_utf8 ds d.1)
 
 numeral_utf8 : (n : ℕ) → IsUtf8 (numeral n)
 numeral_utf8 n =
@@ -148,7 +148,7 @@ member_utf8 : (k value more : List ℕ) → IsUtf8 k → IsUtf8 value → IsUtf8
     → IsUtf8 (quoted_text k ++ (58 ∷ 32 ∷ (value ++ more)))
 member_utf8 k value more a b c =
     IsUtf8-append (quoted_text k) (58 ∷ 32 ∷ (value ++ more)) (quoted_utf8 k a)
-    (behind_low 58 _ (omega arith) (behind_low 32 _ (omega arith) (IsUtf8-append value more b c)))
+    (after_low 58 _ (omega arith) (after_low 32 _ (omega arith) (IsUtf8-append value more b c)))
 
 then_utf8 : {x y : List ℕ} {P : Type 0} → IsUtf8 x → IsUtf8 y × P → IsUtf8 (x ++ y) × P
 then_utf8 a b = (IsUtf8-append _ _ a b.0, b.1)
@@ -157,8 +157,8 @@ mutual
   value_utf8 : (v : Json) (ts : List Token) → TextsAreUtf8 (tokens_then v ts) → IsUtf8 (json_text v) × TextsAreUtf8 ts
   value_utf8 (number n) ts t = (numeral_utf8 n, t)
   value_utf8 (string s) ts t = (quoted_utf8 s t.0, t.1)
-  value_utf8 (array is) ts t = let r = items_utf8 is ts t in (behind_low 91 _ (omega arith) r.0, r.1)
-  value_utf8 (object ms) ts t = let r = members_utf8 ms ts t in (behind_low 123 _ (omega arith) r.0, r.1)
+  value_utf8 (array is) ts t = let r = items_utf8 is ts t in (after_low 91 _ (omega arith) r.0, r.1)
+  value_utf8 (object ms) ts t = let r = members_utf8 ms ts t in (after_low 123 _ (omega arith) r.0, r.1)
 
   items_utf8 : (is : Items) (ts : List Token) → TextsAreUtf8 (items_then is ts) → IsUtf8 (items_text is)
       × TextsAreUtf8 ts
@@ -173,7 +173,7 @@ mutual
   more_items_utf8 (item v more) ts t =
       let a = value_utf8 v (more_items_then more ts) t in
       let b = then_utf8 a.0 (more_items_utf8 more ts a.1) in
-      (behind_low 44 _ (omega arith) b.0, b.1)
+      (after_low 44 _ (omega arith) b.0, b.1)
 
   members_utf8 : (ms : Members) (ts : List Token) → TextsAreUtf8 (members_then ms ts) → IsUtf8 (members_text ms)
       × TextsAreUtf8 ts
@@ -189,7 +189,7 @@ mutual
   more_members_utf8 (member k v more) ts t =
       let a = value_utf8 v (more_members_then more ts) t.1 in
       let b = more_members_utf8 more ts a.1 in
-      (behind_low 44 _ (omega arith) (member_utf8 k (json_text v) (more_members_text more) t.0 a.0 b.0), b.1)
+      (after_low 44 _ (omega arith) (member_utf8 k (json_text v) (more_members_text more) t.0 a.0 b.0), b.1)
 
 pub spelling_utf8_lem : (v : Json) → HasUtf8Texts v → IsUtf8 (json_text v)
 spelling_utf8_lem v texts = (value_utf8 v [] texts).0
@@ -227,17 +227,17 @@ pieces_utf8 (plain x ∷ ps) pre rest r u =
 pieces_utf8 (short l ∷ ps) pre rest r u =
     let c = cut pre (l ∷ all_written ps (34 ∷ rest)) 92 (omega arith) u in
     let q = pieces_utf8 ps [] rest r.1 (past l _ (short_low l r.0) c.1) in
-    (IsUtf8-append pre _ c.0 (behind_low (short_for l) _ (short_value_low l) q.0), q.1)
+    (IsUtf8-append pre _ c.0 (after_low (short_for l) _ (short_value_low l) q.0), q.1)
 pieces_utf8 (unit x y z w ∷ ps) pre rest r u =
     let more : List ℕ = all_written ps (34 ∷ rest) in
     let c = cut pre (117 ∷ x ∷ y ∷ z ∷ w ∷ more) 92 (omega arith) u in
-    let q = pieces_utf8 ps [] rest r.1 (past_hex x y z w more r.0.0 (behind_low 92 _ (omega arith) c.1)) in
+    let q = pieces_utf8 ps [] rest r.1 (past_hex x y z w more r.0.0 (after_low 92 _ (omega arith) c.1)) in
     let means = IsUtf8-encode (hex x y z w) (unit_scalar _ (hex_bound x y z w r.0.0) r.0.1) in
     (IsUtf8-append pre _ c.0 (IsUtf8-append _ (all_meant ps) means q.0), q.1)
 pieces_utf8 (pair x y z w i j k l ∷ ps) pre rest r u =
     let more : List ℕ = all_written ps (34 ∷ rest) in
     let c = cut pre (117 ∷ x ∷ y ∷ z ∷ w ∷ 92 ∷ 117 ∷ i ∷ j ∷ k ∷ l ∷ more) 92 (omega arith) u in
-    let first = past_hex x y z w (92 ∷ 117 ∷ i ∷ j ∷ k ∷ l ∷ more) r.0.0 (behind_low 92 _ (omega arith) c.1) in
+    let first = past_hex x y z w (92 ∷ 117 ∷ i ∷ j ∷ k ∷ l ∷ more) r.0.0 (after_low 92 _ (omega arith) c.1) in
     let q = pieces_utf8 ps [] rest r.1 (past_hex i j k l more r.0.1 first) in
     let means = IsUtf8-encode _ (pair_scalar (hex x y z w) (hex i j k l) r.0.2 r.0.3 r.0.4 r.0.5) in
     (IsUtf8-append pre _ c.0 (IsUtf8-append _ (all_meant ps) means q.0), q.1)

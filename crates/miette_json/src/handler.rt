@@ -26,7 +26,7 @@ impl JSONReportHandler {
         JSONReportHandler
     }
 
-    /// Appends the report's JSON text. After an error, which is want of memory, `out` is as before.
+    /// Appends the report's JSON text. After an error, where memory is refused, `out` is as before.
     pub fn render_report(&self, report: &Report, out: &mut String) -> Result<(), RenderError>
         // The text is the spelling of a value that the report has; it stands for that value, and for no other.
         ensures text { let tree = tree_of ⟦<Box<dyn Diagnostic> as Diagnostic>⟧.meaning

@@ -11,7 +11,7 @@ use crate::text::push_quoted;
 use std::alloc::AllocError;
 
 /// A key that stands for itself after what stands before it, up to its value.
-fn push_behind(out: &mut String, before: &str, key: &str) -> Result<(), AllocError>
+fn push_after(out: &mut String, before: &str, key: &str) -> Result<(), AllocError>
     requires { position is_escaped key.now ≡ None }
     ensures { OnOk result (string_bytes out.new
         ≡ string_bytes out.old ++ (before.now ++ (escaped_text key.now ++ 34 ∷ 58 ∷ 32 ∷ []))) }
@@ -26,7 +26,7 @@ pub(crate) fn push_name(out: &mut String, key: &str) -> Result<(), AllocError>
     requires { position is_escaped key.now ≡ None }
     ensures { OnOk result (string_bytes out.new ≡ string_bytes out.old ++ name_text key.now) }
 {
-    push_behind(out, "\"", key)
+    push_after(out, "\"", key)
 }
 
 /// What begins an object: a brace, its first key, and what stands between a key and its value.
@@ -35,7 +35,7 @@ pub(crate) fn push_first_key(out: &mut String, key: &str) -> Result<(), AllocErr
     ensures { OnOk result (string_bytes out.new
         ≡ string_bytes out.old ++ first_key_text key.now) }
 {
-    push_behind(out, "{\"", key)
+    push_after(out, "{\"", key)
 }
 
 /// A comma, the key, and what stands between a key and its value.
@@ -43,7 +43,7 @@ pub(crate) fn push_key(out: &mut String, key: &str) -> Result<(), AllocError>
     requires { position is_escaped key.now ≡ None }
     ensures { OnOk result (string_bytes out.new ≡ string_bytes out.old ++ key_text key.now) }
 {
-    push_behind(out, ",\"", key)
+    push_after(out, ",\"", key)
 }
 
 /// A comma, the key of a list, and its bracket.

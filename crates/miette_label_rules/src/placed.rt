@@ -14,5 +14,5 @@ pub struct PlacedLabel<'a> {
     /// Its text, if it has one.
     pub text: Option<&'a str>,
     /// Whether it stands after the text of its line.
-    pub behind: bool,
+    pub after_text: bool,
 }

@@ -43,19 +43,19 @@ text_is (l ∷ ls) (suc i) = text_is ls i
 abbrev pub end_told : Bool → ℕ → Option ℕ
 end_told ends n = cond ends (Some n) None
 
-behind_is : (ends : Bool) (n offset : ℕ) → begins_at_end (end_told ends n) offset ≡ (ends && eqb offset n)
-behind_is true n offset = refl
-behind_is false n offset = refl
+after_is : (ends : Bool) (n offset : ℕ) → begins_at_end (end_told ends n) offset ≡ (ends && eqb offset n)
+after_is true n offset = refl
+after_is false n offset = refl
 
 -- a label at this offset and with this end, at the byte before where it stands after its line's text
 abbrev made : Style → List (List ℕ) → Bool → ℕ → ℕ → DrawnLabel
-made style parts behind offset after = record {
-  start = cond behind (offset - 1) offset;
+made style parts after_text offset after = record {
+  start = cond after_text (offset - 1) offset;
   after =
-      cond behind (offset - 1) after;
+      cond after_text (offset - 1) after;
   style = style;
   parts = parts;
-  behind = behind;
+  after_text = after_text;
 }
 
 at_last : (style : Style) (parts : List (List ℕ)) (ends : Bool) (n offset after : ℕ) →
@@ -66,7 +66,7 @@ at_last : (style : Style) (parts : List (List ℕ)) (ends : Bool) (n offset afte
           cond (ends && eqb offset n) (n - 1) after;
       style = style;
       parts = parts;
-      behind = ends && eqb offset n;
+      after_text = ends && eqb offset n;
     }
 at_last style parts false n offset after = refl
 at_last style parts true n offset after =
@@ -77,9 +77,9 @@ at_last style parts true n offset after =
       style =
           style;
       parts = parts;
-      behind = eqb offset n;
+      after_text = eqb offset n;
     }} (eqb offset n)
-    (λ t. rw t (ap (λ x. record { start = x - 1; after = x - 1; style = style; parts = parts; behind = true })
+    (λ t. rw t (ap (λ x. record { start = x - 1; after = x - 1; style = style; parts = parts; after_text = true })
     (eqb-true offset n t)))
     (λ f. rw f refl)
 
@@ -94,7 +94,7 @@ one_is ends styles context source labels i r h =
     let style : Style = style_at styles i in
     let parts : List (List ℕ) = parts_of (text_at labels r.index) in
     let drawn : Span → ℕ = λ s. max s.offset (min (end_of_span s) n) in
-    ap (λ b. made style parts b r.span.offset (end_drawn r)) (behind_is ends n r.span.offset)
+    ap (λ b. made style parts b r.span.offset (end_drawn r)) (after_is ends n r.span.offset)
     ∙ ap (made style parts (ends && eqb r.span.offset n) r.span.offset) (end_is context source labels r h)
     ∙ ap (λ s. made style parts (ends && eqb s.offset n) s.offset (drawn l.span)) h.span
     ∙ ap (λ t. made style (parts_of t) (ends && eqb l.span.offset n) l.span.offset (drawn l.span))

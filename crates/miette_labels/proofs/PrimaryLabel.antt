@@ -19,15 +19,15 @@ pub begins_before : (own : Bool) (group span : Span) → ltb span.offset group.o
     ≡ false
 begins_before own group span h = rw (lt_not span.offset group.offset h) refl
 
-pub ends_behind : (own : Bool) (span : Span) → span.offset ≤ end_within own span
-ends_behind true span = omega arith
-ends_behind false span = omega arith
+pub ends_after : (own : Bool) (span : Span) → span.offset ≤ end_within own span
+ends_after true span = omega arith
+ends_after false span = omega arith
 
-pub begins_behind : (own : Bool) (group span : Span) → leb span.offset (end_of_span group) ≡ false
+pub begins_after : (own : Bool) (group span : Span) → leb span.offset (end_of_span group) ≡ false
     → lies_within own group span ≡ false
-begins_behind own group span h =
+begins_after own group span h =
     let f : leb (end_within own span) (end_of_span group) ≡ false =
-    later_not span.offset (end_within own span) (end_of_span group) h (ends_behind own span) in
+    later_not span.offset (end_within own span) (end_of_span group) h (ends_after own span) in
     by_cases {C = lies_within own group span ≡ false} (leb group.offset span.offset) (λ t. rw (t, f) refl)
     (λ g. rw g refl)
 
@@ -77,4 +77,4 @@ pub near_chosen : (own : Bool) (group : Span) (a b m : ℕ) (reads : List ReadLa
 near_chosen own group a b m reads ma mb bl low high =
     between_chosen own group None m (b - m) reads
     (λ j d lm lt. begins_before own group (get_or reads j d).span (low j d (omega (arith, lm, ma))))
-    (λ j d le lt. begins_behind own group (get_or reads j d).span (high j d (omega (arith, le, mb)) lt))
+    (λ j d le lt. begins_after own group (get_or reads j d).span (high j d (omega (arith, le, mb)) lt))

@@ -88,10 +88,10 @@ fn placed_one<'a>(
     ensures { IfOk result (λ placed. placed_of placed ≡ placed_one end styles.now i labels.now read.now) }
 {
     let offset = read.span.offset();
-    let behind = begins_at_end(end, offset);
+    let after_text = begins_at_end(end, offset);
     let before = offset.saturating_sub(1);
     let drawn = drawn_end(read)?;
-    let (start, after) = if behind {
+    let (start, after) = if after_text {
         (before, before)
     } else {
         (offset, drawn)
@@ -101,7 +101,7 @@ fn placed_one<'a>(
         after,
         style: style_of(styles, i),
         text: text_of(labels, read.index),
-        behind,
+        after_text,
     })
 }
 

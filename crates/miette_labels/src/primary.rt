@@ -82,7 +82,7 @@ fn primary(
 
 // Of labels by offset those that begin in a span or where it ends, found by halving: the span's primary label is
 // among them.
-pub fn near<'r, 'a>(
+pub fn reads_near<'r, 'a>(
     own: bool,
     span: &SourceSpan,
     reads: &'r [ReadLabel<'a>],

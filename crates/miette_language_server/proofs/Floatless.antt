@@ -36,7 +36,7 @@ use Rattle.miette_language_server.specs.rules.Members.{id_alone, is_id, region_a
 use Rattle.miette_language_server.specs.rules.Messages.{answer, error_value, publication, refused, server_value}
 use Rattle.miette_language_server.specs.rules.Session.{Effect, State, actions_value, asked_first, asked_in}
 use Rattle.miette_language_server.specs.rules.Session.{asked_then, called}
-use Rattle.miette_language_server.specs.rules.Session.{closed, ended, held, message_of, noticed, alone, noticed_in}
+use Rattle.miette_language_server.specs.rules.Session.{closed, ended, held, message_of, noticed, exit_alone, noticed_in}
 use Rattle.miette_language_server.specs.rules.Session.{notice_named, nothing, published, request_named, step, still}
 use Rattle.miette_language_server.specs.rules.Session.{told, written}
 use Rattle.serde_json.specs.View.{view}
@@ -242,7 +242,7 @@ noticed_floatless s d Closed = closed_floatless s (uri_in d)
 noticed_floatless s d Exit = omega arith
 noticed_floatless s d Ignored = tt
 
-alone_floatless : (status : ℕ) (notice : Notice) → status < 3 → IsFloatless (alone status notice)
+alone_floatless : (status : ℕ) (notice : Notice) → status < 3 → IsFloatless (exit_alone status notice)
 alone_floatless status Opened lt = tt
 alone_floatless status Changed lt = tt
 alone_floatless status Saved lt = tt

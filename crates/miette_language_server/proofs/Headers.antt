@@ -39,13 +39,13 @@ pub within_row : (known : Option ℕ) (row : List ℕ) (b : ℕ) (ys : List ℕ)
     → length_from known row (b ∷ ys) ≡ length_from known (row ++ b ∷ []) ys
 within_row known row b ys h = rw h refl
 
-pub behind_row : (known : Option ℕ) (row : List ℕ) (b : ℕ) (ys : List ℕ) → eqb b 10 ≡ true → is_empty_row row ≡ false
+pub after_row : (known : Option ℕ) (row : List ℕ) (b : ℕ) (ys : List ℕ) → eqb b 10 ≡ true → is_empty_row row ≡ false
     → length_from known row (b ∷ ys) ≡ length_from (option_or (row_length row) known) [] ys
-behind_row known row b ys h more = rw (h, more) refl
+after_row known row b ys h more = rw (h, more) refl
 
-pub behind_all : (known : Option ℕ) (row : List ℕ) (b : ℕ) (ys : List ℕ) → eqb b 10 ≡ true → is_empty_row row ≡ true
+pub after_all : (known : Option ℕ) (row : List ℕ) (b : ℕ) (ys : List ℕ) → eqb b 10 ≡ true → is_empty_row row ≡ true
     → length_from known row (b ∷ ys) ≡ known_length known ys
-behind_all known row b ys h none = rw (h, none) refl
+after_all known row b ys h none = rw (h, none) refl
 
 -- one more byte of a row
 pub more_of_row : (known : Option ℕ) (row : List ℕ) (b : ℕ) (old mid new : Option (List ℕ)) (size : Option ℕ) → b ≢ 10
@@ -64,7 +64,7 @@ more_rows known row b None mid new size is more n h = tt
 more_rows known row b (Some xs) None new size is more n h = absurd n
 more_rows known row b (Some xs) (Some ys) new size is more n h =
     header_by known (option_or (row_length row) known) row [] xs ys new size
-    (ap (length_from known row) n ∙ behind_row known row b ys (eq-eqb b 10 is) more) h
+    (ap (length_from known row) n ∙ after_row known row b ys (eq-eqb b 10 is) more) h
 
 known_here : (known : Option ℕ) (row xs ys : List ℕ) → length_from known row xs ≡ known_length known ys
     → IsHeaderFrom known row (Some xs) (Some ys) known
@@ -77,7 +77,7 @@ pub no_more_rows : (known : Option ℕ) (row : List ℕ) (b : ℕ) (old mid : Op
 no_more_rows known row b None mid is none n = tt
 no_more_rows known row b (Some xs) None is none n = absurd n
 no_more_rows known row b (Some xs) (Some ys) is none n =
-    known_here known row xs ys (ap (length_from known row) n ∙ behind_all known row b ys (eq-eqb b 10 is) none)
+    known_here known row xs ys (ap (length_from known row) n ∙ after_all known row b ys (eq-eqb b 10 is) none)
 
 -- the end of all
 pub no_header : (known : Option ℕ) (row : List ℕ) (old new : Option (List ℕ)) → IsNext old new None

@@ -54,9 +54,9 @@ none_named uri (e ∷ ds) le document is = by_cases
     let own : bytes_eq e.uri document.uri ≡ false = ap (bytes_eq e.uri) is ∙ f in
     (rw own (ap (λ l. e ∷ l) rest.0), rw f (ap (λ l. e ∷ l) rest.1)))
 
-pub put_behind : (ds : List OpenDocument) (document : OpenDocument) → position (is_named document.uri) ds ≡ None
+pub put_after : (ds : List OpenDocument) (document : OpenDocument) → position (is_named document.uri) ds ≡ None
     → with_document ds document ≡ ds ++ document ∷ []
-put_behind ds document h =
+put_after ds document h =
     (none_named document.uri ds (not_found _ (length ds) h) document refl).0
 
 pub none_out : (ds : List OpenDocument) (uri : List ℕ) → position (is_named uri) ds ≡ None → without ds uri ≡ ds

@@ -16,7 +16,7 @@ use Rattle.miette_language_server.specs.rules.Frames.{is_empty_row, length_from,
 use Rattle.miette_language_server.specs.rules.Frames.{trimmed}
 use Rattle.miette_language_server.specs.rules.Frames.{with_digit, without_leading, without_trailing}
 use Rattle.miette_language_server.proofs.Bodies.{cut_at, cut_whole}
-use Rattle.miette_language_server.proofs.Headers.{behind_all, behind_row, within_row}
+use Rattle.miette_language_server.proofs.Headers.{after_all, after_row, within_row}
 
 -- ---- digits
 
@@ -189,10 +189,10 @@ header_read n rest fits =
     ap (length_from None []) (append_assoc row (codes "\r\n\r\n") rest)
     ∙ row_within None [] row (13 ∷ 10 ∷ 13 ∷ 10 ∷ rest) free
     ∙ within_row None row 13 (10 ∷ 13 ∷ 10 ∷ rest) refl
-    ∙ behind_row None end 10 (13 ∷ 10 ∷ rest) refl (not_empty n ds h)
+    ∙ after_row None end 10 (13 ∷ 10 ∷ rest) refl (not_empty n ds h)
     ∙ ap (λ o. length_from (option_or o None) [] (13 ∷ 10 ∷ rest)) (length_told n ds h)
     ∙ within_row (Some n) [] 13 (10 ∷ rest) refl
-    ∙ behind_all (Some n) (13 ∷ []) 10 rest refl refl
+    ∙ after_all (Some n) (13 ∷ []) 10 rest refl refl
 
 pub read_back : (body rest : List ℕ) → length body < 2 ^ 64
     → first_frame (framed body ++ rest) ≡ Some (record { body = body; rest = rest })

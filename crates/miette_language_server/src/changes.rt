@@ -30,7 +30,7 @@ fn spliced(
     let mut made = Vec::new(alloc);
     made.extend_from_slice(before(source, from))?;
     made.extend_from_slice(text.as_bytes())?;
-    made.extend_from_slice(behind(source, from.max(to)))?;
+    made.extend_from_slice(after_offset(source, from.max(to)))?;
     Ok(made)
 }
 
@@ -46,7 +46,7 @@ fn before(source: &[u8], at: usize) -> &[u8]
 }
 
 // The bytes from an offset on, none where it is after the end.
-fn behind(source: &[u8], at: usize) -> &[u8]
+fn after_offset(source: &[u8], at: usize) -> &[u8]
     ensures { result.now ≡ drop at source.now }
 {
     if at < source.len() {

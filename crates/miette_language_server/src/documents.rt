@@ -89,7 +89,10 @@ pub(crate) fn document_in<'d>(documents: &'d [Document], message: &Value) -> Opt
 }
 
 /// One more document, in place of one with the same uri.
-pub(crate) fn put(documents: &mut Vec<Document>, document: Document) -> Result<(), AllocError>
+pub(crate) fn put_document(
+    documents: &mut Vec<Document>,
+    document: Document,
+) -> Result<(), AllocError>
     ensures { OnOk result (documents.new.items ≡ with_document documents.old.items document) }
 {
     match place_of(documents.as_slice(), document.uri()) {

@@ -3,13 +3,15 @@
 ghost use Rattle.std.specs.Prelude.{◌≡◌, IfOk, option_map};
 ghost use Rattle.serde_json.specs.View.{view};
 ghost use Rattle.miette_language_server.specs.rules.Session.{asked_first, asked_in, asked_then, called, first_state};
-ghost use Rattle.miette_language_server.specs.rules.Session.{message_of, alone, noticed, noticed_in, step, told};
+ghost use Rattle.miette_language_server.specs.rules.Session.{message_of, exit_alone, noticed, noticed_in, step, told};
 ghost use Rattle.miette_language_server.specs.rules.Session.{actions_value, closed, held};
 ghost use Rattle.miette_language_server.specs.views.Answered.{IsStep, outcome_of};
 
 use crate::actions::actions_in;
 use crate::diagnostics::{diagnostics_of, published_value};
-use crate::documents::{Document, changed_in, document_in, opened_in, put, take_out, uri_in};
+use crate::documents::{
+    Document, changed_in, document_in, opened_in, put_document, take_out, uri_in,
+};
 use crate::members::{id_of, region_at, text_at};
 use crate::messages::{Refusal, answer, publication, refused, server_value};
 use crate::names::{Notice, Request, notice_named, request_named};
@@ -68,8 +70,8 @@ fn message_of(alloc: Global, body: &[u8]) -> Result<Option<Value>, AllocError>
 }
 
 // What the server does at a notification where `exit` alone is heard.
-fn alone(status: u8, notice: Notice) -> Outcome
-    ensures { outcome_of result ≡ alone status notice }
+fn exit_alone(status: u8, notice: Notice) -> Outcome
+    ensures { outcome_of result ≡ exit_alone status notice }
 {
     match notice {
         Notice::Exit => Outcome::Ended(status),
@@ -172,7 +174,7 @@ impl Session {
     {
         let params = diagnostics_of(alloc, self.width, &document)?;
         let written = publication(alloc, params)?;
-        put(&mut self.documents, document)?;
+        put_document(&mut self.documents, document)?;
         Ok(Outcome::Written(written))
     }
 
@@ -251,9 +253,9 @@ impl Session {
             (IsStep (noticed_in self.old.phase self.old (view message.now) notice) self.new) }
     {
         match self.phase {
-            Phase::Waiting => Ok(alone(1, notice)),
+            Phase::Waiting => Ok(exit_alone(1, notice)),
             Phase::Running => self.noticed(alloc, message, notice),
-            Phase::Stopping => Ok(alone(0, notice)),
+            Phase::Stopping => Ok(exit_alone(0, notice)),
         }
     }
 

@@ -71,10 +71,10 @@ told_there source offset before len held le is from much = record {
 }
 
 -- they have bytes before it
-pub told_behind : (source : Source) (offset before len : ℕ) (held : Contents) → offset ≤ length source.bytes
+pub told_after : (source : Source) (offset before len : ℕ) (held : Contents) → offset ≤ length source.bytes
     → held ≡ contents 1 source (record { offset = offset; len = 0 }) → before ≡ offset - held.span.offset
     → len ≡ held.span.len → 0 < before → TellsEnd source offset (eqb before len)
-told_behind source offset before len held le is from much some =
+told_after source offset before len held le is from much some =
     subst (λ (b : Bool). TellsEnd source offset b) (ap (λ b. b && eqb before len) (lt-ltb 0 before some))
     (told_there source offset before len held le is from much)
 

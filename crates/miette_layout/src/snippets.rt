@@ -19,7 +19,7 @@ use miette_highlight::highlight::Highlighter;
 use miette_labels::drawn_labels::{known_end, placed_labels};
 use miette_labels::grouping::groups;
 use miette_labels::order::by_offset;
-use miette_labels::primary::{near, place_of};
+use miette_labels::primary::{place_of, reads_near};
 use miette_labels::reading::{ReadLabel, ReadLabels, RefusalReason, read_labels, some_own};
 use miette_labels::sweep::Sweep;
 use miette_page::canvas::Canvas;
@@ -95,7 +95,7 @@ fn read_snippets<'a, 'b, S: SourceCode, H: Highlighter, O: Canvas + Drop>(
         at: 0,
     };
     for group in &groups {
-        let near = near(own, &group.span, reads)?;
+        let near = reads_near(own, &group.span, reads)?;
         let place = place_of(source, own, group.contents.known(), &group.span, near)?;
         if place.is_unread() {
             return Ok(None);

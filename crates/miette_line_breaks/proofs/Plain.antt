@@ -8,8 +8,8 @@ use Rattle.ucd_breaks.specs.declared.LineBreak.TheVariants.{Alphabetic}
 use Rattle.miette_line_breaks.specs.declared.opportunity.BreakOpportunity.TheVariants.{Allowed}
 use Rattle.miette_line_breaks.specs.declared.state.State.{State}
 use Rattle.miette_line_breaks.specs.rules.Characters.{lone_mark}
-use Rattle.miette_line_breaks.specs.steps.States.{break_in, is_alphabetic, is_in_word, is_plain, spaced, state_behind}
-use Rattle.miette_line_breaks.specs.views.Places.{behind, found_before}
+use Rattle.miette_line_breaks.specs.steps.States.{break_in, is_alphabetic, is_in_word, is_plain, spaced, state_after}
+use Rattle.miette_line_breaks.specs.views.Places.{after_code, found_before}
 use Rattle.miette_line_breaks.proofs.AsciiClasses.{alphabetic_is, letter-is, space-is, space_character}
 
 -- after a letter, or spaces after it
@@ -56,32 +56,32 @@ letter-found : (b : Bool) → break_in (plain_state b) lone_mark ≡ (if b then 
 letter-found true = refl
 letter-found false = refl
 
-letter-behind : (b : Bool) → state_behind (plain_state b) lone_mark ≡ plain_state false
-letter-behind true = refl
-letter-behind false = refl
+letter-after : (b : Bool) → state_after (plain_state b) lone_mark ≡ plain_state false
+letter-after true = refl
+letter-after false = refl
 
 space-found : (b : Bool) → break_in (plain_state b) space_character ≡ None
 space-found true = refl
 space-found false = refl
 
-space-behind : (b : Bool) → state_behind (plain_state b) space_character ≡ plain_state true
-space-behind true = refl
-space-behind false = refl
+space-after : (b : Bool) → state_after (plain_state b) space_character ≡ plain_state true
+space-after true = refl
+space-after false = refl
 
 pub plain-letter : (s : State) (c : ℕ) → is_plain s ≡ true → is_ascii_alphabetic c ≡ true →
-    (found_before s c ≡ (if s.is_spaced then Some Allowed else None)) × (behind s c ≡ spaced false s)
+    (found_before s c ≡ (if s.is_spaced then Some Allowed else None)) × (after_code s c ≡ spaced false s)
 plain-letter s c h l =
     let e = plain-is s h in
     let x = letter-is c l in (
       ap₂ break_in e x ∙ letter-found s.is_spaced,
-      ap₂ state_behind e x ∙ letter-behind s.is_spaced ∙ ap (spaced false) (sym e),
+      ap₂ state_after e x ∙ letter-after s.is_spaced ∙ ap (spaced false) (sym e),
     )
 
-pub plain-space : (s : State) → is_plain s ≡ true → (found_before s 32 ≡ None) × (behind s 32 ≡ spaced true s)
+pub plain-space : (s : State) → is_plain s ≡ true → (found_before s 32 ≡ None) × (after_code s 32 ≡ spaced true s)
 plain-space s h =
     let e = plain-is s h in (
       ap₂ break_in e space-is ∙ space-found s.is_spaced,
-      ap₂ state_behind e space-is ∙ space-behind s.is_spaced ∙ ap (spaced true) (sym e),
+      ap₂ state_after e space-is ∙ space-after s.is_spaced ∙ ap (spaced true) (sym e),
     )
 
 no-spaces : (b : Bool) → not b ≡ true → b ≡ false
@@ -89,7 +89,7 @@ no-spaces true h = absurd (cc)
 no-spaces false h = refl
 
 pub in-word : (s : State) (c : ℕ) → is_in_word s ≡ true → is_ascii_alphabetic c ≡ true →
-    (found_before s c ≡ None) × (behind s c ≡ s)
+    (found_before s c ≡ None) × (after_code s c ≡ s)
 in-word s c h l =
     let p = and_parts (not s.is_spaced) (is_plain s) h in
     let r = plain-letter s c p.1 l in

@@ -18,9 +18,9 @@ use Rattle.miette_line_breaks.specs.declared.state.State.{State}
 use Rattle.miette_line_breaks.specs.rules.Characters.{character_of, lone_mark}
 use Rattle.miette_line_breaks.specs.rules.Classes.{is_joiner, is_mark, is_regional, is_space}
 use Rattle.miette_line_breaks.specs.steps.Printable.{kind_character, row_state}
-use Rattle.miette_line_breaks.specs.steps.States.{attaches, base_behind, break_in, ends_hebrew, is_empty, is_lone}
-use Rattle.miette_line_breaks.specs.steps.States.{is_start, joined_behind, state_behind}
-use Rattle.miette_line_breaks.specs.views.Places.{behind}
+use Rattle.miette_line_breaks.specs.steps.States.{attaches, base_after, break_in, ends_hebrew, is_empty, is_lone}
+use Rattle.miette_line_breaks.specs.steps.States.{is_start, joined_after, state_after}
+use Rattle.miette_line_breaks.specs.views.Places.{after_code}
 use Rattle.miette_line_breaks.specs.views.Printable.{begins, is_printable}
 use Rattle.miette_line_breaks.proofs.AsciiClasses.{ascii-is, same_class, space-is}
 use Rattle.miette_line_breaks.proofs.Plain.{made, none-counts}
@@ -151,8 +151,8 @@ same-is a b h =
     (same_from_beq a.has_half_flag b.has_half_flag q.1)
 
 -- the row after a character: that of the table, or by the class alone
-abbrev row_behind : ℕ → ℕ → ℕ
-row_behind row k = if nat_lt (next_of row k) 28 then next_of row k else k
+abbrev row_after : ℕ → ℕ → ℕ
+row_after row k = if nat_lt (next_of row k) 28 then next_of row k else k
 
 abbrev breaks : ℕ → ℕ → Bool
 breaks row k = is_some (break_in (row_state row) (kind_character k))
@@ -160,7 +160,7 @@ breaks row k = is_some (break_in (row_state row) (kind_character k))
 abbrev step_test : ℕ → ℕ → Bool
 step_test row k =
     beq (breaks row k) (next_of row k == 28) && nat_lt (next_of row k) 30
-    && same_state (state_behind (row_state row) (kind_character k)) (row_state (row_behind row k))
+    && same_state (state_after (row_state row) (kind_character k)) (row_state (row_after row k))
     && (not (k == 12) || nat_le 28 (next_of row k)) && (not (next_of row k == 29) || (k == 12))
 
 step-tests : all_below (λ row. all_below (step_test row) 14) 28 ≡ true
@@ -174,21 +174,21 @@ other-tests = refl
 record Transition (row k : ℕ) : Type 0 where
   breaks : breaks row k ≡ (next_of row k == 28)
   small : nat_lt (next_of row k) 30 ≡ true
-  behind : state_behind (row_state row) (kind_character k) ≡ row_state (row_behind row k)
+  after : state_after (row_state row) (kind_character k) ≡ row_state (row_after row k)
   hyphen : (not (k == 12) || nat_le 28 (next_of row k)) ≡ true
   only : (not (next_of row k == 29) || (k == 12)) ≡ true
 
 transition-is : (row k : ℕ) → row < 28 → k < 14 → Transition row k
 transition-is row k h l =
     let n = next_of row k in
-    let behind = state_behind (row_state row) (kind_character k) in
-    let p = all_five (beq (breaks row k) (n == 28)) (nat_lt n 30) (same_state behind (row_state (row_behind row k)))
+    let after = state_after (row_state row) (kind_character k) in
+    let p = all_five (beq (breaks row k) (n == 28)) (nat_lt n 30) (same_state after (row_state (row_after row k)))
     (not (k == 12) || nat_le 28 n) (not (n == 29) || (k == 12))
     (all_below-at (step_test row) 14 k (all_below-at (λ r. all_below (step_test r) 14) 28 row step-tests h) l) in
     record {
       breaks = same_from_beq (breaks row k) (n == 28) p.0;
       small = p.1;
-      behind = same-is behind (row_state (row_behind row k)) p.2;
+      after = same-is after (row_state (row_after row k)) p.2;
       hyphen = p.3;
       only = p.4;
     }
@@ -210,32 +210,32 @@ is_true false b h e = absurd (cc)
 
 pub step-within : (row k : ℕ) → row < 28 → k < 14 → next_of row k < 28 →
     (break_in (row_state row) (kind_character k) ≡ None) × ((k == 12) ≡ false)
-    × (state_behind (row_state row) (kind_character k) ≡ row_state (next_of row k))
+    × (state_after (row_state row) (kind_character k) ≡ row_state (next_of row k))
 step-within row k h l e =
     let t = transition-is row k h l in
     let b = below_28 (next_of row k) e in (
       none-is _ (t.breaks ∙ b.2),
       is_false (k == 12) (nat_le 28 (next_of row k)) t.hyphen b.1,
-      t.behind ∙ ap (λ (v : Bool). row_state (if v then next_of row k else k)) b.0,
+      t.after ∙ ap (λ (v : Bool). row_state (if v then next_of row k else k)) b.0,
     )
 
 pub step-broken : (row k : ℕ) → row < 28 → k < 14 → next_of row k ≡ 28 →
     (is_some (break_in (row_state row) (kind_character k)) ≡ true)
-    × (state_behind (row_state row) (kind_character k) ≡ row_state k)
+    × (state_after (row_state row) (kind_character k) ≡ row_state k)
 step-broken row k h l e =
     let t = transition-is row k h l in (
       t.breaks ∙ ap (λ n. n == 28) e,
-      t.behind ∙ ap (λ n. row_state (if nat_lt n 28 then n else k)) e,
+      t.after ∙ ap (λ n. row_state (if nat_lt n 28 then n else k)) e,
     )
 
 pub step-hyphen : (row k : ℕ) → row < 28 → k < 14 → next_of row k ≡ 29 → (k ≡ 12)
     × (break_in (row_state row) (kind_character k) ≡ None)
-    × (state_behind (row_state row) (kind_character k) ≡ row_state k)
+    × (state_after (row_state row) (kind_character k) ≡ row_state k)
 step-hyphen row k h l e =
     let t = transition-is row k h l in (
       eqb-true k 12 (is_true (next_of row k == 29) (k == 12) t.only (ap (λ n. n == 29) e)),
       none-is _ (t.breaks ∙ ap (λ n. n == 28) e),
-      t.behind ∙ ap (λ n. row_state (if nat_lt n 28 then n else k)) e,
+      t.after ∙ ap (λ n. row_state (if nat_lt n 28 then n else k)) e,
     )
 
 below_30 : (n : ℕ) → nat_lt n 30 ≡ true → n < 30
@@ -291,15 +291,15 @@ place base spaced joined hebrew half = record {
   has_half_flag = half;
 }
 
-pub any-behind : (s : State) (k : ℕ) → k < 13 → ends_hebrew s ≡ false →
-    state_behind s (kind_character k) ≡ row_state k
-any-behind s k l h =
+pub any-after : (s : State) (k : ℕ) → k < 13 → ends_hebrew s ≡ false →
+    state_after s (kind_character k) ≡ row_state k
+any-after s k l h =
     let x = kind_character k in
     let q = x.class in
     let n = none-of (is_mark q) (is_space q) (is_joiner q) (is_regional q)
     (all_below-at (λ k. not (counts (kind_character k).class)) 13 k class-tests l) in
-    ap (λ (m : Bool). if m && attaches s then joined_behind s (is_joiner q)
-    else base_behind s (if m then lone_mark else x) (is_joiner q)) n.0
+    ap (λ (m : Bool). if m && attaches s then joined_after s (is_joiner q)
+    else base_after s (if m then lone_mark else x) (is_joiner q)) n.0
     ∙ ap₂ (λ (p j : Bool). place (if p then s.base else x) p j (ends_hebrew s)
     (is_regional q && not s.has_half_flag)) n.1 n.2
     ∙ ap₂ (λ (f r : Bool). place x false false f (r && not s.has_half_flag)) h n.3
@@ -332,48 +332,48 @@ code-kind row c small below next =
 -- a code in a row, by the row that is known after it: none breaks before it
 pub code-within : (row c : ℕ) → row < 28 → c < 128 → next_of row (kind_of c) < 28
     → (is_printable c ≡ true) × ((c == 45) ≡ false) × (break_in (row_state row) (character_of c) ≡ None)
-    × (state_behind (row_state row) (character_of c) ≡ row_state (next_of row (kind_of c)))
+    × (state_after (row_state row) (character_of c) ≡ row_state (next_of row (kind_of c)))
 code-within row c small below next =
     let at = code-kind row c small below (omega (arith, next)) in
     let w = step-within row (kind_of c) small at.0 next in (
       kind-printable c below at.0,
       kind-other c below w.1,
       ap (break_in (row_state row)) at.1 ∙ w.0,
-      ap (state_behind (row_state row)) at.1 ∙ w.2,
+      ap (state_after (row_state row)) at.1 ∙ w.2,
     )
 
 -- a line may break before it
 pub code-broken : (row c : ℕ) → row < 28 → c < 128 → next_of row (kind_of c) ≡ 28
     → (is_printable c ≡ true) × (is_some (break_in (row_state row) (character_of c)) ≡ true)
-    × (state_behind (row_state row) (character_of c) ≡ row_state (kind_of c))
+    × (state_after (row_state row) (character_of c) ≡ row_state (kind_of c))
 code-broken row c small below next =
     let at = code-kind row c small below (omega (arith, next)) in
     let w = step-broken row (kind_of c) small at.0 next in (
       kind-printable c below at.0,
       ap (λ y. is_some (break_in (row_state row) y)) at.1 ∙ w.0,
-      ap (state_behind (row_state row)) at.1 ∙ w.1,
+      ap (state_after (row_state row)) at.1 ∙ w.1,
     )
 
 -- it is a hyphen
 pub code-hyphen : (row c : ℕ) → row < 28 → c < 128 → next_of row (kind_of c) ≡ 29
     → (c ≡ 45) × (break_in (row_state row) (character_of c) ≡ None)
-    × (state_behind (row_state row) (character_of c) ≡ row_state (kind_of c))
+    × (state_after (row_state row) (character_of c) ≡ row_state (kind_of c))
 code-hyphen row c small below next =
     let at = code-kind row c small below (omega (arith, next)) in
     let w = step-hyphen row (kind_of c) small at.0 next in (
       kind-hyphen c below w.0,
       ap (break_in (row_state row)) at.1 ∙ w.1,
-      ap (state_behind (row_state row)) at.1 ∙ w.2,
+      ap (state_after (row_state row)) at.1 ∙ w.2,
     )
 
 -- a character of a kind but the space's
-pub kind-behind : (s : State) (c : ℕ) → c < 128 → (c ≡ 32 → ⊥) → (kind_of c ≡ 14 → ⊥) → ends_hebrew s ≡ false →
-    (is_printable c ≡ true) × (behind s c ≡ row_state (kind_of c))
-kind-behind s c below e f h =
+pub kind-after : (s : State) (c : ℕ) → c < 128 → (c ≡ 32 → ⊥) → (kind_of c ≡ 14 → ⊥) → ends_hebrew s ≡ false →
+    (is_printable c ≡ true) × (after_code s c ≡ row_state (kind_of c))
+kind-after s c below e f h =
     let l : kind_of c < 13 = before_13 (kind_of c) (kind-small c below) f (kind-space c below (not-space c e)) in
     let k : kind_of c < 14 = omega (arith, l) in (
       kind-printable c below k,
-      ap (state_behind s) (kind-character c below k) ∙ any-behind s (kind_of c) l h,
+      ap (state_after s) (kind-character c below k) ∙ any-after s (kind_of c) l h,
     )
 
 -- ---- at the start of a text
@@ -398,9 +398,9 @@ empty-is s h =
     ∙ ap₂ (λ j h. made Space false false false j h s.has_half_flag) n.2 n.3
     ∙ ap (λ g. made Space false false false false false g) n.4
 
-pub space-behind : (s : State) (c : ℕ) → c ≡ 32 → is_empty s ≡ true →
-    (is_printable c ≡ true) × (behind s c ≡ row_state 27)
-space-behind s c e h = (
+pub space-after : (s : State) (c : ℕ) → c ≡ 32 → is_empty s ≡ true →
+    (is_printable c ≡ true) × (after_code s c ≡ row_state 27)
+space-after s c e h = (
   ap is_printable e,
-  ap (behind s) e ∙ ap₂ state_behind (empty-is s h) space-is,
+  ap (after_code s) e ∙ ap₂ state_after (empty-is s h) space-is,
 )

@@ -14,8 +14,8 @@ use Rattle.miette_line_breaks.specs.rules.Classes.{is_regional}
 use Rattle.miette_line_breaks.specs.rules.Rules.{bases, between, break_before, breaks_from, ends_joined, keeps}
 use Rattle.miette_line_breaks.specs.rules.Rules.{ends_in_half_flag, joins, keeps_beside, nearest_is}
 use Rattle.miette_line_breaks.specs.rules.Rules.{past_spaces, takes_marks}
-use Rattle.miette_line_breaks.specs.steps.States.{base_behind, break_in, breaks_behind, is_start, joined_behind}
-use Rattle.miette_line_breaks.specs.steps.States.{base_of, keeps_direct, keeps_in, nearest_of, state_behind, state_of}
+use Rattle.miette_line_breaks.specs.steps.States.{base_after, break_in, breaks_after, is_start, joined_after}
+use Rattle.miette_line_breaks.specs.steps.States.{base_of, keeps_direct, keeps_in, nearest_of, state_after, state_of}
 use Rattle.miette_line_breaks.specs.steps.States.{state_over}
 
 space_is : (class : LineBreak) → is_space class ≡ true → class ≡ Space
@@ -42,25 +42,25 @@ base-is b bs = elim (is_space b.class) as (λ q. nearest_of (if q then past_spac
     ≡ (if q then nearest_of (past_spaces bs) else b)) [ true ↦ refl | false ↦ refl ]
 
 base-step : (b : Character) (bs : List Character) (before joined : Bool) →
-    state_over (b ∷ bs) joined ≡ base_behind (state_over bs before) b joined
+    state_over (b ∷ bs) joined ≡ base_after (state_over bs before) b joined
 base-step b bs before joined = cc (base-is b bs, beside is_hebrew refl bs)
 
 step-by : (m q : Bool) (x : Character) (bs : List Character) (before joined : Bool) →
     state_over (if m then if q then bs else lone_mark ∷ bs else x ∷ bs) joined
-    ≡ (if m && q then joined_behind (state_over bs before) joined
-    else base_behind (state_over bs before) (if m then lone_mark else x) joined)
+    ≡ (if m && q then joined_after (state_over bs before) joined
+    else base_after (state_over bs before) (if m then lone_mark else x) joined)
 step-by true true x bs before joined = refl
 step-by true false x bs before joined = base-step lone_mark bs before joined
 step-by false q x bs before joined = base-step x bs before joined
 
-pub state-step : (c : ℕ) (cs : List ℕ) → state_of (c ∷ cs) ≡ state_behind (state_of cs) (character_of c)
+pub state-step : (c : ℕ) (cs : List ℕ) → state_of (c ∷ cs) ≡ state_after (state_of cs) (character_of c)
 state-step c cs =
     let x = character_of c in
     let j = is_joiner x.class in
     let s = state_of cs in
     step-by (is_mark x.class) (nearest_is takes_marks (bases cs)) x (bases cs) (ends_joined cs) j
-    ∙ ap (λ q. if is_mark x.class && q then joined_behind s j
-    else base_behind s (if is_mark x.class then lone_mark else x) j) (beside takes_marks refl (bases cs))
+    ∙ ap (λ q. if is_mark x.class && q then joined_after s j
+    else base_after s (if is_mark x.class then lone_mark else x) j) (beside takes_marks refl (bases cs))
 
 -- ---- what is before a character
 
@@ -131,7 +131,7 @@ break-is (b ∷ before) c =
 -- ---- the opportunities that are still to come
 
 pub breaks-are : (before : List ℕ) (at : ℕ) (cs : List ℕ) →
-    breaks_from before at cs ≡ breaks_behind (state_of before) at cs
+    breaks_from before at cs ≡ breaks_after (state_of before) at cs
 breaks-are [] at [] = refl
 breaks-are (b ∷ before) at [] = cc (not_start (bases (b ∷ before)) (ends_joined (b ∷ before)) (bases-some b before))
 breaks-are before at (c ∷ cs) = cc (

@@ -95,14 +95,14 @@ pub enum Step {
 }
 
 impl Printable {
-    ghost use Rattle.miette_line_breaks.specs.views.Places.{behind};
+    ghost use Rattle.miette_line_breaks.specs.views.Places.{after_code};
     ghost use Rattle.miette_line_breaks.specs.views.Printable.{IsStep, begins, is_printable, state_in};
 
     /// After a printable character of ASCII, where no Hebrew letter is before it; a space only at a text's start.
     #[inline(always)]
-    pub fn behind(state: State, c: char) -> Option<Printable>
+    pub fn after_character(state: State, c: char) -> Option<Printable>
         ensures { MatchOption result (begins state c ≡ false)
-            (λ it. (is_printable c ≡ true) × (behind state c ≡ state_in it)) }
+            (λ it. (is_printable c ≡ true) × (after_code state c ≡ state_in it)) }
     {
         let code = c as usize;
         if 128 <= code {

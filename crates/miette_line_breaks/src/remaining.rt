@@ -60,7 +60,7 @@ impl<'a> Iterator for LineBreaks<'a> {
             *self = LineBreaks {
                 rest,
                 at: at + c.len_utf8(),
-                state: self.state.behind(next),
+                state: self.state.after_character(next),
             };
             if let Some(opportunity) = found {
                 return Some((at, opportunity));

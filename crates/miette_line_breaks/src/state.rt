@@ -6,11 +6,11 @@ ghost use Rattle.miette_line_breaks.specs.declared.opportunity.BreakOpportunity.
 ghost use Rattle.miette_line_breaks.specs.rules.Rules.{break_before, joins, joins_letter, joins_number};
 ghost use Rattle.miette_line_breaks.specs.rules.Rules.{joins_parenthesis};
 ghost use Rattle.miette_line_breaks.specs.rules.Rules.{joins_syllable, takes_marks};
-ghost use Rattle.miette_line_breaks.specs.steps.States.{attaches, base_behind, base_of, break_in, ends_hebrew};
+ghost use Rattle.miette_line_breaks.specs.steps.States.{attaches, base_after, base_of, break_in, ends_hebrew};
 ghost use Rattle.miette_line_breaks.specs.steps.States.{is_empty, is_ideographic, is_lone, is_plain, is_start};
-ghost use Rattle.miette_line_breaks.specs.steps.States.{joined_behind, spaced};
-ghost use Rattle.miette_line_breaks.specs.steps.States.{keeps_direct, keeps_in, state_behind};
-ghost use Rattle.miette_line_breaks.specs.views.Places.{behind, found_before, is_in_word, state_of};
+ghost use Rattle.miette_line_breaks.specs.steps.States.{joined_after, spaced};
+ghost use Rattle.miette_line_breaks.specs.steps.States.{keeps_direct, keeps_in, state_after};
+ghost use Rattle.miette_line_breaks.specs.views.Places.{after_code, found_before, is_in_word, state_of};
 
 use crate::characters::Character;
 use crate::classes::*;
@@ -56,19 +56,19 @@ impl State {
     #[inline(always)]
     pub fn step(&self, c: char) -> (Option<BreakOpportunity>, State)
         ensures found { result.0 ≡ found_before self.now c }
-        ensures behind { result.1 ≡ behind self.now c }
+        ensures behind { result.1 ≡ after_code self.now c }
         ensures rules { (before : List ℕ) → self.now ≡ state_of before →
             (result.0 ≡ break_before before c) × (result.1 ≡ state_of (c ∷ before)) }
     {
-        let (found, behind) = self.stepped(c);
-        (found, behind)
+        let (found, after) = self.stepped(c);
+        (found, after)
     }
 
     // A step, with a short road for letters of ASCII and spaces.
     #[inline(always)]
     fn stepped(&self, c: char) -> (Option<BreakOpportunity>, State)
         ensures found { result.0 ≡ found_before self.now c }
-        ensures behind { result.1 ≡ behind self.now c }
+        ensures behind { result.1 ≡ after_code self.now c }
     {
         if self.is_plain() {
             if c.is_ascii_alphabetic() {
@@ -83,14 +83,14 @@ impl State {
 
     fn stepped_by_class(&self, c: char) -> (Option<BreakOpportunity>, State)
         ensures found { result.0 ≡ found_before self.now c }
-        ensures behind { result.1 ≡ behind self.now c }
+        ensures behind { result.1 ≡ after_code self.now c }
     {
         let next = Character::of(c);
         if !self.is_joined && is_ideographic(self.base.class) && is_ideographic(next.class) {
             return (Some(BreakOpportunity::Allowed), self.with_base(next, false));
         }
         let found = self.before(next);
-        let state = self.behind(next);
+        let state = self.after_character(next);
         (found, state)
     }
 
@@ -127,7 +127,7 @@ impl State {
     pub fn is_in_word(&self) -> bool
         ensures value { result ≡ is_in_word self.now }
         ensures letters { (c : ℕ) → is_in_word self.now ≡ true → is_ascii_alphabetic c ≡ true →
-            (found_before self.now c ≡ None) × (behind self.now c ≡ self.now) }
+            (found_before self.now c ≡ None) × (after_code self.now c ≡ self.now) }
     {
         !self.is_spaced && self.is_plain()
     }
@@ -166,8 +166,8 @@ impl State {
     }
 
     /// After one more character.
-    pub(crate) fn behind(&self, x: Character) -> State
-        ensures { result ≡ state_behind self.now x }
+    pub(crate) fn after_character(&self, x: Character) -> State
+        ensures { result ≡ state_after self.now x }
     {
         if is_mark(x.class) && self.attaches() {
             State {
@@ -180,7 +180,7 @@ impl State {
     }
 
     fn with_base(&self, base: Character, is_joined: bool) -> State
-        ensures { result ≡ base_behind self.now base is_joined }
+        ensures { result ≡ base_after self.now base is_joined }
     {
         State {
             base: if is_space(base.class) {

@@ -98,12 +98,12 @@ passed_cell cells cell p q step r h =
       come = subst (λ n. ComeFrom n q.walk) (sym r) left.2;
     }
 
-come_behind : (at o c : ℕ) (bs : List ℕ) (cs : List Cell) → 0 < length bs → ComeFrom at (plain_cells o c bs ++ cs)
+come_after : (at o c : ℕ) (bs : List ℕ) (cs : List Cell) → 0 < length bs → ComeFrom at (plain_cells o c bs ++ cs)
     → (at ≤ o) × ComeFrom (o + length bs) cs
-come_behind at o c [] cs some h = absurd (omega (arith, some))
-come_behind at o c (b ∷ []) cs some h = (h.0, h.2)
-come_behind at o c (b ∷ d ∷ bs) cs some h =
-    let rest = come_behind (o + 1) (o + 1) (c + 1) (d ∷ bs) cs (omega arith) h.2 in
+come_after at o c [] cs some h = absurd (omega (arith, some))
+come_after at o c (b ∷ []) cs some h = (h.0, h.2)
+come_after at o c (b ∷ d ∷ bs) cs some h =
+    let rest = come_after (o + 1) (o + 1) (c + 1) (d ∷ bs) cs (omega arith) h.2 in
     let many : o + 1 + length (d ∷ bs) ≡ o + length (b ∷ d ∷ bs) = omega arith in
     (h.0, subst (λ n. ComeFrom n cs) many rest.1)
 
@@ -111,9 +111,9 @@ come_behind at o c (b ∷ d ∷ bs) cs some h =
 pub passed_plain : (cells : List Cell) (first : PlainCells) (p q : Passage) → ComeFirst first p.walk q.walk → 0
     < first.many → q.reached ≡ first.start + first.many → HasPassed cells p → HasPassed cells q
 passed_plain cells first p q f some r h =
-    let come = come_behind p.reached first.start first.from f.bytes q.walk (omega (arith, some, f.many))
+    let come = come_after p.reached first.start first.from f.bytes q.walk (omega (arith, some, f.many))
     (subst (λ (cs : List Cell). ComeFrom p.reached cs) f.cells_are h.come) in
-    let behind : first.start + length f.bytes ≡ q.reached = omega (arith, r, f.many) in
+    let after : first.start + length f.bytes ≡ q.reached = omega (arith, r, f.many) in
     record {
       same = λ e w o le.
           let past : length f.bytes ≤ o - first.start = omega (arith, r, le, f.many) in
@@ -123,7 +123,7 @@ passed_plain cells first p q f some r h =
             plain_last_end first.start first.from f.bytes q.walk e w o past
                 ∙ ap (λ cs. last_column cs e w o) (sym f.cells_are) ∙ here.1,
           );
-      come = subst (λ n. ComeFrom n q.walk) behind come.1;
+      come = subst (λ n. ComeFrom n q.walk) after come.1;
     }
 
 -- the columns of a line with what is passed of it

@@ -87,15 +87,15 @@ told_stop cells p whole e h = sym (put_nil p) ∙ ap (λ xs. p ⊕ cells_tokens 
 
 -- ---- a stretch in a highlighter's pieces
 
-pub piece_cut : (pieces : List (ℕ × Style)) (i before bytes behind own : ℕ) (d : ℕ × Style) (cells later : List Cell)
+pub piece_cut : (pieces : List (ℕ × Style)) (i before bytes after own : ℕ) (d : ℕ × Style) (cells later : List Cell)
     (p q r whole : Printout) (next less : ℕ) → i < length pieces →
-    behind ≡ (get_or pieces i d).0 - before → own ≡ min behind bytes → next ≡ before - (get_or pieces i d).0 → less
-    ≡ bytes - behind →
+    after ≡ (get_or pieces i d).0 - before → own ≡ min after bytes → next ≡ before - (get_or pieces i d).0 → less
+    ≡ bytes - after →
     q ≡ p ⊕ begins (get_or pieces i d).1 ∷ [] → r ≡ q ⊕ cells_tokens (cells_within own cells) → later
     ≡ cells_beyond own cells →
     p ⊕ row_tokens (line_runs (pieces_within before bytes (map highlight_of (drop i pieces))) cells) ≡ whole →
     r ⊕ row_tokens (line_runs (pieces_within next less (map highlight_of (drop (i + 1) pieces))) later) ≡ whole
-piece_cut pieces i before bytes behind own d cells later p q r whole next less lt b o n l hq hr hl inv =
+piece_cut pieces i before bytes after own d cells later p q r whole next less lt b o n l hq hr hl inv =
     let h : ℕ × Style = get_or pieces i d in
     let hs : List Highlight = map highlight_of (drop (i + 1) pieces) in
     let mine : ℕ = min (h.0 - before) bytes in

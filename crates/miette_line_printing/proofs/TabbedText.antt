@@ -152,7 +152,7 @@ pub stretch_put : (tab size column until spaces later : ℕ) (rest left : List �
     p ⊕ text_tokens (tabbed_codes tab column rest) ≡ whole → r ⊕ text_tokens (tabbed_codes tab later left) ≡ whole
 stretch_put tab size column until spaces later rest left p q r whole lt none is hq hu hs hr hl hd h =
     let n : ℕ = tab - until % tab in
-    let behind : List ℕ = drop size rest in
+    let after : List ℕ = drop size rest in
     let last : List ℕ = tabbed_codes tab (until + n) (drop (size + 1) rest) in
     ap (λ x. r ⊕ text_tokens (tabbed_codes tab later x)) hd
     ∙ ap (λ x. r ⊕ text_tokens (tabbed_codes tab x (drop (size + 1) rest))) (hl ∙ ap (λ k. until + k) hs)
@@ -160,10 +160,10 @@ stretch_put tab size column until spaces later rest left p q r whole lt none is 
     ∙ put_append q (text_tokens (replicate n 32)) (text_tokens last)
     ∙ ap (λ x. q ⊕ x) (sym (told_append (replicate n 32) last))
     ∙ ap (λ x. q ⊕ text_tokens x) (sym (tab_at tab size until rest lt is))
-    ∙ ap (λ x. x ⊕ text_tokens (tabbed_codes tab until behind)) hq
-    ∙ put_append p (text_tokens (take size rest)) (text_tokens (tabbed_codes tab until behind))
-    ∙ ap (λ x. p ⊕ x) (sym (told_append (take size rest) (tabbed_codes tab until behind)))
-    ∙ ap (λ x. p ⊕ text_tokens (take size rest ++ tabbed_codes tab x behind)) hu
+    ∙ ap (λ x. x ⊕ text_tokens (tabbed_codes tab until after)) hq
+    ∙ put_append p (text_tokens (take size rest)) (text_tokens (tabbed_codes tab until after))
+    ∙ ap (λ x. p ⊕ x) (sym (told_append (take size rest) (tabbed_codes tab until after)))
+    ∙ ap (λ x. p ⊕ text_tokens (take size rest ++ tabbed_codes tab x after)) hu
     ∙ ap (λ x. p ⊕ text_tokens x) (sym (stretch tab size column rest (omega (arith, lt)) none))
     ∙ h
 

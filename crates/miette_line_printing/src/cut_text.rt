@@ -93,7 +93,7 @@ struct Pieces<'a> {
 }
 
 // The pieces of which some byte stands after those in front.
-fn pieces_behind<'a>(all: &Pieces<'a>) -> Pieces<'a>
+fn pieces_after<'a>(all: &Pieces<'a>) -> Pieces<'a>
     ensures { (run : Run) → (cut : List MadeStretch) → (cells : List Cell) → (page : Printout) →
         page ⊕ row_tokens (cut_cells run (map highlight_of result.pieces.now) result.before cut cells)
         ≡ page ⊕ row_tokens (cut_cells run (map highlight_of all.now.pieces.now) all.now.before cut cells) }
@@ -135,11 +135,11 @@ fn push_pieces<O: Canvas>(
         if bytes == 0 {
             return Ok(many);
         }
-        let behind = piece.0.saturating_sub(before);
+        let after = piece.0.saturating_sub(before);
         page.begin(piece.1)?;
-        many = push_some(page, walk, many, behind.min(bytes))?;
+        many = push_some(page, walk, many, after.min(bytes))?;
         before = before.saturating_sub(piece.0);
-        bytes = bytes.saturating_sub(behind);
+        bytes = bytes.saturating_sub(after);
     }
     Ok(many)
 }
@@ -181,11 +181,11 @@ pub(crate) fn push_cut<O: Canvas>(
 {
     let mut rest = Pieces { pieces, before: 0 };
     for stretch in cut {
-        let behind = pieces_behind(&rest);
-        push_stretch(page, walk, &behind, stretch, theme)?;
-        let before = sum(behind.before, stretch.bytes)?;
+        let after = pieces_after(&rest);
+        push_stretch(page, walk, &after, stretch, theme)?;
+        let before = sum(after.before, stretch.bytes)?;
         rest = Pieces {
-            pieces: behind.pieces,
+            pieces: after.pieces,
             before,
         };
     }

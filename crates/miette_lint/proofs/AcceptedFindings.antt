@@ -19,7 +19,7 @@ use Rattle.miette_source_lines.proofs.Cuts.{cut_le, lines_cut}
 use Rattle.miette_source_lines.proofs.Parts.{part_length}
 use Rattle.miette_lint.specs.rules.Findings.{cells_of, ending_blanks, finding, findings_of, is_blank, line_findings}
 use Rattle.miette_lint.specs.rules.Findings.{misplaced_tab, missing_terminator, overlong, tab_after_space}
-use Rattle.miette_lint.specs.rules.Findings.{tab_behind, text_findings, too_wide, trailing_space}
+use Rattle.miette_lint.specs.rules.Findings.{tab_from, text_findings, too_wide, trailing_space}
 
 -- ---- a label for one of several
 
@@ -63,15 +63,15 @@ moved_below : (s n m : ℕ) (o : Option ℕ) → m ≡ n - s → IfSome o (λ t.
 moved_below s n m None e h = tt
 moved_below s n m (Some t) e h = omega (arith, e, h)
 
-behind_below : (blanks : List ℕ) (o : Option ℕ)
-    → IfSome (option_and_then (tab_behind blanks) o) (λ at. at < length blanks)
-behind_below blanks None = tt
-behind_below blanks (Some s) =
+after_below : (blanks : List ℕ) (o : Option ℕ)
+    → IfSome (option_and_then (tab_from blanks) o) (λ at. at < length blanks)
+after_below blanks None = tt
+after_below blanks (Some s) =
     moved_below s (length blanks) (length (drop s blanks)) (position (λ b. eqb b 9) (drop s blanks))
     (length-drop s blanks) (position_below (λ b. eqb b 9) (drop s blanks))
 
 tab_below : (blanks : List ℕ) → IfSome (tab_after_space blanks) (λ at. at < length blanks)
-tab_below blanks = behind_below blanks (position (λ b. eqb b 32) blanks)
+tab_below blanks = after_below blanks (position (λ b. eqb b 32) blanks)
 
 -- a cell begins and ends at an offset or before it
 abbrev LiesBefore : ℕ → Cell → Type 0

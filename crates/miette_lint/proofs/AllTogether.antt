@@ -4,26 +4,26 @@ use Rattle.std.proofs.Common.{arith}
 use Rattle.std.specs.List.{flat_map, list_any}
 use Rattle.std.proofs.lemmas.Bool.{le-ltb, ne_eqb, or_from}
 use Rattle.miette_fixes.specs.rules.Applying.{applied, refusal, text_from}
-use Rattle.miette_fixes.specs.rules.Edits.{Proposal, Replacement, end_of, ends_behind, is_behind, overlap, some_overlap}
+use Rattle.miette_fixes.specs.rules.Edits.{Proposal, Replacement, end_of, ends_after, is_after, overlap, some_overlap}
 use Rattle.miette_lint.specs.rules.Fixes.{fixed_text, proposals_of}
 use Rattle.miette_lint.specs.rules.Joint.{joint_proposal}
 use Rattle.miette_lint.proofs.Apart.{AreApart, edits_in, in_order, next_at}
 use Rattle.miette_lint.proofs.Proposed.{proposals_apart, proposals_made}
 
-none_behind : (n low : ℕ) (fixes : List Proposal) → AreApart n low fixes
-    → list_any (ends_behind n) (edits_in fixes) ≡ false
-none_behind n low [] apart = refl
-none_behind n low (fix ∷ fixes) apart =
+none_after : (n low : ℕ) (fixes : List Proposal) → AreApart n low fixes
+    → list_any (ends_after n) (edits_in fixes) ≡ false
+none_after n low [] apart = refl
+none_after n low (fix ∷ fixes) apart =
     let e : Replacement = apart.0 in
     let one : fix.edits ≡ e ∷ [] = apart.1.one in
     let within : end_of e ≤ n = apart.1.within in
-    ap (λ es. list_any (ends_behind n) (es ++ edits_in fixes)) one
-    ∙ or_from (ends_behind n e) (list_any (ends_behind n) (edits_in fixes)) (le-ltb n (end_of e) within)
-    (none_behind n (next_at e) fixes apart.2)
+    ap (λ es. list_any (ends_after n) (es ++ edits_in fixes)) one
+    ∙ or_from (ends_after n e) (list_any (ends_after n) (edits_in fixes)) (le-ltb n (end_of e) within)
+    (none_after n (next_at e) fixes apart.2)
 
 free_of_one : (e x : Replacement) → next_at e ≤ x.span.offset → overlap e x ≡ false
 free_of_one e x le =
-    let first : is_behind e x ≡ false =
+    let first : is_after e x ≡ false =
     or_from (ltb x.span.offset e.span.offset) (eqb x.span.offset e.span.offset && ltb x.span.len e.span.len)
     (le-ltb x.span.offset e.span.offset (omega (arith, le)))
     (ap (λ b. b && ltb x.span.len e.span.len) (ne_eqb x.span.offset e.span.offset (λ same. omega (arith, le, same)))) in
@@ -51,7 +51,7 @@ none_overlap n low (fix ∷ fixes) apart =
 
 not_refused : (n low : ℕ) (fixes : List Proposal) → AreApart n low fixes → refusal n (edits_in fixes) ≡ None
 not_refused n low fixes apart =
-    let inside = none_behind n low fixes apart in
+    let inside = none_after n low fixes apart in
     let free = none_overlap n low fixes apart in
     rw (inside, free) refl
 

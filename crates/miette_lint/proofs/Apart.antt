@@ -11,7 +11,7 @@ use Rattle.std.proofs.lemmas.List.Folds.{drop_split}
 use Rattle.miette_fixes.specs.rules.Applying.{by_offset, put_edit, text_from}
 use Rattle.miette_fixes.specs.rules.ApplyingAll.{all_applied, all_of, conflict, counted, counted_with, counts}
 use Rattle.miette_fixes.specs.rules.ApplyingAll.{is_among, is_taken, taken}
-use Rattle.miette_fixes.specs.rules.Edits.{Proposal, Replacement, end_of, ends_behind, is_behind, overlap}
+use Rattle.miette_fixes.specs.rules.Edits.{Proposal, Replacement, end_of, ends_after, is_after, overlap}
 use Rattle.miette_lint.specs.rules.Fixes.{proposal}
 
 -- the edits of each fix, and all of them
@@ -46,9 +46,9 @@ free_of_one : (e x : Replacement) → x.span.offset < e.span.offset → end_of x
 free_of_one e x lt le =
     let apart : eqb e.span.offset x.span.offset ≡ false =
     ne_eqb e.span.offset x.span.offset (λ same. omega (arith, lt, same)) in
-    let behind : is_behind e x ≡ true = or_left (ltb x.span.offset e.span.offset)
+    let after : is_after e x ≡ true = or_left (ltb x.span.offset e.span.offset)
     (eqb x.span.offset e.span.offset && ltb x.span.len e.span.len) (lt-ltb x.span.offset e.span.offset lt) in
-    let free : overlap e x ≡ false = rw behind (le-ltb e.span.offset (end_of x) le) in
+    let free : overlap e x ≡ false = rw after (le-ltb e.span.offset (end_of x) le) in
     or_from (eqb e.span.offset x.span.offset) (overlap e x) apart free
 
 free_of_all : (low : ℕ) (e : Replacement) (others : List Replacement) → low ≤ e.span.offset
@@ -63,7 +63,7 @@ free_of_all low e (x ∷ xs) le h =
 one_counts : (n low : ℕ) (e : Replacement) (others : List Replacement) → low ≤ e.span.offset → end_of e ≤ n
     → AllByRecursion (LiesBelow low) others → counts n others (e ∷ []) ≡ true
 one_counts n low e others le within h =
-    let inside : ends_behind n e ≡ false = le-ltb n (end_of e) within in
+    let inside : ends_after n e ≡ false = le-ltb n (end_of e) within in
     let free : list_any (conflict e) others ≡ false = free_of_all low e others le h in
     rw (inside, free) refl
 
@@ -135,7 +135,7 @@ put_first n low e (fix ∷ fixes) le apart =
     let x : Replacement = apart.0 in
     let one : fix.edits ≡ x ∷ [] = apart.1.one in
     let from : low ≤ x.span.offset = apart.1.from in
-    let first : is_behind e x ≡ false =
+    let first : is_after e x ≡ false =
     or_from (ltb x.span.offset e.span.offset) (eqb x.span.offset e.span.offset && ltb x.span.len e.span.len)
     (le-ltb x.span.offset e.span.offset (omega (arith, from, le)))
     (ap (λ b. b && ltb x.span.len e.span.len)

@@ -17,7 +17,7 @@ use Rattle.std.proofs.lemmas.List.Sums.{prefix_len_stops}
 use Rattle.std.proofs.Math.Seq.{drop-append_seam, take-append_seam}
 use Rattle.miette_basics.proofs.Cases.{by_cases}
 use Rattle.miette_source_lines.specs.rules.Lines.{is_text}
-use Rattle.miette_lint.specs.rules.Findings.{ending_blanks, is_blank, tab_after_space, tab_behind}
+use Rattle.miette_lint.specs.rules.Findings.{ending_blanks, is_blank, tab_after_space, tab_from}
 use Rattle.miette_lint.specs.rules.Fixes.{even_blanks, evened, fixed_line_text, spaces_at, spaces_from, trimmed}
 
 -- ---- elements from the front on that pass
@@ -150,9 +150,9 @@ spaces_dropped zero xs h = h
 spaces_dropped (suc n) [] h = tt
 spaces_dropped (suc n) (x ∷ xs) h = spaces_dropped n xs h.1
 
-none_behind : (xs : List ℕ) (o : Option ℕ) → AllByRecursion IsSpace xs → option_and_then (tab_behind xs) o ≡ None
-none_behind xs None h = refl
-none_behind xs (Some s) h =
+none_after : (xs : List ℕ) (o : Option ℕ) → AllByRecursion IsSpace xs → option_and_then (tab_from xs) o ≡ None
+none_after xs None h = refl
+none_after xs (Some s) h =
     let rest : List ℕ = drop s xs in
     let e : position_or_len (λ b. eqb b 9) rest ≡ length rest = no_tabs rest (spaces_dropped s xs h) in
     let f : ltb (position_or_len (λ b. eqb b 9) rest) (length rest) ≡ false =
@@ -178,7 +178,7 @@ evened_are blanks h =
     (λ f. let all : AllByRecursion IsSpace (spaces_from 0 blanks) = spaces_all 0 blanks in
     rw f (record {
       blank = spaces_pass (spaces_from 0 blanks) all;
-      none = none_behind (spaces_from 0 blanks) (position (λ b. eqb b 32) (spaces_from 0 blanks)) all;
+      none = none_after (spaces_from 0 blanks) (position (λ b. eqb b 32) (spaces_from 0 blanks)) all;
     }))
 
 -- ---- a line's text

@@ -9,11 +9,11 @@ use Rattle.std.proofs.lemmas.List.{length-drop, take_rest}
 use Rattle.std.proofs.lemmas.List.Folds.{length-prefix_len}
 use Rattle.miette_source_lines.specs.rules.Lines.{Line, lines_from}
 use Rattle.miette_source_lines.specs.declared.lines.LineOfText.{LineOfText}
-use Rattle.miette_source_lines.specs.views.Walking.{Rest, GivesLine, IsFirst, behind, line_of_text, lines_left}
+use Rattle.miette_source_lines.specs.views.Walking.{Rest, GivesLine, IsFirst, after_line, line_of_text, lines_left}
 use Rattle.miette_protocol.specs.views.Meaning.{Label}
 use Rattle.miette_cells.specs.rules.Cells.{Cell}
 use Rattle.miette_lint.specs.rules.Findings.{ending_blanks, finding, is_blank, misplaced_tab, overlong}
-use Rattle.miette_lint.specs.rules.Findings.{tab_after_space, tab_behind, too_wide, trailing_space}
+use Rattle.miette_lint.specs.rules.Findings.{tab_after_space, tab_from, too_wide, trailing_space}
 
 -- The lines that are left of `size` bytes have what is left to be found.
 pub record AreLeft {X : Type 0} (f : Line → List X) (size : ℕ) (rest : Rest) (found all : List X) : Type 0 where
@@ -30,16 +30,16 @@ left_first f rest bytes found is none =
 
 -- a step that gives a line
 pub given_line : (rest after : Rest) (r : Option LineOfText) (line : LineOfText) → r ≡ Some line
-    → GivesLine rest r after → IsFirst rest line × (after ≡ behind rest line)
+    → GivesLine rest r after → IsFirst rest line × (after ≡ after_line rest line)
 given_line rest after r line is given = subst (λ (o : Option LineOfText). GivesLine rest o after) is given
 
 pub left_more : {X : Type 0} (f : Line → List X) (size : ℕ) (rest after : Rest) (r : Option LineOfText)
     (line : LineOfText) (found more all : List X) → AreLeft f size rest found all → r ≡ Some line
     → GivesLine rest r after → more ≡ found ++ f (line_of_text line) → AreLeft f size after more all
 left_more {X} f size rest after r line found more all h is given step =
-    let step_is : IsFirst rest line × (after ≡ behind rest line) = given_line rest after r line is given in
+    let step_is : IsFirst rest line × (after ≡ after_line rest line) = given_line rest after r line is given in
     let first : IsFirst rest line = step_is.0 in
-    let later : List X = flat_map f (lines_left (behind rest line)) in
+    let later : List X = flat_map f (lines_left (after_line rest line)) in
     let bytes : length (drop (line.end - rest.start) rest.bytes) ≡ length rest.bytes - (line.end - rest.start) =
     length-drop (line.end - rest.start) rest.bytes in
     subst (λ (r : Rest). AreLeft f size r more all) (sym step_is.1)
@@ -97,10 +97,10 @@ overlong_put r width end cells cell text old new e t h =
 pub begun : (xs : List ℕ) (n : ℕ) → n ≡ length (take_while is_blank xs) → take n xs ≡ take_while is_blank xs
 begun xs n e = ap (λ k. take k xs) (e ∙ length-prefix_len is_blank xs)
 
-pub tab_after : (xs : List ℕ) (s : ℕ) (r : Option ℕ) → Some s ≡ position (λ b. eqb b 32) xs → r ≡ tab_behind xs s → r
+pub tab_after : (xs : List ℕ) (s : ℕ) (r : Option ℕ) → Some s ≡ position (λ b. eqb b 32) xs → r ≡ tab_from xs s → r
     ≡ tab_after_space xs
-tab_after xs s r e h = h ∙ ap (option_and_then (tab_behind xs)) e
+tab_after xs s r e h = h ∙ ap (option_and_then (tab_from xs)) e
 
-pub found_behind : (xs : List ℕ) (s : ℕ) (o : Option ℕ) → o ≡ position (λ b. eqb b 9) (take (length xs - s) (drop s xs))
-    → option_map (λ t. s + t) o ≡ tab_behind xs s
-found_behind xs s o e = ap (option_map (λ t. s + t)) (e ∙ ap (position (λ b. eqb b 9)) (take_rest xs s))
+pub found_after : (xs : List ℕ) (s : ℕ) (o : Option ℕ) → o ≡ position (λ b. eqb b 9) (take (length xs - s) (drop s xs))
+    → option_map (λ t. s + t) o ≡ tab_from xs s
+found_after xs s o e = ap (option_map (λ t. s + t)) (e ∙ ap (position (λ b. eqb b 9)) (take_rest xs s))

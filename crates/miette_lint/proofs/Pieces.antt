@@ -64,10 +64,10 @@ cut_out source at l bytes rest is le w =
     let own : slice_range source l.start l.text_end ≡ text =
     ap (λ s. slice_range source s l.text_end) w.start
     ∙ front_is source at text (end ++ rest) l.text_end whole w.text_end in
-    let behind : drop l.text_end source ≡ end ++ rest =
+    let onwards : drop l.text_end source ≡ end ++ rest =
     rest_is source at text (end ++ rest) l.text_end whole w.text_end in
     let to : l.end ≡ l.text_end + length end = omega (arith, w.end, w.text_end) in
-    let terminator : slice_range source l.text_end l.end ≡ end = front_is source l.text_end end rest l.end behind to in
+    let terminator : slice_range source l.text_end l.end ≡ end = front_is source l.text_end end rest l.end onwards to in
     let size : length source - at ≡ length text + (length end + length rest) =
     omega (
       arith,
@@ -86,7 +86,7 @@ cut_out source at l bytes rest is le w =
         plain = subst (All IsText) (sym own) w.plain;
         ended = λ lt. subst IsEnding (sym terminator) (ending_of_some end rest w.ended (omega (arith, lt, to)));
       },
-      rest_is source l.text_end end rest l.end behind to,
+      rest_is source l.text_end end rest l.end onwards to,
     )
 
 cut_from : (source : List ℕ) (at : ℕ) (ls : List Line) (bytes : List ℕ) → drop at source ≡ bytes → at ≤ length source
@@ -130,10 +130,10 @@ step source at text end rest is plain clean ending ended later =
     let l : Line = made at (at + length text) (at + (length text + length end)) in
     let own : slice_range source at (at + length text) ≡ text =
     front_is source at text (end ++ rest) (at + length text) is refl in
-    let behind : drop (at + length text) source ≡ end ++ rest =
+    let onwards : drop (at + length text) source ≡ end ++ rest =
     rest_is source at text (end ++ rest) (at + length text) is refl in
     let after : drop (at + (length text + length end)) source ≡ rest =
-    rest_is source (at + length text) end rest (at + (length text + length end)) behind (omega arith) in
+    rest_is source (at + length text) end rest (at + (length text + length end)) onwards (omega arith) in
     let first : IsCleanLine source l = record {
       clean = subst IsClean (sym own) clean;
       terminated = lt-ltb (at + length text) (at + (length text + length end)) (omega (arith, some));

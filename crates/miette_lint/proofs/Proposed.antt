@@ -165,15 +165,15 @@ with_blanks source at high blanks fixes rest is within own h =
 
 -- where a text's blanks at the beginning end, and those at its end begin
 record HasParts (source text : List ℕ) (at end : ℕ) : Type 0 where
-  behind : ℕ
+  after : ℕ
   before : ℕ
-  behind_is : behind ≡ at + length (take_while is_blank (trimmed text))
+  after_is : after ≡ at + length (take_while is_blank (trimmed text))
   before_is : before ≡ end - ending_blanks text
   few : ending_blanks text ≤ end
-  order : behind ≤ before
+  order : after ≤ before
   to : before ≤ end
-  blanks : slice_range source at behind ≡ take_while is_blank (trimmed text)
-  rest : slice_range source behind before
+  blanks : slice_range source at after ≡ take_while is_blank (trimmed text)
+  rest : slice_range source after before
       ≡ drop (length (take_while is_blank (trimmed text))) (trimmed text)
 
 has_parts : (source : List ℕ) (at end : ℕ) → at ≤ end → end ≤ length source
@@ -193,16 +193,16 @@ has_parts source at end le within =
     let fits : m ≤ some = omega (arith, length-prefix_len is_blank kept, prefix_len-le-length is_blank kept, kept_size)
     in
     let before : ℕ = end - k in
-    let behind : ℕ = at + m in
-    let gap : ℕ = before - behind in
+    let after : ℕ = at + m in
+    let gap : ℕ = before - after in
     let sum : m + gap ≡ some = omega (arith, size, small, fits, le) in
-    let near : behind - at ≡ m = omega arith in
+    let near : after - at ≡ m = omega arith in
     let front : take m kept ≡ blanks =
     ap (take m) (sym (begun_whole kept)) ∙ take-append_seam blanks (drop m kept) in
     record {
-      behind = behind;
+      after = after;
       before = before;
-      behind_is = refl;
+      after_is = refl;
       before_is = refl;
       few = omega (arith, small, size, le);
       order = omega (arith, size, small, fits, le);
@@ -232,14 +232,14 @@ line_makes source ending l fixes rest begins ends within last h =
     let b : Makes source p.before (tf ++ (ef ++ fixes)) (end ++ rest) =
     with_trailing source l.text_end (ending_blanks text) p.before text (ef ++ fixes) (end ++ rest) refl p.before_is
     p.few (omega (arith, ends, within)) a in
-    let c : Makes source p.behind (tf ++ (ef ++ fixes)) (drop m kept ++ (end ++ rest)) = record {
-      apart = earlier (length source) p.behind p.before (tf ++ (ef ++ fixes)) p.order b.apart;
-      made = goes_on source (length source) p.behind p.before (tf ++ (ef ++ fixes)) p.order b.apart
-          ∙ ap (λ r. slice_range source p.behind p.before ++ r) b.made
+    let c : Makes source p.after (tf ++ (ef ++ fixes)) (drop m kept ++ (end ++ rest)) = record {
+      apart = earlier (length source) p.after p.before (tf ++ (ef ++ fixes)) p.order b.apart;
+      made = goes_on source (length source) p.after p.before (tf ++ (ef ++ fixes)) p.order b.apart
+          ∙ ap (λ r. slice_range source p.after p.before ++ r) b.made
           ∙ ap (λ xs. xs ++ (end ++ rest)) p.rest;
     } in
     let d : Makes source l.start (bf ++ (tf ++ (ef ++ fixes))) (even_blanks blanks ++ (drop m kept ++ (end ++ rest))) =
-    with_blanks source l.start p.behind blanks (tf ++ (ef ++ fixes)) (drop m kept ++ (end ++ rest)) p.behind_is
+    with_blanks source l.start p.after blanks (tf ++ (ef ++ fixes)) (drop m kept ++ (end ++ rest)) p.after_is
     (omega (arith, p.order, p.to, ends, within)) p.blanks c in
     let same : bf ++ (tf ++ (ef ++ fixes)) ≡ (bf ++ (tf ++ ef)) ++ fixes =
     ap (λ xs. bf ++ xs) (sym (append_assoc tf ef fixes)) ∙ sym (append_assoc bf (tf ++ ef) fixes) in

@@ -1,7 +1,7 @@
 //! Blanks that begin and end a text.
 
 ghost use Rattle.std.specs.Prelude.{◌≡◌, ◌+◌, ◌<◌, ◌≤◌, length, position, ◌==◌, take_while, IfSome};
-ghost use Rattle.miette_lint.specs.rules.Findings.{ending_blanks, is_blank, tab_after_space, tab_behind};
+ghost use Rattle.miette_lint.specs.rules.Findings.{ending_blanks, is_blank, tab_after_space, tab_from};
 
 // Whether a byte is a space or a tab.
 fn is_blank(byte: u8) -> bool
@@ -43,9 +43,9 @@ fn first_of(bytes: &[u8], byte: u8) -> Option<usize>
 }
 
 // The first tab from a space on.
-fn tab_behind(blanks: &[u8], space: usize) -> Option<usize>
+fn tab_from(blanks: &[u8], space: usize) -> Option<usize>
     requires within { space < length blanks.now }
-    ensures at { result ≡ tab_behind blanks.now space }
+    ensures at { result ≡ tab_from blanks.now space }
     ensures within { IfSome result (λ at. at < length blanks.now) }
 {
     match first_of(&blanks[space..], b'\t') {
@@ -60,7 +60,7 @@ pub(crate) fn tab_after_space(blanks: &[u8]) -> Option<usize>
     ensures within { IfSome result (λ at. at < length blanks.now) }
 {
     match first_of(blanks, b' ') {
-        Some(space) => tab_behind(blanks, space),
+        Some(space) => tab_from(blanks, space),
         None => None,
     }
 }

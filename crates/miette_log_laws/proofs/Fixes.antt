@@ -10,7 +10,7 @@ use Rattle.std.proofs.lemmas.Slice.Eq.{bytes_eq-Decides}
 use Rattle.indexmap.specs.IndexSet.{insert_key}
 use Rattle.miette_basics.specs.rules.Lists.{is_nil}
 use Rattle.miette_fixes.specs.rules.Applying.{by_offset, put_edit, refusal}
-use Rattle.miette_fixes.specs.rules.Edits.{Proposal, Replacement, end_of, is_behind}
+use Rattle.miette_fixes.specs.rules.Edits.{Proposal, Replacement, end_of, is_after}
 use Rattle.miette_json.specs.rules.Denotes.{HasTokensOf}
 use Rattle.miette_json.specs.rules.Json.{Json, json_text}
 use Rattle.miette_json.proofs.JsonSpelled.{spelling_tokens_lem}
@@ -95,7 +95,7 @@ put_told Q e next es false f h = h
 one_put : (Q : List ℕ → Type 0) (e : Replacement) (es : List Replacement) → AllEdits Q (put_edit e es)
     → AllEdits Q (e ∷ es)
 one_put Q e [] h = h
-one_put Q e (next ∷ es) h = put_told Q e next es (is_behind e next) (one_put Q e es) h
+one_put Q e (next ∷ es) h = put_told Q e next es (is_after e next) (one_put Q e es) h
 
 order_told : (Q : List ℕ → Type 0) (es : List Replacement) → AllEdits Q (by_offset es) → AllEdits Q es
 order_told Q [] h = tt

@@ -18,17 +18,17 @@ items_back (v ∷ vs) = ap (λ l. v ∷ l) (items_back vs)
 
 -- ---- results
 
-results_behind : (t : ToolName) (r : Rules) (artifacts vs : List Json)
+results_after : (t : ToolName) (r : Rules) (artifacts vs : List Json)
     → list_at (codes "results") (object_of (run_head t r
     ++ (listed (codes "artifacts") artifacts ++ pair (codes "results") (array_of vs)))) ≡ vs
-results_behind t r [] vs = items_back vs
-results_behind t r (a ∷ artifacts) vs = items_back vs
+results_after t r [] vs = items_back vs
+results_after t r (a ∷ artifacts) vs = items_back vs
 
 pub results_listed : (t : ToolName) (fs : List Finding)
     → results_in (log t fs) ≡ results (rules_of fs) (artifacts_in (all_named fs)) fs
 results_listed t fs =
     append-nil (list_at (codes "results") (run t fs))
-    ∙ results_behind t (rules_of fs) (artifact_values (artifacts_in (all_named fs)))
+    ∙ results_after t (rules_of fs) (artifact_values (artifacts_in (all_named fs)))
     (results (rules_of fs) (artifacts_in (all_named fs)) fs)
 
 -- ---- rules
@@ -37,19 +37,19 @@ rules_last : (vs : List Json) → list_at (codes "rules") (object_of (listed (co
 rules_last [] = refl
 rules_last (v ∷ vs) = items_back (v ∷ vs)
 
-rules_behind_uri : (uri : Option (List ℕ)) (vs : List Json)
+rules_after_uri : (uri : Option (List ℕ)) (vs : List Json)
     → list_at (codes "rules") (object_of (maybe_text (codes "informationUri") uri ++ listed (codes "rules") vs)) ≡ vs
-rules_behind_uri None vs = rules_last vs
-rules_behind_uri (Some uri) vs = rules_last vs
+rules_after_uri None vs = rules_last vs
+rules_after_uri (Some uri) vs = rules_last vs
 
-rules_behind : (name : List ℕ) (version uri : Option (List ℕ)) (vs : List Json)
+rules_after : (name : List ℕ) (version uri : Option (List ℕ)) (vs : List Json)
     → list_at (codes "rules") (object_of (pair (codes "name") (string name)
     ++ (maybe_text (codes "version") version
     ++ (maybe_text (codes "informationUri") uri ++ listed (codes "rules") vs)))) ≡ vs
-rules_behind name None uri vs = rules_behind_uri uri vs
-rules_behind name (Some version) uri vs = rules_behind_uri uri vs
+rules_after name None uri vs = rules_after_uri uri vs
+rules_after name (Some version) uri vs = rules_after_uri uri vs
 
 pub rules_listed : (t : ToolName) (fs : List Finding) → rules_in (log t fs) ≡ rule_values (rules_of fs)
 rules_listed t fs =
     append-nil (list_at (codes "rules") (value_at (codes "driver") (value_at (codes "tool") (run t fs))))
-    ∙ rules_behind t.name t.version (option_map address_uri t.information) (rule_values (rules_of fs))
+    ∙ rules_after t.name t.version (option_map address_uri t.information) (rule_values (rules_of fs))

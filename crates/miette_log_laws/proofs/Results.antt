@@ -42,23 +42,23 @@ use Rattle.miette_log_laws.proofs.Rows.{row_stands, rows_stand, url_told}
 
 -- the parts of its message
 module _ (r : Rules) (a : Artifacts) (f : Finding) where
-  behind_message : Holds (result_of r a f) (rows (codes "caused by: ") f.causes ++ (maybe_row (codes "help: ") f.help
+  after_message : Holds (result_of r a f) (rows (codes "caused by: ") f.causes ++ (maybe_row (codes "help: ") f.help
       ++ (rows (codes "fix: ") f.unapplied ++ see_row (r.uri f.code) f.url)))
-  behind_message =
+  after_message =
       right_holds (result_of r a f) (doubled f.message) (rows (codes "caused by: ") f.causes
       ++ (maybe_row (codes "help: ") f.help ++ (rows (codes "fix: ") f.unapplied ++ see_row (r.uri f.code) f.url)))
       (in_result_message r a f)
 
-  behind_causes : Holds (result_of r a f) (maybe_row (codes "help: ") f.help
+  after_causes : Holds (result_of r a f) (maybe_row (codes "help: ") f.help
       ++ (rows (codes "fix: ") f.unapplied ++ see_row (r.uri f.code) f.url))
-  behind_causes =
+  after_causes =
       right_holds (result_of r a f) (rows (codes "caused by: ") f.causes) (maybe_row (codes "help: ") f.help
-      ++ (rows (codes "fix: ") f.unapplied ++ see_row (r.uri f.code) f.url)) behind_message
+      ++ (rows (codes "fix: ") f.unapplied ++ see_row (r.uri f.code) f.url)) after_message
 
-  behind_help : Holds (result_of r a f) (rows (codes "fix: ") f.unapplied ++ see_row (r.uri f.code) f.url)
-  behind_help =
+  after_help : Holds (result_of r a f) (rows (codes "fix: ") f.unapplied ++ see_row (r.uri f.code) f.url)
+  after_help =
       right_holds (result_of r a f) (maybe_row (codes "help: ") f.help)
-      (rows (codes "fix: ") f.unapplied ++ see_row (r.uri f.code) f.url) behind_causes
+      (rows (codes "fix: ") f.unapplied ++ see_row (r.uri f.code) f.url) after_causes
 
   message_told : StandsIn (result_of r a f) (doubled f.message)
   message_told =
@@ -70,22 +70,22 @@ module _ (r : Rules) (a : Artifacts) (f : Finding) where
   causes_told =
       rows_stand (result_of r a f) (codes "caused by: ") f.causes
       (left_holds (result_of r a f) (rows (codes "caused by: ") f.causes) (maybe_row (codes "help: ") f.help
-      ++ (rows (codes "fix: ") f.unapplied ++ see_row (r.uri f.code) f.url)) behind_message)
+      ++ (rows (codes "fix: ") f.unapplied ++ see_row (r.uri f.code) f.url)) after_message)
 
   help_told : IfSome f.help (λ t. StandsIn (result_of r a f) (row (codes "help: ") t))
   help_told =
       row_stands (result_of r a f) (codes "help: ") f.help
       (left_holds (result_of r a f) (maybe_row (codes "help: ") f.help)
-      (rows (codes "fix: ") f.unapplied ++ see_row (r.uri f.code) f.url) behind_causes)
+      (rows (codes "fix: ") f.unapplied ++ see_row (r.uri f.code) f.url) after_causes)
 
   unapplied_told : AllByRecursion (λ t. StandsIn (result_of r a f) (row (codes "fix: ") t)) f.unapplied
   unapplied_told =
       rows_stand (result_of r a f) (codes "fix: ") f.unapplied
-      (left_holds (result_of r a f) (rows (codes "fix: ") f.unapplied) (see_row (r.uri f.code) f.url) behind_help)
+      (left_holds (result_of r a f) (rows (codes "fix: ") f.unapplied) (see_row (r.uri f.code) f.url) after_help)
 
   see_holds : Holds (result_of r a f) (see_row (r.uri f.code) f.url)
   see_holds =
-      right_holds (result_of r a f) (rows (codes "fix: ") f.unapplied) (see_row (r.uri f.code) f.url) behind_help
+      right_holds (result_of r a f) (rows (codes "fix: ") f.unapplied) (see_row (r.uri f.code) f.url) after_help
 
 code_told : (v : Json) (o : Option (List ℕ)) → TellsCode v (unwrap_or o []) → IfSome o (TellsCode v)
 code_told v None h = tt

@@ -30,15 +30,15 @@ use Rattle.miette_log_laws.proofs.Parts.{part_none, part_right, part_self}
 
 -- ---- members of a result
 
-level_behind : (r : Rules) (code level : List ℕ) (message : Json) (tail : Pairs)
+level_after : (r : Rules) (code level : List ℕ) (message : Json) (tail : Pairs)
     → value_at (codes "level") (object_of ((rule_pairs r code ++ (pair (codes "level") (string level)
     ++ pair (codes "message") message)) ++ tail)) ≡ string level
-level_behind r [] level message tail = refl
-level_behind r (c ∷ cs) level message tail = refl
+level_after r [] level message tail = refl
+level_after r (c ∷ cs) level message tail = refl
 
 pub level_read : (r : Rules) (a : Artifacts) (f : Finding)
     → value_at (codes "level") (result_of r a f) ≡ string f.level
-level_read r a f = level_behind r f.code f.level (message_of (message_text r f)) (tail_pairs a f)
+level_read r a f = level_after r f.code f.level (message_of (message_text r f)) (tail_pairs a f)
 
 code_in_front : (r : Rules) (code : List ℕ) (others tail : Pairs)
     → TellsCode (object_of ((rule_pairs r code ++ others) ++ tail)) code

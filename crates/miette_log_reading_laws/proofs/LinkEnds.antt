@@ -4,7 +4,7 @@ use Rattle.std.proofs.Common.{drop, slice_index, refl, sym, ap, ◌∙◌, arith
 use Rattle.std.proofs.lemmas.Bool.{and_parts, eqb-true}
 use Rattle.miette_sarif_reader.specs.rules.Messages.{Piece, bracket_at, has_destination, is_escapable, is_link, plain}
 use Rattle.miette_log_reading_laws.specs.laws.LinkEnds.{has_link_end}
-use Rattle.miette_log_reading_laws.specs.laws.Links.{link_piece, unlinked_behind, without_links}
+use Rattle.miette_log_reading_laws.specs.laws.Links.{link_piece, unlinked_after, without_links}
 
 neither : (a b : Bool) → (a || b) ≡ false → b ≡ false
 neither true b h = absurd (cc)
@@ -56,9 +56,9 @@ plain_here b bs false false true l m n none linkless =
 plain_here b bs false false false l m n none linkless = rw (l, m, n) refl
 
 one_kept : (b : ℕ) (bs : List ℕ) → (eqb b 92 && is_escapable (slice_index bs 0)) ≡ false → is_link bs ≡ false
-    → unlinked_behind false 0 bs ≡ bs → unlinked_behind false 0 (b ∷ bs) ≡ b ∷ bs
+    → unlinked_after false 0 bs ≡ bs → unlinked_after false 0 (b ∷ bs) ≡ b ∷ bs
 one_kept b bs none linkless more =
-    ap (λ (p : Piece). p.shown ++ unlinked_behind p.in_link p.further bs)
+    ap (λ (p : Piece). p.shown ++ unlinked_after p.in_link p.further bs)
     (plain_here b bs (eqb b 92) (eqb b 91) (eqb b 93) refl refl refl none linkless)
     ∙ ap (λ l. b ∷ l) more
 
@@ -71,22 +71,22 @@ escape_here b c cs l m =
     rw (l, m) (ap made same)
 
 two_kept : (t : Bool) (b c : ℕ) (cs : List ℕ) → (eqb b 92 && is_escapable c) ≡ t → is_link (c ∷ cs) ≡ false
-    → unlinked_behind false 0 (c ∷ cs) ≡ c ∷ cs → unlinked_behind false 0 cs ≡ cs
-    → unlinked_behind false 0 (b ∷ (c ∷ cs)) ≡ b ∷ (c ∷ cs)
+    → unlinked_after false 0 (c ∷ cs) ≡ c ∷ cs → unlinked_after false 0 cs ≡ cs
+    → unlinked_after false 0 (b ∷ (c ∷ cs)) ≡ b ∷ (c ∷ cs)
 two_kept false b c cs e linkless one more = one_kept b (c ∷ cs) e linkless one
 two_kept true b c cs e linkless one more =
     let parts = and_parts (eqb b 92) (is_escapable c) e in
-    ap (λ (p : Piece). p.shown ++ unlinked_behind p.in_link p.further (c ∷ cs)) (escape_here b c cs parts.0 parts.1)
+    ap (λ (p : Piece). p.shown ++ unlinked_after p.in_link p.further (c ∷ cs)) (escape_here b c cs parts.0 parts.1)
     ∙ ap (λ l. b ∷ (c ∷ l)) more
 
-kept : (text : List ℕ) → has_link_end text ≡ false → unlinked_behind false 0 text ≡ text
+kept : (text : List ℕ) → has_link_end text ≡ false → unlinked_after false 0 text ≡ text
 kept [] h = refl
 kept (b ∷ []) h = one_kept b [] (never (eqb b 92)) refl refl
 kept (b ∷ (c ∷ cs)) h =
-    let behind : has_link_end (c ∷ cs) ≡ false = neither _ (has_link_end (c ∷ cs)) h in
-    let further : has_link_end cs ≡ false = neither _ (has_link_end cs) behind in
-    two_kept (eqb b 92 && is_escapable c) b c cs refl (no_link (c ∷ cs) (is_link (c ∷ cs)) refl behind)
-    (kept (c ∷ cs) behind) (kept cs further)
+    let after : has_link_end (c ∷ cs) ≡ false = neither _ (has_link_end (c ∷ cs)) h in
+    let further : has_link_end cs ≡ false = neither _ (has_link_end cs) after in
+    two_kept (eqb b 92 && is_escapable c) b c cs refl (no_link (c ∷ cs) (is_link (c ∷ cs)) refl after)
+    (kept (c ∷ cs) after) (kept cs further)
 
 pub linkless_kept : (text : List ℕ) → has_link_end text ≡ false → without_links text ≡ text
 linkless_kept text h = kept text h

@@ -10,9 +10,9 @@ use Rattle.miette_sarif_reader.specs.rules.Messages.{Piece, backslash_piece, bra
 use Rattle.miette_sarif_reader.specs.rules.Messages.{destination_count}
 use Rattle.miette_sarif_reader.specs.rules.Messages.{ends_destination, escaped, has_destination, is_bracket}
 use Rattle.miette_sarif_reader.specs.rules.Messages.{is_escapable}
-use Rattle.miette_sarif_reader.specs.rules.Messages.{is_link, opening_piece, piece_of, plain, shown, shown_behind}
+use Rattle.miette_sarif_reader.specs.rules.Messages.{is_link, opening_piece, piece_of, plain, shown, shown_after}
 use Rattle.std.specs.List.{position_or_len}
-use Rattle.miette_log_reading_laws.specs.laws.Links.{link_piece, unlinked_behind, without_links}
+use Rattle.miette_log_reading_laws.specs.laws.Links.{link_piece, unlinked_after, without_links}
 
 -- ---- doubled bytes
 
@@ -134,9 +134,9 @@ same_destination (z ∷ zs) = destination_by z zs (is_brace z) refl
 
 -- ---- what stands after a destination
 
-behind_end : (zs : List ℕ) → slice_index zs (count zs) ≡ 41
+after_end : (zs : List ℕ) → slice_index zs (count zs) ≡ 41
     → drop (count (doubled zs) + 1) (doubled zs) ≡ doubled (drop (count zs + 1) zs)
-behind_end zs e =
+after_end zs e =
     let ends : is_brace (slice_index (drop (count zs) zs) 0) ≡ false = ap is_brace (at_drop (count zs) zs ∙ e) in
     sym (drop-drop 1 (count (doubled zs)) (doubled zs))
     ∙ (ap (drop 1) (same_end zs)
@@ -146,25 +146,25 @@ drop_two : (n z : ℕ) (zs : List ℕ) → drop (n + 2) (z ∷ zs) ≡ drop (n +
 drop_two n z zs =
     let two : n + 2 ≡ suc (n + 1) = omega arith in ap (λ k. drop k (z ∷ zs)) two
 
-abbrev SameBehind : List ℕ → List ℕ → Type 0
-SameBehind us zs = drop (destination_count us + 2) us ≡ doubled (drop (destination_count zs + 2) zs)
+abbrev SameAfter : List ℕ → List ℕ → Type 0
+SameAfter us zs = drop (destination_count us + 2) us ≡ doubled (drop (destination_count zs + 2) zs)
 
-opened_behind : (zs : List ℕ) → slice_index zs (count zs) ≡ 41 → SameBehind (40 ∷ doubled zs) (40 ∷ zs)
-opened_behind zs e =
+opened_after : (zs : List ℕ) → slice_index zs (count zs) ≡ 41 → SameAfter (40 ∷ doubled zs) (40 ∷ zs)
+opened_after zs e =
     drop_two (count (doubled zs)) 40 (doubled zs)
-    ∙ (behind_end zs e ∙ sym (ap doubled (drop_two (count zs) 40 zs)))
+    ∙ (after_end zs e ∙ sym (ap doubled (drop_two (count zs) 40 zs)))
 
-first_behind : (z : ℕ) (zs : List ℕ) → z ≡ 40 → slice_index zs (count zs) ≡ 41
-    → SameBehind (doubled (z ∷ zs)) (z ∷ zs)
-first_behind z zs is e = subst (λ x. SameBehind (doubled (x ∷ zs)) (x ∷ zs)) (sym is) (opened_behind zs e)
+first_after : (z : ℕ) (zs : List ℕ) → z ≡ 40 → slice_index zs (count zs) ≡ 41
+    → SameAfter (doubled (z ∷ zs)) (z ∷ zs)
+first_after z zs is e = subst (λ x. SameAfter (doubled (x ∷ zs)) (x ∷ zs)) (sym is) (opened_after zs e)
 
-same_behind : (zs : List ℕ) → has_destination zs ≡ true → SameBehind (doubled zs) zs
-same_behind [] e = absurd (true≢false (sym e))
-same_behind (z ∷ zs) e =
+same_after : (zs : List ℕ) → has_destination zs ≡ true → SameAfter (doubled zs) zs
+same_after [] e = absurd (true≢false (sym e))
+same_after (z ∷ zs) e =
     let ends : Bool = slice_index (z ∷ zs) (count zs + 1) == 41 in
     let parts = and_parts (z == 40) (nat_lt 0 (count zs) && ends) e in
     let last = and_parts (nat_lt 0 (count zs)) ends parts.1 in
-    first_behind z zs (eqb-true z 40 parts.0)
+    first_after z zs (eqb-true z 40 parts.0)
     (sym (over_one z (count zs) zs) ∙ eqb-true (slice_index (z ∷ zs) (count zs + 1)) 41 last.1)
 
 -- ---- links
@@ -271,7 +271,7 @@ same_closing : (l : Bool) (zs : List ℕ) → Same (closing_piece l (doubled zs)
 same_closing l zs =
     subst (λ b. Same (closed l b (destination_count (doubled zs))) (closing_piece l zs) zs)
     (sym (same_destination zs))
-    (closing_by l (has_destination zs) (destination_count (doubled zs)) (destination_count zs) zs (same_behind zs))
+    (closing_by l (has_destination zs) (destination_count (doubled zs)) (destination_count zs) zs (same_after zs))
 
 piece_by : (p q r s t u : Piece) (v : Piece) (zs : List ℕ) (x y z : Bool) → Same p s zs → Same q t zs → Same r u zs
     → Same v v zs → Same (if x then p else if y then q else if z then r else v)
@@ -289,34 +289,34 @@ same_piece l b zs =
 
 -- ---- all of a text
 
-skips_shown : (l : Bool) (n : ℕ) (zs : List ℕ) → shown_behind [] l n zs ≡ shown_behind [] l 0 (drop n zs)
+skips_shown : (l : Bool) (n : ℕ) (zs : List ℕ) → shown_after [] l n zs ≡ shown_after [] l 0 (drop n zs)
 skips_shown l zero zs = refl
 skips_shown l (suc n) [] = refl
 skips_shown l (suc n) (z ∷ zs) = skips_shown l n zs
 
-skips_unlinked : (l : Bool) (n : ℕ) (zs : List ℕ) → unlinked_behind l n zs ≡ unlinked_behind l 0 (drop n zs)
+skips_unlinked : (l : Bool) (n : ℕ) (zs : List ℕ) → unlinked_after l n zs ≡ unlinked_after l 0 (drop n zs)
 skips_unlinked l zero zs = refl
 skips_unlinked l (suc n) [] = refl
 skips_unlinked l (suc n) (z ∷ zs) = skips_unlinked l n zs
 
 abbrev AllShown : ℕ → Type 0
-AllShown n = (l : Bool) (zs : List ℕ) → length zs ≤ n → shown_behind [] l 0 (doubled zs) ≡ unlinked_behind l 0 zs
+AllShown n = (l : Bool) (zs : List ℕ) → length zs ≤ n → shown_after [] l 0 (doubled zs) ≡ unlinked_after l 0 zs
 
 -- after a piece
 rest_shown : (n : ℕ) → AllShown n → (p q : Piece) (zs : List ℕ) → length zs ≤ n → Same p q zs
-    → p.shown ++ shown_behind [] p.in_link p.further (doubled zs)
-    ≡ q.shown ++ unlinked_behind q.in_link q.further zs
+    → p.shown ++ shown_after [] p.in_link p.further (doubled zs)
+    ≡ q.shown ++ unlinked_after q.in_link q.further zs
 rest_shown n go p q zs short same =
     let shorter : length (drop q.further zs) ≤ n = omega (arith, short, length-drop q.further zs) in
-    ap (λ us. us ++ shown_behind [] p.in_link p.further (doubled zs)) same.text
-    ∙ (ap (λ l. q.shown ++ shown_behind [] l p.further (doubled zs)) same.in_link
+    ap (λ us. us ++ shown_after [] p.in_link p.further (doubled zs)) same.text
+    ∙ (ap (λ l. q.shown ++ shown_after [] l p.further (doubled zs)) same.in_link
     ∙ ap (λ us. q.shown ++ us)
     (skips_shown q.in_link p.further (doubled zs)
-    ∙ (ap (shown_behind [] q.in_link 0) same.rest
+    ∙ (ap (shown_after [] q.in_link 0) same.rest
     ∙ (go q.in_link (drop q.further zs) shorter ∙ sym (skips_unlinked q.in_link q.further zs)))))
 
 abbrev SameShown : Bool → ℕ → List ℕ → Type 0
-SameShown l z zs = shown_behind [] l 0 (doubled (z ∷ zs)) ≡ unlinked_behind l 0 (z ∷ zs)
+SameShown l z zs = shown_after [] l 0 (doubled (z ∷ zs)) ≡ unlinked_after l 0 (z ∷ zs)
 
 brace_shown : (n : ℕ) → AllShown n → (l : Bool) (z : ℕ) (zs : List ℕ) → length zs ≤ n → is_brace z ≡ true
     → SameShown l z zs
@@ -331,8 +331,8 @@ no_brace_piece l z zs e = rw e
 plain_shown : (n : ℕ) → AllShown n → (l : Bool) (z : ℕ) (zs : List ℕ) → length zs ≤ n → is_brace z ≡ false
     → SameShown l z zs
 plain_shown n go l z zs short e =
-    ap (shown_behind [] l 0) (one_double z zs e)
-    ∙ (ap (λ (p : Piece). p.shown ++ shown_behind [] p.in_link p.further (doubled zs))
+    ap (shown_after [] l 0) (one_double z zs e)
+    ∙ (ap (λ (p : Piece). p.shown ++ shown_after [] p.in_link p.further (doubled zs))
     (no_brace_piece l z (doubled zs) e)
     ∙ rest_shown n go (link_piece l z (doubled zs)) (link_piece l z zs) zs short (same_piece l z zs))
 

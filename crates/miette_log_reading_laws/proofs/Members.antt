@@ -17,7 +17,7 @@ use Rattle.miette_sarif.specs.rules.Places.{byte_pairs, line_pairs, place_pairs,
 use Rattle.miette_sarif.specs.rules.Places.{related_from, snippet_pairs, text_pairs}
 use Rattle.miette_sarif.specs.rules.Results.{change, fix_value, inserted, replacement}
 use Rattle.miette_log_reading_laws.specs.laws.Data.{data_of}
-use Rattle.miette_log_reading_laws.proofs.Objects.{IsObject, behind, listed_read, object_read, skips, some_array}
+use Rattle.miette_log_reading_laws.proofs.Objects.{IsObject, after_pairs, listed_read, object_read, skips, some_array}
 use Rattle.miette_log_reading_laws.proofs.Objects.{value_in}
 
 -- ---- a result
@@ -40,14 +40,15 @@ module _ (r : Rules) (level text : List ℕ) (ls rs xs : List Json) where
   parts_read : (code k : List ℕ) → get k (result_by code) ≡ value_in k (tail_by ls rs xs) (in_head code k)
   parts_read code k =
       object_read k (head_by r code level text ++ tail_by ls rs xs)
-      ∙ behind k (head_by r code level text) (tail_by ls rs xs) None
+      ∙ after_pairs k (head_by r code level text) (tail_by ls rs xs) None
 
   tail_read : (k : List ℕ) (o : Option Data) → value_in k (tail_by ls rs xs) o
       ≡ value_in k (listed (codes "fixes") xs)
       (value_in k (listed (codes "relatedLocations") rs) (value_in k (listed (codes "locations") ls) o))
   tail_read k o =
-      behind k (listed (codes "locations") ls) (listed (codes "relatedLocations") rs ++ listed (codes "fixes") xs) o
-      ∙ behind k (listed (codes "relatedLocations") rs) (listed (codes "fixes") xs)
+      after_pairs k (listed (codes "locations") ls)
+      (listed (codes "relatedLocations") rs ++ listed (codes "fixes") xs) o
+      ∙ after_pairs k (listed (codes "relatedLocations") rs) (listed (codes "fixes") xs)
       (value_in k (listed (codes "locations") ls) o)
 
   -- a key of no place and no fix

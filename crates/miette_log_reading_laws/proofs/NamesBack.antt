@@ -18,14 +18,14 @@ use Rattle.percent_encoding.proofs.PercentLemmas.{IsByte, percent_decode-nil, pe
 use Rattle.miette_sarif.specs.declared.uri.TheConstants.{ADDRESS}
 use Rattle.miette_log_reading_laws.specs.laws.NamesBack.{IsPlainAddress, IsPlainName}
 use Rattle.miette_sarif_reader.specs.rules.Bases.{has_scheme}
-use Rattle.miette_sarif_reader.specs.rules.Uris.{behind, name_of, or_path, or_uri, path_of}
+use Rattle.miette_sarif_reader.specs.rules.Uris.{after_front, name_of, or_path, or_uri, path_of}
 use Rattle.miette_sarif.specs.rules.Uris.{address_uri, begins_with_hex, begins_with_slash, name_uri, path_uri}
 use Rattle.miette_log_reading_laws.proofs.NamesDecoded.{decode_front, decoded_path, no_scheme, utf8_small}
 
 -- ---- the path of a URI
 
 pub file_path : (path : List ℕ) → path_of (codes "file://" ++ path) ≡ path
-unfolding behind
+unfolding after_front
 file_path path = refl
 
 front_is : (front uri : List ℕ) → starts_with eqb uri front ≡ true → uri ≡ front ++ drop (length front) uri
@@ -51,7 +51,7 @@ shorter uri h =
     (cases_Bool (starts_with eqb uri (codes "file://")))
 
 other_path : (uri : List ℕ) → starts_with eqb uri (codes "file:") ≡ false → path_of uri ≡ uri
-unfolding behind
+unfolding after_front
 other_path uri h =
     ap (λ b. or_path uri (cond b (Some (drop 7 uri)) None)) (shorter uri h)
     ∙ ap (λ b. or_uri uri (cond b (Some (drop 5 uri)) None)) h
@@ -167,7 +167,7 @@ each_by test P tells (x ∷ xs) h =
     All-cons P x xs (tells x parts.0) (each_by test P tells xs parts.1)
 
 untitled_path : (rest : List ℕ) → path_of (codes "untitled:" ++ rest) ≡ codes "untitled:" ++ rest
-unfolding behind
+unfolding after_front
 untitled_path rest = refl
 
 pub untitled_back : (k : ℕ) → name_of (codes "untitled:" ++ decimal k) ≡ codes "untitled:" ++ decimal k

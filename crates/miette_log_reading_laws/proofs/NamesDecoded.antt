@@ -97,11 +97,11 @@ no_colon (x ∷ xs) h =
     passed (eqb x 58) (eqb x 47) (has_scheme xs) (ne_eqb x 58 (All-head (λ y. y ≢ 58) x xs h))
     (no_colon xs (All-tail (λ y. y ≢ 58) x xs h))
 
-behind_slash : (xs ys : List ℕ) → All (λ x. x ≢ 58) xs → has_scheme (xs ++ 47 ∷ ys) ≡ false
-behind_slash [] ys h = refl
-behind_slash (x ∷ xs) ys h =
+after_slash : (xs ys : List ℕ) → All (λ x. x ≢ 58) xs → has_scheme (xs ++ 47 ∷ ys) ≡ false
+after_slash [] ys h = refl
+after_slash (x ∷ xs) ys h =
     passed (eqb x 58) (eqb x 47) (has_scheme (xs ++ 47 ∷ ys)) (ne_eqb x 58 (All-head (λ y. y ≢ 58) x xs h))
-    (behind_slash xs ys (All-tail (λ y. y ≢ 58) x xs h))
+    (after_slash xs ys (All-tail (λ y. y ≢ 58) x xs h))
 
 escape_no_colon : (x : ℕ) → IsEscapeByte x → x ≢ 58
 escape_no_colon x h e = grind arith
@@ -130,7 +130,7 @@ scheme_by path true e =
     let within : at < length path = ltb-true at (length path) e in
     ap (λ l. has_scheme (percent_encode SEGMENT (take at path) ++ l))
     (slash_kept path at within (passes_at_first is_slash path 0 within))
-    ∙ behind_slash (percent_encode SEGMENT (take at path)) (percent_encode PATH (drop (at + 1) path))
+    ∙ after_slash (percent_encode SEGMENT (take at path)) (percent_encode PATH (drop (at + 1) path))
     (segment_no_colon (take at path))
 
 -- a path that is written as a URI begins with no scheme

@@ -39,10 +39,10 @@ members_read k (p ∷ ps) found =
 pub object_read : (k : List ℕ) (ps : Pairs) → get k (data_of (object_of ps)) ≡ value_in k ps None
 object_read k ps = members_read k ps no_members
 
-pub behind : (k : List ℕ) (ps qs : Pairs) (o : Option Data)
+pub after_pairs : (k : List ℕ) (ps qs : Pairs) (o : Option Data)
     → value_in k (ps ++ qs) o ≡ value_in k qs (value_in k ps o)
-behind k [] qs o = refl
-behind k (p ∷ ps) qs o = behind k ps qs (if bytes_eq k p.0 then Some (data_of p.1) else o)
+after_pairs k [] qs o = refl
+after_pairs k (p ∷ ps) qs o = after_pairs k ps qs (if bytes_eq k p.0 then Some (data_of p.1) else o)
 
 -- a list under another key
 pub skips : (k key : List ℕ) (vs : List Json) (o : Option Data) → bytes_eq k key ≡ false

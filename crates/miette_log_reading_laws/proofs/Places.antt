@@ -15,7 +15,7 @@ use Rattle.miette_sarif.specs.rules.Artifacts.{Artifacts, located, uri_of}
 use Rattle.miette_sarif.specs.rules.Codes.{Rules}
 use Rattle.miette_sarif.specs.rules.Findings.{SourceName}
 use Rattle.miette_sarif_reader.specs.rules.Bases as bases
-use Rattle.miette_sarif_reader.specs.rules.Bases.{base_uri, behind_base, is_absolute, most_bases, own_uri}
+use Rattle.miette_sarif_reader.specs.rules.Bases.{after_base, base_uri, is_absolute, most_bases, own_uri}
 use Rattle.miette_sarif_reader.specs.rules.Regions.{end_columns, end_line, has_chars, has_bytes, has_line}
 use Rattle.miette_sarif_reader.specs.rules.Regions.{line_stretch, offset_at, start_column, start_line, stretch_by_bytes}
 use Rattle.miette_sarif_reader.specs.rules.Regions.{stretch_by_chars, stretch_in}
@@ -43,10 +43,10 @@ pub name_read : (a : Artifacts) (s : SourceName) → bases.file_name None (data_
 name_read a s =
     let l : Data = data_of (located a s) in
     let uri : List ℕ = uri_of a.untitled s in
-    ap (λ o. name_of (behind_base (base_uri most_bases None (option_and_then
+    ap (λ o. name_of (after_base (base_uri most_bases None (option_and_then
     (λ id. option_and_then (object_at id) None) (option_and_then as_str o))) (own_uri l))) (base_read a s)
-    ∙ (ap (λ base. name_of (behind_base base (own_uri l))) no_base
-    ∙ (ap (λ o. name_of (behind_base [] (unwrap_or (option_and_then as_str o) []))) (uri_read a s)
+    ∙ (ap (λ base. name_of (after_base base (own_uri l))) no_base
+    ∙ (ap (λ o. name_of (after_base [] (unwrap_or (option_and_then as_str o) []))) (uri_read a s)
     ∙ ap name_of (alone_by uri (is_absolute uri))))
 
 -- ---- files

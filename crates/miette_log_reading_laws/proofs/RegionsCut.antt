@@ -12,17 +12,17 @@ use Rattle.miette_log_reading_laws.proofs.RegionsEnds.{Ends, ended, no_end}
 pub record Cut (bytes : List ℕ) (size : ℕ) : Type 0 where
   pub within : size ≤ length bytes
   pub plain : list_all is_text (take size bytes) ≡ true
-  pub behind : (drop size bytes ≡ []) ⊎ ((end : ℕ) × Ends (drop size bytes) end)
+  pub after : (drop size bytes ≡ []) ⊎ ((end : ℕ) × Ends (drop size bytes) end)
 
 cut_more : (b : ℕ) (bs : List ℕ) (size : ℕ) → is_text b ≡ true → Cut bs size → Cut (b ∷ bs) (suc size)
 cut_more b bs size h c = record {
   within = omega (arith, c.within);
   plain = and_from (is_text b) (list_all is_text (take size bs)) h c.plain;
-  behind = c.behind;
+  after = c.after;
 }
 
 cut_here : (b : ℕ) (bs : List ℕ) → is_text b ≡ false → Cut (b ∷ bs) 0
-cut_here b bs h = record { within = omega arith; plain = refl; behind = inr (ended b bs h) }
+cut_here b bs h = record { within = omega arith; plain = refl; after = inr (ended b bs h) }
 
 stopped : (end more : ℕ) → 0 < end → one_more end more ≡ 0
 stopped zero more h = absurd (omega (arith, h))
@@ -40,7 +40,7 @@ cut_by false b bs h rest =
     (sym (stopped (end_size log_newlines (b ∷ bs)) (text_size log_newlines bs) some)) (cut_here b bs h)
 
 pub first_cut : (bytes : List ℕ) → Cut bytes (text_size log_newlines bytes)
-first_cut [] = record { within = omega arith; plain = refl; behind = inl refl }
+first_cut [] = record { within = omega arith; plain = refl; after = inl refl }
 first_cut (b ∷ bs) = cut_by (is_text b) b bs refl (first_cut bs)
 
 -- ---- the size of a line that ends

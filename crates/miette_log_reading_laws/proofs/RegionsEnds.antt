@@ -13,7 +13,7 @@ use Rattle.miette_cells.proofs.Plaining.{ascii_decoded}
 use Rattle.miette_cells.proofs.Stepping.{characters_end, characters_step, made}
 use Rattle.miette_positions.specs.declared.place.PositionEncoding.{PositionEncoding}
 use Rattle.miette_positions.specs.declared.place.Stop.{Stop}
-use Rattle.miette_positions.specs.rules.Stops.{begins_with_lf, is_newline, stops_behind}
+use Rattle.miette_positions.specs.rules.Stops.{begins_with_lf, is_newline, stops_after}
 use Rattle.miette_source_lines.specs.rules.Lines.{is_text}
 use Rattle.miette_sarif_reader.specs.rules.Newlines.{end_size}
 use Rattle.miette_log_reading_laws.specs.laws.RegionsBack.{log_newlines}
@@ -84,9 +84,9 @@ pub record Ends (bytes : List ℕ) (size : ℕ) : Type 0 where
   pub within : size ≤ length bytes
   pub read : end_size log_newlines bytes ≡ size
   pub clean : StartsClean bytes
-  pub stops : (e : PositionEncoding) (s : Stop) → stops_behind e s (characters bytes)
+  pub stops : (e : PositionEncoding) (s : Stop) → stops_after e s (characters bytes)
       ≡ stop_on (s.offset + size) (s.position.line + 1) 0
-      ∷ stops_behind e (stop_on (s.offset + size) (s.position.line + 1) 0) (characters (drop size bytes))
+      ∷ stops_after e (stop_on (s.offset + size) (s.position.line + 1) 0) (characters (drop size bytes))
 
 lf_ends : (bs : List ℕ) → Ends (10 ∷ bs) 1
 lf_ends bs = record {
@@ -94,7 +94,7 @@ lf_ends bs = record {
   within = omega arith;
   read = refl;
   clean = λ some. refl;
-  stops = λ e s. ap (stops_behind e s) (ascii_first 10 bs (omega arith));
+  stops = λ e s. ap (stops_after e s) (ascii_first 10 bs (omega arith));
 }
 
 cr_last : Ends (13 ∷ []) 1
@@ -103,10 +103,10 @@ cr_last = record {
   within = omega arith;
   read = refl;
   clean = λ some. refl;
-  stops = λ e s. ap (stops_behind e s) (ascii_first 13 [] (omega arith)
+  stops = λ e s. ap (stops_after e s) (ascii_first 13 [] (omega arith)
       ∙ ap (λ cs. made 13 1 ∷ cs) (characters_end [] refl))
       ∙ sym (ap (λ cs. stop_on (s.offset + 1) (s.position.line + 1) 0
-      ∷ stops_behind e (stop_on (s.offset + 1) (s.position.line + 1) 0) cs) (characters_end [] refl));
+      ∷ stops_after e (stop_on (s.offset + 1) (s.position.line + 1) 0) cs) (characters_end [] refl));
 }
 
 crlf_ends : (bs : List ℕ) → Ends (13 ∷ (10 ∷ bs)) 2
@@ -116,10 +116,10 @@ crlf_ends bs = record {
   read = refl;
   clean = λ some. refl;
   stops = λ e s. (let two : s.offset + 1 + 1 ≡ s.offset + 2 = omega arith in
-      ap (stops_behind e s) (ascii_first 13 (10 ∷ bs) (omega arith)
+      ap (stops_after e s) (ascii_first 13 (10 ∷ bs) (omega arith)
       ∙ ap (λ cs. made 13 1 ∷ cs) (ascii_first 10 bs (omega arith)))
       ∙ ap (λ at. stop_on at (s.position.line + 1) 0
-      ∷ stops_behind e (stop_on at (s.position.line + 1) 0) (characters bs)) two);
+      ∷ stops_after e (stop_on at (s.position.line + 1) 0) (characters bs)) two);
 }
 
 no_lf : (c : ℕ) (bs : List ℕ) → c ≢ 10 → begins_with_lf (characters (c ∷ bs)) ≡ false
@@ -143,8 +143,8 @@ cr_ends c bs differ = record {
       let cs = characters (c ∷ bs) in
       let next = stop_on (s.offset + 1) (s.position.line + 1) 0 in
       let inside = stop_on (s.offset + 1) s.position.line s.position.column in
-      ap (stops_behind e s) (ascii_first 13 (c ∷ bs) (omega arith))
-      ∙ ap (λ b. cond b (stops_behind e inside cs) (next ∷ stops_behind e next cs)) (no_lf c bs differ)
+      ap (stops_after e s) (ascii_first 13 (c ∷ bs) (omega arith))
+      ∙ ap (λ b. cond b (stops_after e inside cs) (next ∷ stops_after e next cs)) (no_lf c bs differ)
       );
 }
 

@@ -12,10 +12,10 @@ use Rattle.miette_cells.specs.rules.Cells.{Character, characters}
 use Rattle.miette_cells.proofs.Stepping.{character, characters_end, characters_step, made}
 use Rattle.miette_positions.specs.declared.place.PositionEncoding.{PositionEncoding}
 use Rattle.miette_positions.specs.declared.place.Stop.{Stop}
-use Rattle.miette_positions.specs.rules.Stops.{stops_behind}
+use Rattle.miette_positions.specs.rules.Stops.{stops_after}
 use Rattle.miette_positions.specs.rules.Stops.{stops_of, units}
 use Rattle.miette_source_lines.specs.rules.Lines.{is_text}
-use Rattle.miette_sarif_reader.specs.rules.Newlines.{line_behind, line_size, text_size}
+use Rattle.miette_sarif_reader.specs.rules.Newlines.{line_after, line_size, text_size}
 use Rattle.miette_sarif_reader.specs.rules.Regions.{column_at, offset_at, units_on}
 use Rattle.miette_log_reading_laws.specs.laws.RegionsBack.{log_newlines}
 use Rattle.miette_log_reading_laws.proofs.RegionsCut.{Cut, first_cut, line_is}
@@ -35,39 +35,39 @@ plain_dropped (suc n) (b ∷ bs) h = plain_dropped n bs (and_parts (is_text b) (
 
 cut_clean : (bytes : List ℕ) (size : ℕ) → Cut bytes size → StartsClean (drop size bytes)
 cut_clean bytes size c =
-    ⊎_elim (λ none. (λ some. absurd (omega (arith, some, ap length none)))) (λ it. it.1.clean) c.behind
+    ⊎_elim (λ none. (λ some. absurd (omega (arith, some, ap length none)))) (λ it. it.1.clean) c.after
 
 -- ---- lines, one after another
 
 line_next : (newlines : List (List ℕ)) (bytes : List ℕ) (k from at size : ℕ)
-    → line_behind newlines bytes from k ≡ Some at → line_size newlines (drop at bytes) ≡ Some size
-    → line_behind newlines bytes from (suc k) ≡ Some (at + size)
+    → line_after newlines bytes from k ≡ Some at → line_size newlines (drop at bytes) ≡ Some size
+    → line_after newlines bytes from (suc k) ≡ Some (at + size)
 line_next newlines bytes zero from at size there is =
     let same : from ≡ at = cc in
-    ap (λ n. line_behind newlines bytes n 1) same
-    ∙ ap (option_and_then (λ s. line_behind newlines bytes (at + s) 0)) is
+    ap (λ n. line_after newlines bytes n 1) same
+    ∙ ap (option_and_then (λ s. line_after newlines bytes (at + s) 0)) is
 line_next newlines bytes (suc k) from at size there is =
     by_size (line_size newlines (drop from bytes)) refl
     (λ s before. line_next newlines bytes k (from + s) at size before is)
   where
     by_size : (o : Option ℕ) → line_size newlines (drop from bytes) ≡ o
-        → ((s : ℕ) → line_behind newlines bytes (from + s) k ≡ Some at
-        → line_behind newlines bytes (from + s) (suc k) ≡ Some (at + size))
-        → line_behind newlines bytes from (suc (suc k)) ≡ Some (at + size)
+        → ((s : ℕ) → line_after newlines bytes (from + s) k ≡ Some at
+        → line_after newlines bytes (from + s) (suc k) ≡ Some (at + size))
+        → line_after newlines bytes from (suc (suc k)) ≡ Some (at + size)
     by_size None e more =
         let nowhere : None ≡ Some at =
-        sym (ap (option_and_then (λ s. line_behind newlines bytes (from + s) k)) e) ∙ there in
+        sym (ap (option_and_then (λ s. line_after newlines bytes (from + s) k)) e) ∙ there in
         absurd (cc)
     by_size (Some s) e more =
-        ap (option_and_then (λ s. line_behind newlines bytes (from + s) (suc k))) e
-        ∙ more s (sym (ap (option_and_then (λ s. line_behind newlines bytes (from + s) k)) e) ∙ there)
+        ap (option_and_then (λ s. line_after newlines bytes (from + s) (suc k))) e
+        ∙ more s (sym (ap (option_and_then (λ s. line_after newlines bytes (from + s) k)) e) ∙ there)
 
 module _ (e : PositionEncoding) where
   -- a character within a line
   stops_inner : (s : Stop) (c : Character) (cs : List Character) (lf cr : Bool) → eqb c.code 10 ≡ lf
-      → eqb c.code 13 ≡ cr → (lf || cr) ≡ false → stops_behind e s (c ∷ cs)
+      → eqb c.code 13 ≡ cr → (lf || cr) ≡ false → stops_after e s (c ∷ cs)
       ≡ stop_on (s.offset + c.bytes) s.position.line (s.position.column + units e c)
-      ∷ stops_behind e (stop_on (s.offset + c.bytes) s.position.line (s.position.column + units e c)) cs
+      ∷ stops_after e (stop_on (s.offset + c.bytes) s.position.line (s.position.column + units e c)) cs
   stops_inner s c cs true cr l r h = absurd (cc)
   stops_inner s c cs false true l r h = absurd (cc)
   stops_inner s c cs false false l r h = rw (r, l) refl
@@ -97,7 +97,7 @@ text_at bytes at = take (text_size log_newlines (drop at bytes)) (drop at bytes)
 
 -- a line that begins at an offset
 module _ (e : PositionEncoding) (wide : (c : Character) → 0 < units e c) (bytes : List ℕ) (at line : ℕ)
-    (begins : line_behind log_newlines bytes 0 line ≡ Some at) where
+    (begins : line_after log_newlines bytes 0 line ≡ Some at) where
   back_on : (off column : ℕ) → units_on e at column (characters (text_at bytes at)) ≡ Some off
       → Back e bytes (stop_on off line column)
   back_on off column is =
@@ -112,20 +112,20 @@ module _ (e : PositionEncoding) (wide : (c : Character) → 0 < units e c) (byte
   back_at = back_on at 0 (units_here e wide at (characters (text_at bytes at)))
 
   -- the stops of what is left of its text, and those after it
-  walk : (stop f : ℕ) (left : List ℕ) (behind : List Character) (off column : ℕ) → length left ≤ f
+  walk : (stop f : ℕ) (left : List ℕ) (after : List Character) (off column : ℕ) → length left ≤ f
       → list_all is_text left ≡ true → off + length left ≡ stop
       → ((k : ℕ) → units_on e at (column + k) (characters (text_at bytes at)) ≡ units_on e off k (characters left))
-      → ((more : ℕ) → AllByRecursion (Back e bytes) (stops_behind e (stop_on stop line more) behind))
-      → AllByRecursion (Back e bytes) (stops_behind e (stop_on off line column) (characters left ++ behind))
-  walk stop f [] behind off column le plain ends reads rest =
+      → ((more : ℕ) → AllByRecursion (Back e bytes) (stops_after e (stop_on stop line more) after))
+      → AllByRecursion (Back e bytes) (stops_after e (stop_on off line column) (characters left ++ after))
+  walk stop f [] after off column le plain ends reads rest =
       let same : stop ≡ off = omega (arith, ends) in
       subst (λ (cs : List Character).
-      AllByRecursion (Back e bytes) (stops_behind e (stop_on off line column) (cs ++ behind)))
+      AllByRecursion (Back e bytes) (stops_after e (stop_on off line column) (cs ++ after)))
       (sym (characters_end [] refl))
-      (subst (λ (n : ℕ). AllByRecursion (Back e bytes) (stops_behind e (stop_on n line column) behind)) same
+      (subst (λ (n : ℕ). AllByRecursion (Back e bytes) (stops_after e (stop_on n line column) after)) same
       (rest column))
-  walk stop zero (b ∷ bs) behind off column le plain ends reads rest = absurd (omega (arith, le))
-  walk stop (suc f) (b ∷ bs) behind off column le plain ends reads rest =
+  walk stop zero (b ∷ bs) after off column le plain ends reads rest = absurd (omega (arith, le))
+  walk stop (suc f) (b ∷ bs) after off column le plain ends reads rest =
       let some : 0 < length (b ∷ bs) = omega arith in
       let size : ℕ = (decoded (b ∷ bs)).size in
       let code : ℕ = or_replacement (decoded (b ∷ bs)).char in
@@ -152,34 +152,34 @@ module _ (e : PositionEncoding) (wide : (c : Character) → 0 < units e c) (byte
       back_on (off + size) (column + u) (ap (λ n. units_on e at n (characters (text_at bytes at))) none ∙ on 0
       ∙ units_here e wide (off + size) (characters left)) in
       let others : AllByRecursion (Back e bytes)
-      (stops_behind e (stop_on (off + size) line (column + u)) (characters left ++ behind)) =
-      walk stop f left behind (off + size) (column + u) (omega (arith, le, len, bounds.0))
+      (stops_after e (stop_on (off + size) line (column + u)) (characters left ++ after)) =
+      walk stop f left after (off + size) (column + u) (omega (arith, le, len, bounds.0))
       (plain_dropped size (b ∷ bs) plain) (omega (arith, ends, len, bounds.2)) on rest in
       subst (λ (cs : List Character).
-      AllByRecursion (Back e bytes) (stops_behind e (stop_on off line column) (cs ++ behind))) (sym step)
+      AllByRecursion (Back e bytes) (stops_after e (stop_on off line column) (cs ++ after))) (sym step)
       (subst (AllByRecursion (Back e bytes))
-      (sym (stops_inner e (stop_on off line column) c (characters left ++ behind) (eqb code 10) (eqb code 13) refl refl
+      (sym (stops_inner e (stop_on off line column) c (characters left ++ after) (eqb code 10) (eqb code 13) refl refl
       (text_first b bs size parts.0)))
       (here, others))
 
 module _ (e : PositionEncoding) (wide : (c : Character) → 0 < units e c) (bytes : List ℕ) (at line : ℕ)
-    (begins : line_behind log_newlines bytes 0 line ≡ Some at) where
+    (begins : line_after log_newlines bytes 0 line ≡ Some at) where
   -- the stops of the lines after it, where its text stops
-  behind_text : (size more : ℕ) → Cut (drop at bytes) size → size ≡ text_size log_newlines (drop at bytes)
+  after_text : (size more : ℕ) → Cut (drop at bytes) size → size ≡ text_size log_newlines (drop at bytes)
       → at ≤ length bytes
-      → ((next : ℕ) → at < next → next ≤ length bytes → line_behind log_newlines bytes 0 (line + 1) ≡ Some next
-      → AllByRecursion (Back e bytes) (stops_behind e (stop_on next (line + 1) 0) (characters (drop next bytes))))
+      → ((next : ℕ) → at < next → next ≤ length bytes → line_after log_newlines bytes 0 (line + 1) ≡ Some next
+      → AllByRecursion (Back e bytes) (stops_after e (stop_on next (line + 1) 0) (characters (drop next bytes))))
       → AllByRecursion (Back e bytes)
-      (stops_behind e (stop_on (at + size) line more) (characters (drop size (drop at bytes))))
-  behind_text size more cut is room lines =
+      (stops_after e (stop_on (at + size) line more) (characters (drop size (drop at bytes))))
+  after_text size more cut is room lines =
       ⊎_elim
       (λ none. subst (λ (cs : List Character).
-      AllByRecursion (Back e bytes) (stops_behind e (stop_on (at + size) line more) cs))
+      AllByRecursion (Back e bytes) (stops_after e (stop_on (at + size) line more) cs))
       (sym (characters_end (drop size (drop at bytes)) none)) tt)
-      (λ it. line_end it.0 it.1) cut.behind
+      (λ it. line_end it.0 it.1) cut.after
     where
       line_end : (end : ℕ) → Ends (drop size (drop at bytes)) end → AllByRecursion (Back e bytes)
-          (stops_behind e (stop_on (at + size) line more) (characters (drop size (drop at bytes))))
+          (stops_after e (stop_on (at + size) line more) (characters (drop size (drop at bytes))))
       line_end end h =
           let next : ℕ = at + size + end in
           let same : at + (text_size log_newlines (drop at bytes) + end) ≡ next = omega (arith, is) in
@@ -188,8 +188,8 @@ module _ (e : PositionEncoding) (wide : (c : Character) → 0 < units e c) (byte
           length-drop size (drop at bytes) in
           let ends : Ends (drop (text_size log_newlines (drop at bytes)) (drop at bytes)) end =
           subst (λ (n : ℕ). Ends (drop n (drop at bytes)) end) is h in
-          let starts : line_behind log_newlines bytes 0 (line + 1) ≡ Some next =
-          ap (line_behind log_newlines bytes 0) (add-one line)
+          let starts : line_after log_newlines bytes 0 (line + 1) ≡ Some next =
+          ap (line_after log_newlines bytes 0) (add-one line)
           ∙ line_next log_newlines bytes line 0 at (text_size log_newlines (drop at bytes) + end) begins
           (line_is (drop at bytes) end ends) ∙ ap Some same in
           let here : Back e bytes (stop_on next (line + 1) 0) =
@@ -197,17 +197,17 @@ module _ (e : PositionEncoding) (wide : (c : Character) → 0 < units e c) (byte
           let left : drop end (drop size (drop at bytes)) ≡ drop next bytes =
           ap (drop end) (drop-drop size at bytes) ∙ drop-drop end (at + size) bytes in
           let others : AllByRecursion (Back e bytes)
-          (stops_behind e (stop_on next (line + 1) 0) (characters (drop end (drop size (drop at bytes))))) =
+          (stops_after e (stop_on next (line + 1) 0) (characters (drop end (drop size (drop at bytes))))) =
           subst (λ (bs : List ℕ).
-          AllByRecursion (Back e bytes) (stops_behind e (stop_on next (line + 1) 0) (characters bs))) (sym left)
+          AllByRecursion (Back e bytes) (stops_after e (stop_on next (line + 1) 0) (characters bs))) (sym left)
           (lines next (omega (arith, h.some)) (omega (arith, h.within, whole, tail, h.some)) starts) in
           subst (AllByRecursion (Back e bytes)) (sym (h.stops e (stop_on (at + size) line more))) (here, others)
 
   -- its stops, and those of the lines after it
   line_back : at ≤ length bytes
-      → ((next : ℕ) → at < next → next ≤ length bytes → line_behind log_newlines bytes 0 (line + 1) ≡ Some next
-      → AllByRecursion (Back e bytes) (stops_behind e (stop_on next (line + 1) 0) (characters (drop next bytes))))
-      → AllByRecursion (Back e bytes) (stops_behind e (stop_on at line 0) (characters (drop at bytes)))
+      → ((next : ℕ) → at < next → next ≤ length bytes → line_after log_newlines bytes 0 (line + 1) ≡ Some next
+      → AllByRecursion (Back e bytes) (stops_after e (stop_on next (line + 1) 0) (characters (drop next bytes))))
+      → AllByRecursion (Back e bytes) (stops_after e (stop_on at line 0) (characters (drop at bytes)))
   line_back room lines =
       let rest : List ℕ = drop at bytes in
       let size : ℕ = text_size log_newlines rest in
@@ -217,18 +217,18 @@ module _ (e : PositionEncoding) (wide : (c : Character) → 0 < units e c) (byte
       let clean : StartsClean tail = cut_clean rest size cut in
       let split : characters rest ≡ characters (text_at bytes at) ++ characters tail =
       ap characters (sym (take-append-drop size rest)) ∙ characters_append (text_at bytes at) tail clean in
-      subst (λ (cs : List Character). AllByRecursion (Back e bytes) (stops_behind e (stop_on at line 0) cs)) (sym split)
+      subst (λ (cs : List Character). AllByRecursion (Back e bytes) (stops_after e (stop_on at line 0) cs)) (sym split)
       (walk e wide bytes at line begins (at + size) size (text_at bytes at) (characters tail) at 0 (omega (arith, len))
       cut.plain (omega (arith, len))
       (λ k. (
       let none : 0 + k ≡ k = omega arith in
       ap (λ n. units_on e at n (characters (text_at bytes at))) none
       ))
-      (λ more. behind_text size more cut refl room lines))
+      (λ more. after_text size more cut refl room lines))
 
 lines_back : (e : PositionEncoding) → ((c : Character) → 0 < units e c) → (bytes : List ℕ) (f at line : ℕ)
-    → at ≤ length bytes → length bytes ≤ at + f → line_behind log_newlines bytes 0 line ≡ Some at
-    → AllByRecursion (Back e bytes) (stops_behind e (stop_on at line 0) (characters (drop at bytes)))
+    → at ≤ length bytes → length bytes ≤ at + f → line_after log_newlines bytes 0 line ≡ Some at
+    → AllByRecursion (Back e bytes) (stops_after e (stop_on at line 0) (characters (drop at bytes)))
 lines_back e wide bytes zero at line room le begins =
     line_back e wide bytes at line begins room (λ next later within b. absurd (omega (arith, le, later, within)))
 lines_back e wide bytes (suc f) at line room le begins =

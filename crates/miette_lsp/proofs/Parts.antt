@@ -14,8 +14,8 @@ use Rattle.miette_lsp.specs.rules.Diagnostics.{see_row}
 use Rattle.miette_lsp.specs.steps.Putting.{documents_of}
 
 -- a text, and then others after it
-behind : (old mid new text more : List ℕ) → mid ≡ old ++ text → new ≡ mid ++ more → new ≡ old ++ (text ++ more)
-behind old mid new text more e f = f ∙ ap (λ l. l ++ more) e ∙ append_assoc old text more
+added_after : (old mid new text more : List ℕ) → mid ≡ old ++ text → new ≡ mid ++ more → new ≡ old ++ (text ++ more)
+added_after old mid new text more e f = f ∙ ap (λ l. l ++ more) e ∙ append_assoc old text more
 
 -- the rows of a message, one after the other
 pub message_written : (f : Finding) (old own labelled caused helped fixed new : List ℕ) → own ≡ old ++ f.message
@@ -28,10 +28,10 @@ message_written f old own labelled caused helped fixed new a p b c d e =
     let help : List ℕ = maybe_row (codes "help: ") f.help in
     let fixes : List ℕ = rows (codes "fix: ") f.unapplied in
     let see : List ℕ = see_row f.code f.url in
-    behind old own new f.message (primary ++ (causes ++ (help ++ (fixes ++ see)))) a
-    (behind own labelled new primary (causes ++ (help ++ (fixes ++ see))) p
-    (behind labelled caused new causes (help ++ (fixes ++ see)) b
-    (behind caused helped new help (fixes ++ see) c (behind helped fixed new fixes see d e))))
+    added_after old own new f.message (primary ++ (causes ++ (help ++ (fixes ++ see)))) a
+    (added_after own labelled new primary (causes ++ (help ++ (fixes ++ see))) p
+    (added_after labelled caused new causes (help ++ (fixes ++ see)) b
+    (added_after caused helped new help (fixes ++ see) c (added_after helped fixed new fixes see d e))))
 
 -- members, and then others after them
 pub two_parts : {E : Type 0} (r : Result (Vec (Bor (List ℕ) × Value) Global) E) (a one p q x y : Pairs)

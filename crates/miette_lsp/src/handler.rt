@@ -68,7 +68,7 @@ impl LspReportHandler {
         self.spelled(alloc, findings)
     }
 
-    /// Appends the documents of a report. After an error, which is want of memory, `out` is as before.
+    /// Appends the documents of a report. After an error, where memory is refused, `out` is as before.
     pub fn render_report(&self, report: &Report, out: &mut String) -> Result<(), RenderError>
         // The text is the spelling of the documents, for some answers of the sources; it stands for that value, and
         // for no other.
@@ -87,7 +87,7 @@ impl LspReportHandler {
         self.render_reports(slice::from_ref(report), out)
     }
 
-    /// Appends the documents of reports, in their order. After an error, which is want of memory, `out` is as before.
+    /// Appends the documents of reports, in their order. After an error, where memory is refused, `out` is as before.
     pub fn render_reports<D: Diagnostic, S: SourceCode>(
         &self,
         reports: &[Report<D, S>],

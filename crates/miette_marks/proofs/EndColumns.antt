@@ -80,11 +80,11 @@ begin_put line text label first made new on f n =
     (cond (ends_on line (drawn_of label)) ((last_column text.cells text.text_end text.width label.after - 1) ∷ []) []))
     (sym on)
 
-pub end_put : (line : Line) (text : Text) (label : PlacedLabel) (behind last : ℕ) (made new : List ℕ)
+pub end_put : (line : Line) (text : Text) (label : PlacedLabel) (after last : ℕ) (made new : List ℕ)
     → starts_on line (drawn_of label) ≡ false → ends_on line (drawn_of label) ≡ true →
-    behind ≡ last_column text.cells text.text_end text.width label.after → last ≡ behind - 1 → new ≡ made ++ last ∷ []
+    after ≡ last_column text.cells text.text_end text.width label.after → last ≡ after - 1 → new ≡ made ++ last ∷ []
     → new ≡ made ++ spread_end line text (drawn_of label)
-end_put line text label behind last made new off on b l n =
+end_put line text label after last made new off on b l n =
     n ∙ ap (λ c. made ++ c ∷ []) (l ∙ ap (λ k. k - 1) b)
     ∙ ap (λ t. made ++ cond t ((last_column text.cells text.text_end text.width label.after - 1) ∷ []) []) (sym on)
     ∙ ap (λ t. made ++ cond t (first_column text.cells text.text_end text.width label.start ∷ [])

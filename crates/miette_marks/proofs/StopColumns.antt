@@ -77,6 +77,6 @@ pub in_plain : (r : Rounding) (stop : Stop) (e w o : ℕ) → o - stop.plain.sta
     → stop.plain.from + (o - stop.plain.start) ≡ column_from r stop e w o
 in_plain r stop e w o lt = rw (lt-ltb (o - stop.plain.start) stop.plain.many lt) refl
 
-pub behind_plain : (r : Rounding) (stop : Stop) (e w o : ℕ) → stop.plain.many ≤ o - stop.plain.start
+pub after_plain : (r : Rounding) (stop : Stop) (e w o : ℕ) → stop.plain.many ≤ o - stop.plain.start
     → column_in r stop.walk e w o ≡ column_from r stop e w o
-behind_plain r stop e w o le = rw (le-ltb (o - stop.plain.start) stop.plain.many le) refl
+after_plain r stop e w o le = rw (le-ltb (o - stop.plain.start) stop.plain.many le) refl

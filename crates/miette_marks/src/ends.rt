@@ -97,8 +97,8 @@ fn push_spread_end(
         return Ok(());
     }
     if stops(line, label) {
-        let behind = columns.last_column(label.after)?;
-        ends.push(behind.saturating_sub(1))?;
+        let after = columns.last_column(label.after)?;
+        ends.push(after.saturating_sub(1))?;
         return Ok(());
     }
     Ok(())

@@ -233,7 +233,7 @@ impl<'a> Columns<'a> {
     pub(crate) fn label_column(&self, label: &PlacedLabel<'_>) -> Result<usize, AllocError>
         ensures { IfOk result (λ column. column ≡ label_from self.now (drawn_of label.now)) }
     {
-        if label.behind {
+        if label.after_text {
             return Ok(self.width);
         }
         self.first_column(label.start)

@@ -10,7 +10,7 @@ use Rattle.serde_json.specs.View.{view}
 use Rattle.serde_json.specs.declared.value.Value.{Value}
 use Rattle.miette_readers.proofs.Steps.{next_taken}
 use Rattle.miette_readers.specs.views.Values.{seen}
-use Rattle.miette_mending.specs.rules.Fresh.{begin_with, behind_row, row_text, rows_stand_in, stand_in}
+use Rattle.miette_mending.specs.rules.Fresh.{after_row, begin_with, row_text, rows_stand_in, stand_in}
 
 next_left : {V : Type 0} (xs : List V) (i : ℕ) (x : V) → i < length xs → x ≡ get_or xs i x
     → drop i xs ≡ x ∷ drop (i + 1) xs
@@ -25,17 +25,17 @@ next_left (y ∷ ys) (suc i) x h is =
 module _ (rows : List (Bor Value)) (i : ℕ) (row : Bor Value) (rest : List ℕ) (h : i < length rows)
     (is : row ≡ get_or rows i row) where
   by_row : begin_with (seen (drop i rows)) rest
-      ≡ unwrap_or (option_map (begin_with (seen (drop (i + 1) rows))) (behind_row (row_text (view row.now)) rest)) false
+      ≡ unwrap_or (option_map (begin_with (seen (drop (i + 1) rows))) (after_row (row_text (view row.now)) rest)) false
   by_row = ap (λ ds. begin_with (seen ds) rest) (next_left rows i row h is)
 
   abbrev on : Option (List ℕ) → Bool
   on o = unwrap_or (option_map (begin_with (seen (drop (i + 1) rows))) o) false
 
-  pub begins_on : (behind : List ℕ) → Some behind ≡ behind_row (row_text (view row.now)) rest
-      → begin_with (seen (drop (i + 1) rows)) behind ≡ begin_with (seen (drop i rows)) rest
-  begins_on behind e = ap on e ∙ sym by_row
+  pub begins_on : (after : List ℕ) → Some after ≡ after_row (row_text (view row.now)) rest
+      → begin_with (seen (drop (i + 1) rows)) after ≡ begin_with (seen (drop i rows)) rest
+  begins_on after e = ap on e ∙ sym by_row
 
-  pub begins_not : None ≡ behind_row (row_text (view row.now)) rest → false ≡ begin_with (seen (drop i rows)) rest
+  pub begins_not : None ≡ after_row (row_text (view row.now)) rest → false ≡ begin_with (seen (drop i rows)) rest
   begins_not e = ap on e ∙ sym by_row
 
 pub begins_all : (rows : List (Bor Value)) (i : ℕ) (rest : List ℕ) → length rows ≤ i

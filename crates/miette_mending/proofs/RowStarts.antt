@@ -8,7 +8,7 @@ use Rattle.std.proofs.lemmas.Bool.Decides.{nat_tests}
 use Rattle.std.proofs.lemmas.List.{length-drop, length-take-le, take_all}
 use Rattle.memchr.specs.Find.{NoneAfter, Nowhere, Passes, is_byte}
 use Rattle.serde_json.specs.Data.{Data}
-use Rattle.miette_mending.specs.rules.Fresh.{begin_with, column_behind, last_row, row_start, stand_in}
+use Rattle.miette_mending.specs.rules.Fresh.{begin_with, column_after, last_row, row_start, stand_in}
 
 abbrev Ends : List ℕ → ℕ → Type 0
 Ends bytes = Passes (is_byte 10) bytes
@@ -46,16 +46,16 @@ all_last : (bs : List ℕ) → has_end bs ≡ false → last_row bs ≡ bs
 all_last [] none = refl
 all_last (b ∷ bs) none = skip (has_end (b ∷ bs)) (last_row bs) (b ∷ bs) none
 
-last_behind : (bs : List ℕ) (at : ℕ) → at < length bs → Ends bs at → Nowhere (Ends bs) (at + 1) (length bs)
+last_after : (bs : List ℕ) (at : ℕ) → at < length bs → Ends bs at → Nowhere (Ends bs) (at + 1) (length bs)
     → last_row bs ≡ drop (at + 1) bs
-last_behind [] at h is none = absurd (omega (arith, h))
-last_behind (b ∷ bs) zero h is none =
+last_after [] at h is none = absurd (omega (arith, h))
+last_after (b ∷ bs) zero h is none =
     pick (has_end (b ∷ bs)) (last_row bs) (b ∷ bs) (one_there (b ∷ bs) 0 h is)
     ∙ all_last bs (none_there bs (λ k low high. none (suc k) (omega arith) (omega (arith, high))))
-last_behind (b ∷ bs) (suc at) h is none =
+last_after (b ∷ bs) (suc at) h is none =
     let next : suc at + 1 ≡ suc (at + 1) = omega arith in
     pick (has_end (b ∷ bs)) (last_row bs) (b ∷ bs) (one_there (b ∷ bs) (suc at) h is)
-    ∙ last_behind bs at (omega (arith, h)) is (λ k low high. none (suc k) (omega (arith, low)) (omega (arith, high)))
+    ∙ last_after bs at (omega (arith, h)) is (λ k low high. none (suc k) (omega (arith, low)) (omega (arith, high)))
     ∙ ap (λ (n : ℕ). drop n (b ∷ bs)) (sym next)
 
 -- ---- before an offset
@@ -81,7 +81,7 @@ start_found bytes offset at h after is =
     let many : length (before bytes offset) ≡ offset = as_many bytes offset h in
     let high : at < length (before bytes offset) = after.high in
     let left : length (last_row (before bytes offset)) ≡ length (before bytes offset) - (at + 1) =
-    ap length (last_behind (before bytes offset) at high is after.after) ∙ length-drop (at + 1) (before bytes offset)
+    ap length (last_after (before bytes offset) at high is after.after) ∙ length-drop (at + 1) (before bytes offset)
     in
     omega (arith, many, high, left)
 
@@ -91,12 +91,12 @@ pub left_of : (bytes : List ℕ) (start : ℕ) → take (length bytes - start) (
 left_of bytes start = take_all (length bytes - start) (drop start bytes) (omega (arith, length-drop start bytes))
 
 module _ (bytes : List ℕ) (at column start n : ℕ) (rows : List Data) (within : at ≤ length bytes)
-    (is : start ≡ row_start bytes at) (counted : n ≡ column_behind (slice_range bytes start at)) where
+    (is : start ≡ row_start bytes at) (counted : n ≡ column_after (slice_range bytes start at)) where
   by_parts : ((n == column) && begin_with rows (drop start bytes)) ≡ stand_in bytes at column rows
   by_parts =
       let inside : nat_le at (length bytes) ≡ true = grind (arith, nat_tests) in
       ap (λ (m : ℕ). (m == column) && begin_with rows (drop start bytes)) counted
-      ∙ ap (λ (s : ℕ). (column_behind (slice_range bytes s at) == column) && begin_with rows (drop s bytes)) is
+      ∙ ap (λ (s : ℕ). (column_after (slice_range bytes s at) == column) && begin_with rows (drop s bytes)) is
       ∙ sym (pick (nat_le at (length bytes)) _ false inside)
 
   pub stands : (b : Bool) → n ≡ column → b ≡ begin_with rows (drop start bytes) → b ≡ stand_in bytes at column rows

@@ -5,7 +5,7 @@ ghost use Rattle.std.specs.List.{list_all};
 ghost use Rattle.std.specs.Option.{option_copied};
 ghost use Rattle.serde_json.specs.View.{view};
 ghost use Rattle.miette_readers.specs.views.Values.{seen};
-ghost use Rattle.miette_mending.specs.rules.Fresh.{begin_with, behind_end, behind_row, column_behind, is_first};
+ghost use Rattle.miette_mending.specs.rules.Fresh.{after_end, after_row, begin_with, column_after, is_first};
 ghost use Rattle.miette_mending.specs.rules.Fresh.{is_fresh, row_start, row_text, rows_stand_in, stand_in};
 
 use memchr::memrchr;
@@ -27,8 +27,8 @@ fn row_start(bytes: &[u8], offset: usize) -> usize
 }
 
 /// What stands after the end of a row; nothing where there is none.
-fn behind_end(rest: &[u8]) -> Option<&[u8]>
-    ensures { option_copied result ≡ behind_end rest.now }
+fn after_end(rest: &[u8]) -> Option<&[u8]>
+    ensures { option_copied result ≡ after_end rest.now }
 {
     if rest.is_empty() {
         Some(rest)
@@ -42,12 +42,12 @@ fn behind_end(rest: &[u8]) -> Option<&[u8]>
 }
 
 /// What stands after a row and its end, where bytes begin with them.
-fn behind_row<'b>(row: &str, bytes: &'b [u8]) -> Option<&'b [u8]>
-    ensures { option_copied result ≡ behind_row row.now bytes.now }
+fn after_row<'b>(row: &str, bytes: &'b [u8]) -> Option<&'b [u8]>
+    ensures { option_copied result ≡ after_row row.now bytes.now }
 {
     let row = row.as_bytes();
     if bytes.starts_with(row) {
-        behind_end(&bytes[row.len()..])
+        after_end(&bytes[row.len()..])
     } else {
         None
     }
@@ -67,8 +67,8 @@ fn begin_with(rows: &[&Value], bytes: &[u8]) -> bool
     let mut rest = bytes;
     for row in rows {
         let row = *row;
-        match behind_row(row_text(row), rest) {
-            Some(behind) => rest = behind,
+        match after_row(row_text(row), rest) {
+            Some(after) => rest = after,
             None => return false,
         }
     }
@@ -83,8 +83,8 @@ fn is_first(byte: u8) -> bool
 }
 
 /// The column, from 1, after these bytes of a row.
-fn column_behind(bytes: &[u8]) -> usize
-    ensures { result ≡ column_behind bytes.now }
+fn column_after(bytes: &[u8]) -> usize
+    ensures { result ≡ column_after bytes.now }
 {
     let mut column = 1;
     for byte in bytes {
@@ -103,7 +103,7 @@ fn stand_in(bytes: &[u8], offset: usize, column: u64, rows: &[&Value]) -> bool
         return false;
     }
     let start = row_start(bytes, offset);
-    column_behind(&bytes[start..offset]) as u64 == column && begin_with(rows, &bytes[start..])
+    column_after(&bytes[start..offset]) as u64 == column && begin_with(rows, &bytes[start..])
 }
 
 /// Whether there is a row, and they stand there.

@@ -203,8 +203,8 @@ before_both a b k h = let f : leb a k ≡ false = grind (arith, nat_tests) in rw
 withkeptboth : (a b k : ℕ) → ltb k a ≡ false → leb k b ≡ true → (leb a k && leb k b) ≡ true
 withkeptboth a b k h g = let f : leb a k ≡ true = grind (arith, nat_tests) in rw (f, g) refl
 
-behind_both : (a b k : ℕ) → leb k b ≡ false → (leb a k && leb k b) ≡ false
-behind_both a b k g = rw g (and_right (leb a k) false refl)
+after_both : (a b k : ℕ) → leb k b ≡ false → (leb a k && leb k b) ≡ false
+after_both a b k g = rw g (and_right (leb a k) false refl)
 
 -- the elements between two bounds, found by halving
 pub between : {X : Type 0} (n : X → ℕ) (a b : ℕ) (xs : List X) (first after low : ℕ) → low ≡ min first after → after
@@ -217,4 +217,4 @@ between n a b xs first after low e within from to =
     (λ k d lt. before_both a b (n (get_or xs k d)) (from.0 k d (omega arith) (omega (arith, e))))
     (λ k d ge lt. withkeptboth a b (n (get_or xs k d)) (from.1 k d (omega (arith, e)) (omega (arith, e)))
     (to.0 k d (omega arith) (omega (arith, e))))
-    (λ k d ge lt. behind_both a b (n (get_or xs k d)) (to.1 k d (omega (arith, e)) lt))
+    (λ k d ge lt. after_both a b (n (get_or xs k d)) (to.1 k d (omega (arith, e)) lt))

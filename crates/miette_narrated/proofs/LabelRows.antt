@@ -38,9 +38,9 @@ none_ended line (p ∷ ps) h o = rw (le-ltb p.start line.start h)
 before_begun : (start k : ℕ) → leb start k ≡ false → ltb k start ≡ true
 before_begun start k f = grind (arith, nat_tests)
 
-row_behind : (it : SnippetLine) (p : PlacedLabel) → it.is_last ≡ false → p.start ≤ p.after
+row_after : (it : SnippetLine) (p : PlacedLabel) → it.is_last ≡ false → p.start ≤ p.after
     → leb p.start it.line.text_end ≡ false → label_row it (range_of p) ≡ []
-row_behind it p last le f = row_beyond it p le
+row_after it p last le f = row_beyond it p le
     (rw last (omega (arith, leb-false p.start it.line.text_end f)))
 
 -- one more label before those that end and those that begin on the line, where it does so itself
@@ -77,7 +77,7 @@ rows_apart it (p ∷ ps) last o =
     ∙ sym (ap₂ (apart it p E B) not_ended here))
     (λ f.
     let not_here : is_begun it.line p ≡ false = rw (t, f) refl in
-    ap₂ (λ a b. a ++ b) (row_behind it p last o.0 f) only
+    ap₂ (λ a b. a ++ b) (row_after it p last o.0 f) only
     ∙ sym (ap (λ xs. label_rows it (ranges_of xs) ++ begun) none)
     ∙ sym (ap₂ (apart it p E B) not_ended not_here)))
     (λ f.

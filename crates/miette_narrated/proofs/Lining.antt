@@ -6,7 +6,7 @@ use Rattle.std.proofs.lemmas.Bool.{ne_eqb, eq-eqb, eqb-true, eqb-false}
 use Rattle.std.proofs.lemmas.List.{length-drop}
 use Rattle.miette_source_lines.specs.rules.Lines.{Line, lines_from, ends_line, with_byte}
 use Rattle.miette_source_lines.specs.declared.lines.LineOfText.{LineOfText}
-use Rattle.miette_source_lines.specs.views.Walking.{Rest, IsFirst, behind, line_of_text, lines_left}
+use Rattle.miette_source_lines.specs.views.Walking.{Rest, IsFirst, after_line, line_of_text, lines_left}
 use Rattle.miette_protocol.specs.rules.Reading.{Contents}
 use Rattle.miette_label_rules.specs.rules.Contexts.{lines_of_contents}
 use Rattle.miette_basics.proofs.Cases.{by_cases}
@@ -52,7 +52,7 @@ nil_of at (b ∷ bs) = some_line at b bs ∙ sym (ne_eqb (length (b ∷ bs)) 0 (
 
 -- a line is the last one where it ends with the bytes
 last_is : (rest : Rest) (line : LineOfText) (end : ℕ) → IsFirst rest line → rest.start + length rest.bytes ≡ end
-    → is_nil (lines_left (behind rest line)) ≡ eqb line.end end
+    → is_nil (lines_left (after_line rest line)) ≡ eqb line.end end
 last_is rest line end h to =
     let left : length (drop (line.end - rest.start) rest.bytes) ≡ length rest.bytes - (line.end - rest.start) =
     length-drop (line.end - rest.start) rest.bytes in
@@ -65,13 +65,13 @@ last_is rest line end h to =
 
 pub left_more : (labels : List LabelRange) (contents : Contents) (before number : ℕ) (rest after : Rest)
     (line : LineOfText) (is_last : Bool) (it : SnippetLine) (out new goal : List ℕ)
-    → AreLeft labels contents before rest out goal → IsFirst rest line → after ≡ behind rest line
+    → AreLeft labels contents before rest out goal → IsFirst rest line → after ≡ after_line rest line
     → number ≡ before + 1 → is_last ≡ eqb line.end (contents.span.offset + length contents.bytes) →
     it ≡ snippet_line contents number is_last (line_of_text line) → new ≡ out ++ rows_of_line labels it
     → AreLeft labels contents number after new goal
 left_more labels contents before number rest after line is_last it out new goal h first left n last here put =
-    let later : List ℕ = rows_of_lines labels contents (number + 1) (lines_left (behind rest line)) in
-    let at_end : is_nil (lines_left (behind rest line)) ≡ is_last =
+    let later : List ℕ = rows_of_lines labels contents (number + 1) (lines_left (after_line rest line)) in
+    let at_end : is_nil (lines_left (after_line rest line)) ≡ is_last =
     last_is rest line (contents.span.offset + length contents.bytes) first h.to ∙ sym last in
     let size : length (drop (line.end - rest.start) rest.bytes) ≡ length rest.bytes - (line.end - rest.start) =
     length-drop (line.end - rest.start) rest.bytes in
@@ -79,8 +79,8 @@ left_more labels contents before number rest after line is_last it out new goal 
     (record {
       rows = ap (λ o. o ++ later) (put ∙ ap (λ x. out ++ rows_of_line labels x)
           (here ∙ ap (λ b. snippet_line contents number b (line_of_text line)) (sym at_end)))
-          ∙ append_assoc out (rows_of_line labels (snippet_line contents number (is_nil (lines_left (behind rest line)))
-          (line_of_text line))) later
+          ∙ append_assoc out (rows_of_line labels (snippet_line contents number
+          (is_nil (lines_left (after_line rest line))) (line_of_text line))) later
           ∙ ap (λ ls. out ++ rows_of_lines labels contents number ls) (sym first.lines)
           ∙ ap (λ k. out ++ rows_of_lines labels contents k (lines_left rest)) n ∙ h.rows;
       from = omega (arith, h.from, first.from, first.some);

@@ -4,7 +4,7 @@ ghost use Rattle.std.specs.Prelude.{◌≡◌, ◌++◌, false, length, IfOk, On
 ghost use Rattle.std.specs.List.{list_any};
 ghost use Rattle.std.specs.Option.{option_map};
 ghost use Rattle.json.specs.Print.{quoted};
-ghost use Rattle.miette_fixes.specs.rules.Edits.{ends_behind};
+ghost use Rattle.miette_fixes.specs.rules.Edits.{ends_after};
 ghost use Rattle.miette_fixes.specs.views.Ordered.{edits_of};
 ghost use Rattle.miette_tree.specs.views.Owned.{shown_source};
 ghost use Rattle.miette_narrated.specs.rules.Fixes.{verb_text, text_told, edit_row, edit_rows, failure_row};
@@ -79,7 +79,7 @@ fn push_edit<'a>(
     edit: &Edit,
     kept: &mut KeptLine<'a>,
 ) -> Appended
-    requires within { ends_behind (length source.now) edit.now ≡ false }
+    requires within { ends_after (length source.now) edit.now ≡ false }
     requires kept { IsKept source.now kept.old }
     ensures row { OnOk result (string_bytes out.new ≡ string_bytes out.old ++ edit_row source.now edit.now) }
     ensures kept { OnOk result (IsKept source.now kept.new) }
@@ -94,7 +94,7 @@ fn push_edit<'a>(
 
 /// The rows of edits in their order, none of which ends after the source's end.
 fn push_edits(out: &mut String, alloc: Global, source: &IndexedSource, edits: &[&Edit]) -> Appended
-    requires { list_any (ends_behind (length source.now)) (edits_of edits.now) ≡ false }
+    requires { list_any (ends_after (length source.now)) (edits_of edits.now) ≡ false }
     ensures { OnOk result (string_bytes out.new
         ≡ string_bytes out.old ++ edit_rows source.now (edits_of edits.now)) }
 {

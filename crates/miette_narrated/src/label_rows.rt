@@ -2,7 +2,7 @@
 
 ghost use Rattle.std.specs.Prelude.{◌≡◌, ◌++◌, IfOk, OnOk, string_bytes, option_copied};
 ghost use Rattle.miette_narrated.specs.rules.Labels.{row, begins_within, reaches_line, ends_before};
-ghost use Rattle.miette_narrated.specs.rules.Labels.{first_number, last_number, columns_text, text_behind, whole_row};
+ghost use Rattle.miette_narrated.specs.rules.Labels.{first_number, last_number, columns_text, text_after, whole_row};
 ghost use Rattle.miette_narrated.specs.rules.Labels.{column_row, begun_row, reaching_row, label_row};
 ghost use Rattle.miette_narrated.specs.rules.Labels.{label_rows};
 ghost use Rattle.miette_narrated.specs.steps.Ends.{without_ranks};
@@ -48,7 +48,7 @@ fn ends_before(it: &NarratedLine<'_>, label: &PlacedLabel<'_>) -> bool
 /// Appends a label's text after a colon, where there is one, and a line feed.
 fn push_end(out: &mut String, text: Option<&str>) -> Result<(), AllocError>
     ensures { OnOk result (string_bytes out.new
-        ≡ string_bytes out.old ++ row (text_behind (option_copied text.entry))) }
+        ≡ string_bytes out.old ++ row (text_after (option_copied text.entry))) }
 {
     if let Some(text) = text {
         out.push_str(": ")?;

@@ -10,7 +10,7 @@ use Rattle.miette_style.specs.declared.style.Color.{Color}
 use Rattle.miette_style.specs.declared.style.Color.TheVariants.{Red, Green, Yellow, Blue, Magenta, Cyan, Rgb}
 use Rattle.miette_style.specs.declared.style.Style.{Style}
 use Rattle.miette_style.specs.rules.Codes.{foreground, foreground_codes, flag, style_codes, separated_codes}
-use Rattle.miette_style.specs.rules.Codes.{colour_start, colour_stop, behind_separators}
+use Rattle.miette_style.specs.rules.Codes.{colour_start, colour_stop, after_separators}
 
 -- digits and `;` alone
 abbrev pub parameters : List ℕ → Bool
@@ -62,17 +62,17 @@ abbrev each_parameters : List (List ℕ) → Bool
 each_parameters [] = true
 each_parameters (x ∷ xs) = parameters x && each_parameters xs
 
-behind_parameters : (xs : List (List ℕ)) → each_parameters xs ≡ true → parameters (behind_separators xs) ≡ true
-behind_parameters [] h = refl
-behind_parameters (x ∷ xs) h =
+after_parameters : (xs : List (List ℕ)) → each_parameters xs ≡ true → parameters (after_separators xs) ≡ true
+after_parameters [] h = refl
+after_parameters (x ∷ xs) h =
     let p = and_parts (parameters x) (each_parameters xs) h in
-    parameters-append (59 ∷ x) (behind_separators xs) p.0 (behind_parameters xs p.1)
+    parameters-append (59 ∷ x) (after_separators xs) p.0 (after_parameters xs p.1)
 
 separated_parameters : (xs : List (List ℕ)) → each_parameters xs ≡ true → parameters (separated_codes xs) ≡ true
 separated_parameters [] h = refl
 separated_parameters (x ∷ xs) h =
     let p = and_parts (parameters x) (each_parameters xs) h in
-    parameters-append x (behind_separators xs) p.0 (behind_parameters xs p.1)
+    parameters-append x (after_separators xs) p.0 (after_parameters xs p.1)
 
 each-append : (xs ys : List (List ℕ)) → each_parameters xs ≡ true → each_parameters ys ≡ true
     → each_parameters (xs ++ ys) ≡ true

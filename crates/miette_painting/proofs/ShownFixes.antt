@@ -22,12 +22,12 @@ use Rattle.miette_snippet_rules.specs.rules.Settings.{SnippetSettings}
 use Rattle.miette_painting.specs.steps.FixSources.{fix_rows_over}
 use Rattle.miette_painting.specs.views.PartTexts.{AppendsFixes}
 use Rattle.miette_picture_rules.proofs.PrintedRows.{rows_printed}
-use Rattle.miette_painting.proofs.Steps.{behind}
+use Rattle.miette_painting.proofs.Steps.{added_after}
 
 -- rows that a page printed after a text
-pub rows_behind : (before : List ℕ) (rows : List Row) (over page : Printout) (out : List ℕ) → over ≡ printout_of before
+pub rows_after : (before : List ℕ) (rows : List Row) (over page : Printout) (out : List ℕ) → over ≡ printout_of before
     → page ≡ over ⊕ rows_tokens rows → out ≡ ended_text page → out ≡ before ++ rows_text (map runs_of_row rows)
-rows_behind before rows over page out o p e =
+rows_after before rows over page out o p e =
     e ∙ ap ended_text (p ∙ ap (λ x. x ⊕ rows_tokens rows) o) ∙ rows_printed before rows
 
 -- rows over a source, if there is one
@@ -48,22 +48,22 @@ abbrev pub message_of : Settings → Proposal → List ℕ
 message_of s fix = wrapped_under s (fix_indent s) further_fix_indent (chars fix.message) ++ line_feed
 
 -- it stands after a text
-abbrev IsToldBehind : Settings → List ℕ → List ℕ → List ℕ → Type 0
-IsToldBehind s text old told =
+abbrev IsToldAfter : Settings → List ℕ → List ℕ → List ℕ → Type 0
+IsToldAfter s text old told =
     told ≡ old ++ (wrapped_under s (fix_indent s) further_fix_indent (chars text) ++ line_feed)
 
 message_told : (s : Settings) (fix : Proposal) (text old told : List ℕ) → text ≡ fix.message
-    → IsToldBehind s text old told → told ≡ old ++ message_of s fix
+    → IsToldAfter s text old told → told ≡ old ++ message_of s fix
 message_told s fix text old told is e =
     e ∙ ap (λ t. old ++ (wrapped_under s (fix_indent s) further_fix_indent (chars t) ++ line_feed)) is
 
 -- with rows below it that were printed by the same settings
-pub fix_behind : (s u : Settings) (source : Option Source) (fails : Bool) (fix : Proposal) (text old told new : List ℕ)
-    → text ≡ fix.message → IsToldBehind s text old told → u ≡ s
+pub fix_after : (s u : Settings) (source : Option Source) (fails : Bool) (fix : Proposal) (text old told new : List ℕ)
+    → text ≡ fix.message → IsToldAfter s text old told → u ≡ s
     → new ≡ told ++ rows_text (map runs_of_row (fix_rows_over (snippet_settings u) source fails fix.edits))
     → new ≡ old ++ fix_text s (drawn_fix s source fails fix)
-fix_behind s u source fails fix text old told new is e same h =
-    behind old told new (message_of s fix) (rows_text (rows_of_fix s source fails fix.edits))
+fix_after s u source fails fix text old told new is e same h =
+    added_after old told new (message_of s fix) (rows_text (rows_of_fix s source fails fix.edits))
     (message_told s fix text old told is e)
     (h ∙ ap (λ v. told ++ rows_text (map runs_of_row (fix_rows_over (snippet_settings v) source fails fix.edits))) same
     ∙ ap (λ rows. told ++ rows_text rows) (rows_shown s source fails fix.edits))

@@ -22,7 +22,7 @@ use Rattle.miette_painting.specs.views.Painting.{Keeps, Paints, settings_of}
 use Rattle.miette_painting.proofs.Painted.{paints_after}
 use Rattle.miette_painting.proofs.Remaining.{Chain, Left, all_printed, one_printed}
 use Rattle.miette_picture_rules.proofs.RowTexts.{rows-appended}
-use Rattle.miette_painting.proofs.Steps.{behind, leads_none, leads_on, nothing_behind}
+use Rattle.miette_painting.proofs.Steps.{added_after, leads_none, leads_on, nothing_after}
 
 -- sources that are left, and the settings in which the labels over the first of them are drawn
 pub record SourcesLeft : Type 0 where
@@ -104,7 +104,7 @@ pub sources_printed : {H : Type 0} (is_blank : H → Bool) (may_follow : H → L
 sources_printed is_blank may_follow old now s end sources r =
     let was : List Call → Type 0 = follows may_follow now.highlighter in
     all_printed is_blank may_follow sources_left old now now (left_in s sources) (left_in end []) r (refl, refl)
-    (nothing_behind _ now.out ([], tt, leads_none was, refl))
+    (nothing_after _ now.out ([], tt, leads_none was, refl))
 
 -- a diagnostic's own source, and then its further ones
 pub own_and_further : {H : Type 0} (is_blank : H → Bool) (may_follow : H → List Call → Type 0)
@@ -128,5 +128,5 @@ own_and_further is_blank may_follow old mid new s it more p keeps q =
             ∙ sym (rows-appended (source_rows s it.source it.labels own.0)
             (rows_over (after_labels (length it.labels) s) more further.0)),
       );
-      appended = behind old.out mid.out new.out p.text later.text p.appended later.appended;
+      appended = added_after old.out mid.out new.out p.text later.text p.appended later.appended;
     }

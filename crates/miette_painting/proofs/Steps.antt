@@ -236,17 +236,18 @@ root_step s blank begun mid now (tree m own c r) causes text q p =
 -- ---- texts that are appended
 
 -- one text after another
-pub behind : (old mid new first more : List ℕ) → mid ≡ old ++ first → new ≡ mid ++ more → new ≡ old ++ (first ++ more)
-behind old mid new first more p q = q ∙ ap (λ x. x ++ more) p ∙ append_assoc old first more
+pub added_after : (old mid new first more : List ℕ) → mid ≡ old ++ first → new ≡ mid ++ more
+    → new ≡ old ++ (first ++ more)
+added_after old mid new first more p q = q ∙ ap (λ x. x ++ more) p ∙ append_assoc old first more
 
-pub nothing_behind : (P : List ℕ → Type 0) (old : List ℕ) → P [] → AppendsOne P old old
-nothing_behind P old p = record { text = []; is_given = p; appended = sym (append-nil old) }
+pub nothing_after : (P : List ℕ → Type 0) (old : List ℕ) → P [] → AppendsOne P old old
+nothing_after P old p = record { text = []; is_given = p; appended = sym (append-nil old) }
 
-pub cause_texts_behind : (s : Settings) (blank : Bool) (now : List Call → Type 0)
+pub cause_texts_after : (s : Settings) (blank : Bool) (now : List Call → Type 0)
     (outer : Option Severity) (inherited : Option Source) (ts : List (List ℕ)) (old new : List ℕ) →
     new ≡ old ++ cause_texts s outer ts → AppendsOne (AreCauses outer inherited (texts ts) (printing s blank now now))
     old new
-cause_texts_behind s blank now outer inherited ts old new e =
+cause_texts_after s blank now outer inherited ts old new e =
     record {
       text = cause_texts s outer ts;
       is_given = causes_none s blank now outer inherited ts
@@ -254,21 +255,21 @@ cause_texts_behind s blank now outer inherited ts old new e =
       appended = e;
     }
 
-pub no_related_behind : {R : Type 0} (s : Settings) (blank : Bool) (now : List Call → Type 0)
+pub no_related_after : {R : Type 0} (s : Settings) (blank : Bool) (now : List Call → Type 0)
     (outer : Option Severity) (inherited : Option Source) (value : R → Tree) (rs : List R) (old : List ℕ) →
     length rs < 1 → AppendsOne (AreRelated outer inherited (trees (map value rs)) (printing s blank now now)) old old
-no_related_behind s blank now outer inherited value rs old h =
-    nothing_behind (AreRelated outer inherited (trees (map value rs)) (printing s blank now now)) old
+no_related_after s blank now outer inherited value rs old h =
+    nothing_after (AreRelated outer inherited (trees (map value rs)) (printing s blank now now)) old
     (none_related s blank now outer inherited value rs [] h refl)
 
 -- the rows of snippets, help, and fixes
-pub own_behind : {H : Type 0} (is_blank : H → Bool) (may_follow : H → List Call → Type 0) (source : Option Source)
+pub own_after : {H : Type 0} (is_blank : H → Bool) (may_follow : H → List Call → Type 0) (source : Option Source)
     (m : Diagnosis) (old drawn helped new : Painter H) →
     Paints is_blank may_follow (AreRowsDrawn source m) old drawn → Keeps is_blank old drawn
     → helped.out ≡ drawn.out ++ help_text (settings_of drawn) m.help → PrintsOnly drawn helped →
     AppendsFixes (settings_of helped) source m.fixes helped.out new.out → PrintsOnly helped new
     → Paints is_blank may_follow (IsDrawn source m) old new
-own_behind is_blank may_follow source m old drawn helped new p kept e only fixes last =
+own_after is_blank may_follow source m old drawn helped new p kept e only fixes last =
     let s = settings_of old in
     let help = help_text s m.help in
     let own = p.is_given in
@@ -283,20 +284,20 @@ own_behind is_blank may_follow source m old drawn helped new p kept e only fixes
             (follows may_follow h)) after own.2,
         ap (λ x. x ++ help ++ shown) own.3,
       );
-      appended = behind old.out helped.out new.out (p.text ++ help) shown
-          (behind old.out drawn.out helped.out p.text help p.appended
+      appended = added_after old.out helped.out new.out (p.text ++ help) shown
+          (added_after old.out drawn.out helped.out p.text help p.appended
           (subst (λ s. helped.out ≡ drawn.out ++ help_text s m.help) kept.0 e))
           (subst (λ s. new.out ≡ helped.out ++ fixes_text s (map (drawn_fix s source fixes.fails) m.fixes))
           (only.0 ∙ kept.0) fixes.appended);
     }
 
 -- what is drawn, and related reports
-pub below_behind : {H : Type 0} (is_blank : H → Bool) (may_follow : H → List Call → Type 0) (source : Option Source)
+pub below_after : {H : Type 0} (is_blank : H → Bool) (may_follow : H → List Call → Type 0) (source : Option Source)
     (t : Tree) (old drawn new : Painter H) →
     Paints is_blank may_follow (IsDrawn source (head t)) old drawn → Keeps is_blank old drawn →
     Paints is_blank may_follow (AreRelated (head t).severity source (related_of t)) drawn new
     → Paints is_blank may_follow (IsBelow source t) old new
-below_behind is_blank may_follow source t old drawn new p kept r =
+below_after is_blank may_follow source t old drawn new p kept r =
     let s = settings_of old in
     let q = paints_after is_blank may_follow (AreRelated (head t).severity source (related_of t)) old drawn drawn new
     kept (refl, refl) r in
@@ -313,15 +314,16 @@ below_behind is_blank may_follow source t old drawn new p kept r =
             (related_calls s.layout s.related_as_nested source (related_of t) more.0) own.2 more.2,
         ap₂ (λ x y. x ++ y) own.3 more.3,
       );
-      appended = behind old.out drawn.out new.out p.text q.text p.appended q.appended;
+      appended = added_after old.out drawn.out new.out p.text q.text p.appended q.appended;
     }
 
 -- message, causes, and what stands below them
-body_behind : (s : Settings) (m : Diagnosis) (old told caused new drawn causes related below : List ℕ) → told ≡ old
+body_after : (s : Settings) (m : Diagnosis) (old told caused new drawn causes related below : List ℕ) → told ≡ old
     ++ message_text s m → caused ≡ told ++ causes → new ≡ caused ++ below →
     below ≡ drawn ++ related → new ≡ old ++ body_over s m drawn causes related
-body_behind s m old told caused new drawn causes related below p q r e =
-    behind old caused new (message_text s m ++ causes) below (behind old told caused (message_text s m) causes p q) r
+body_after s m old told caused new drawn causes related below p q r e =
+    added_after old caused new (message_text s m ++ causes) below
+    (added_after old told caused (message_text s m) causes p q) r
     ∙ ap (λ x. old ++ x) (ap (λ x. message_text s m ++ causes ++ x) e
     ∙ sym (append_assoc (message_text s m ++ causes) drawn related))
 
@@ -334,7 +336,7 @@ inner_whole by source t old headed told new text n h m p e =
     let drawn = below_drawn by source t p.text p.is_given in
     let related = below_related by source t p.text p.is_given in
     let body : new ≡ headed ++ body_over by.settings (head t) drawn [] related =
-    body_behind by.settings (head t) headed told told new drawn [] related p.text m (sym (append-nil told)) p.appended
+    body_after by.settings (head t) headed told told new drawn [] related p.text m (sym (append-nil told)) p.appended
     p.is_given.5 in
     subst (λ x. IsInner source t by x)
     (sym (e ∙ ap without_leading (body ∙ ap (λ x. x ++ body_over by.settings (head t) drawn [] related)
@@ -342,14 +344,14 @@ inner_whole by source t old headed told new text n h m p e =
     (inner_step by source t p.text p.is_given)
 
 -- title, message, causes, and what stands below them
-pub sibling_behind : {H : Type 0} (is_blank : H → Bool) (may_follow : H → List Call → Type 0) (source : Option Source)
+pub sibling_after : {H : Type 0} (is_blank : H → Bool) (may_follow : H → List Call → Type 0) (source : Option Source)
     (t : Tree) (old told caused new : Painter H) →
     told.out ≡ (old.out ++ title_text (settings_of old) (head t)) ++ message_text (settings_of old) (head t)
     → PrintsOnly old told →
     Paints is_blank may_follow (AreCauses (head t).severity source (cause_of t)) told caused
     → Keeps is_blank told caused
     → Paints is_blank may_follow (IsBelow source t) caused new → Paints is_blank may_follow (IsSibling source t) old new
-sibling_behind is_blank may_follow source t old told caused new e only causes kept below =
+sibling_after is_blank may_follow source t old told caused new e only causes kept below =
     let s = settings_of old in
     let blank = leaves_plain is_blank old.highlighter in
     let by = printing s blank (follows may_follow caused.highlighter) (follows may_follow new.highlighter) in
@@ -363,9 +365,9 @@ sibling_behind is_blank may_follow source t old told caused new e only causes ke
       text = title_text s (head t) ++ body_over s (head t) drawn c.text related;
       is_given = sibling_step s blank (follows may_follow old.highlighter) (follows may_follow caused.highlighter)
           (follows may_follow new.highlighter) source t c.text p.text c.is_given p.is_given;
-      appended = behind old.out titled new.out (title_text s (head t)) (body_over s (head t) drawn c.text related) refl
-          (body_behind s (head t) titled told.out caused.out new.out drawn c.text related p.text e c.appended p.appended
-          p.is_given.5);
+      appended = added_after old.out titled new.out (title_text s (head t)) (body_over s (head t) drawn c.text related)
+          refl (body_after s (head t) titled told.out caused.out new.out drawn c.text related p.text e c.appended
+          p.appended p.is_given.5);
     }
 
 -- header, message, causes, what stands below them, and the footer
@@ -389,16 +391,17 @@ report_whole is_blank may_follow t old told caused drawn new e only causes kept 
     let own = below_drawn by (source_of t) t p.text p.is_given in
     let related = below_related by (source_of t) t p.text p.is_given in
     let body : drawn.out ≡ headed ++ body_over s (head t) own c.text related =
-    body_behind s (head t) headed told.out caused.out drawn.out own c.text related p.text e c.appended p.appended
+    body_after s (head t) headed told.out caused.out drawn.out own c.text related p.text e c.appended p.appended
     p.is_given.5 in
     paints_before is_blank may_follow (IsOutermost t) old drawn new last (record {
       text = report_over s (head t) own c.text related;
       is_given = root_step s blank (follows may_follow old.highlighter) (follows may_follow caused.highlighter)
           (follows may_follow drawn.highlighter) t c.text p.text c.is_given p.is_given;
-      appended = behind old.out drawn.out new.out (print (header s (head t)) ++ body_over s (head t) own c.text related)
+      appended = added_after old.out drawn.out new.out
+          (print (header s (head t)) ++ body_over s (head t) own c.text related)
           (footer_text s)
-          (behind old.out headed drawn.out (print (header s (head t))) (body_over s (head t) own c.text related) refl
-          body)
+          (added_after old.out headed drawn.out (print (header s (head t))) (body_over s (head t) own c.text related)
+          refl body)
           (subst (λ s. new.out ≡ drawn.out ++ footer_text s)
           (keeps_on is_blank old caused drawn known later).0 f);
     })

@@ -57,9 +57,9 @@ fn push_link_header<H>(
 }
 
 /// Appends a url in parentheses.
-fn push_url_behind<H>(painter: &mut Painter<'_, H>, url: &str) -> Result<(), AllocError>
+fn push_url_after<H>(painter: &mut Painter<'_, H>, url: &str) -> Result<(), AllocError>
     ensures text { OnOk result (painter.new.out ≡ painter.old.out
-        ++ print (parts.url_behind (settings_of painter.old) (Some url.now))) }
+        ++ print (parts.url_after (settings_of painter.old) (Some url.now))) }
     ensures stays { PrintsOnly painter.old painter.new }
 {
     let style = painter.settings.theme.styles.link;
@@ -76,12 +76,12 @@ fn push_code_header<H>(
 ) -> Result<(), AllocError>
     ensures text { OnOk result (painter.new.out ≡ painter.old.out ++ print
         (parts.code_header style (Some code.now)
-        (parts.url_behind (settings_of painter.old) (option_map (λ t. t.now) url.entry)))) }
+        (parts.url_after (settings_of painter.old) (option_map (λ t. t.now) url.entry)))) }
     ensures stays { PrintsOnly painter.old painter.new }
 {
     painter.out.push_run(style, code)?;
     if let Some(url) = url {
-        push_url_behind(painter, url)?;
+        push_url_after(painter, url)?;
     }
     push_blank_row(&mut painter.out)
 }
@@ -101,7 +101,7 @@ pub fn push_header<H>(
         (option_map (λ t. t.now) url.entry) (option_map (λ t. t.now) code.entry)))) }
     ensures stays { PrintsOnly painter.old painter.new }
 {
-    let behind = match painter.settings.urls {
+    let after = match painter.settings.urls {
         UrlMode::Links => {
             if let Some(url) = url {
                 push_link_header(painter, style, url, code)?;
@@ -115,6 +115,6 @@ pub fn push_header<H>(
     let Some(code) = code else {
         return Ok(false);
     };
-    push_code_header(painter, style, behind, code)?;
+    push_code_header(painter, style, after, code)?;
     Ok(true)
 }

@@ -99,7 +99,7 @@ fn push_wrapped_text(
 // Appends a text after an indent, and a line feed, where both stand in one row as they are; says whether.
 fn push_row<H>(painter: &mut Painter<'_, H>, first: &Runs, text: &str) -> Result<bool, AllocError>
     ensures fits { IfOk result (λ fits. fits ≡ true → (further : List ℕ) → painter.new.out ≡ painter.old.out
-        ++ (indents.wrapped_behind (settings_of painter.old) (spell first.now) further (chars text.now)
+        ++ (indents.wrapped_after (settings_of painter.old) (spell first.now) further (chars text.now)
         ++ parts.line_feed)) }
     ensures otherwise { IfOk result (λ fits. fits ≡ false → painter.new.out ≡ painter.old.out) }
     ensures stays { PrintsOnly painter.old painter.new }

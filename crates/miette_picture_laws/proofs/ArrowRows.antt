@@ -10,7 +10,7 @@ use Rattle.miette_printed_laws.specs.laws.Holding.{Arrow, EndsRow, HoldsUnder, S
 use Rattle.miette_picture_rules.specs.rules.DiagnosticText.{line_feed, under_arrow}
 use Rattle.miette_picture_rules.specs.rules.Settings.{Settings}
 use Rattle.miette_picture_laws.proofs.Arrows.{inner-stand}
-use Rattle.miette_wrapping.proofs.Feeds.{seen-behind, tokens-fed}
+use Rattle.miette_wrapping.proofs.Feeds.{seen-after, tokens-fed}
 use Rattle.miette_printed_laws.proofs.Rows.{IsEnded, ended-rows, within-stands}
 
 -- ---- rows one after the other
@@ -49,7 +49,7 @@ seen-before x h = sym (ap only_feeds (tokens-fed x []) ∙ feeds-fed (tokens x))
 pub seen-below : (front x : List ℕ) → EndsRow front → IsSeen x → IsSeen (front ++ x)
 seen-below front x h k = elim h [
   | inl none ↦ subst IsSeen (sym (ap (λ t. t ++ x) none)) k
-  | inr e ↦ subst IsSeen (sym (ap (λ t. t ++ x) e.1 ∙ append_assoc e.0 line_feed x)) (seen-behind e.0 x k)
+  | inr e ↦ subst IsSeen (sym (ap (λ t. t ++ x) e.1 ∙ append_assoc e.0 line_feed x)) (seen-after e.0 x k)
 ]
 
 pub seen-above : (x y : List ℕ) → EndsRow x → IsSeen x → IsSeen (x ++ y)

@@ -8,7 +8,7 @@ use Rattle.miette_runs.specs.rules.Sequences.{tokens}
 use Rattle.miette_picture_laws.specs.laws.FittingRows.{bare_row, fed_rows}
 use Rattle.miette_wrap_rules.specs.rules.Wrapping.{Plan}
 use Rattle.miette_wrap_rules.specs.views.Plans.{cuts_hyphens}
-use Rattle.miette_wrapping.proofs.Feeds.{leading-kept, seen-behind, trailing-kept}
+use Rattle.miette_wrapping.proofs.Feeds.{leading-kept, seen-after, trailing-kept}
 use Rattle.miette_wrapping.proofs.FittingRows.{first-wrapped, rows-wrapped}
 use Rattle.miette_picture_rules.specs.rules.DiagnosticText.{line_feed, rows_text}
 use Rattle.miette_picture_rules.specs.rules.Indents.{arrow_indent, stem_indent}
@@ -55,7 +55,7 @@ rows-seen : (rows : List (List ℕ)) (back : List ℕ) → only_feeds (tokens ba
 rows-seen [] back h = h
 rows-seen (row ∷ rows) back h =
     ap (λ t. only_feeds (tokens t)) (append_assoc row (10 ∷ fed_rows rows) back)
-    ∙ seen-behind row (fed_rows rows ++ back) (rows-seen rows back h)
+    ∙ seen-after row (fed_rows rows ++ back) (rows-seen rows back h)
 
 rows-kept : (rows : List (List ℕ)) (back : List ℕ) → only_feeds (tokens back) ≡ false
     → without_trailing (fed_rows rows ++ back) ≡ fed_rows rows ++ without_trailing back

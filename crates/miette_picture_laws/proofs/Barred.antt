@@ -15,7 +15,7 @@ use Rattle.miette_runs.specs.rules.Runs.{Styled, print, printed_run}
 use Rattle.miette_runs.specs.rules.Sequences.{Token, Character, Sequence, is_line_feed, spell, tokens}
 use Rattle.miette_runs.proofs.Parameters.{start_colour}
 use Rattle.miette_runs.proofs.Tokens.{nil_of, spell-tokens}
-use Rattle.miette_wrap_rules.specs.laws.Tame.{Free, IsTame, state_behind}
+use Rattle.miette_wrap_rules.specs.laws.Tame.{Free, IsTame, state_after}
 use Rattle.miette_wrap_rules.specs.rules.Wrapping.{is_space, only_spaces, trimmed_row}
 use Rattle.miette_wrap_laws.proofs.Erasing.{append-tame, tokens-append}
 use Rattle.miette_wrap_laws.proofs.Parsing.{tokens-spell}
@@ -26,21 +26,21 @@ use Rattle.miette_picture_rules.specs.rules.Indents.{stem_indent}
 use Rattle.miette_picture_rules.specs.rules.Settings.{Settings, severity_style}
 use Rattle.miette_picture_laws.specs.laws.FittingRows.{FitsRow, bare_row, fed_rows, is_row}
 use Rattle.miette_printed_laws.specs.laws.Holding.{Arrow}
-use Rattle.miette_picture_laws.specs.laws.Levels.{FitLevels, HasPlainBars, HaveRoom, IsShownRow, StandBehindBars, bar}
-use Rattle.miette_picture_laws.specs.laws.Levels.{barred, barred_rows, bars, settings_behind, settings_under}
+use Rattle.miette_picture_laws.specs.laws.Levels.{FitLevels, HasPlainBars, HaveRoom, IsShownRow, StandAfterBars, bar}
+use Rattle.miette_picture_laws.specs.laws.Levels.{barred, barred_rows, bars, settings_after, settings_under}
 use Rattle.miette_picture_laws.proofs.Levels.{barred-fed}
 use Rattle.miette_picture_laws.proofs.Themes.{shipped}
 
 -- ---- rows without their last spaces
 
-bare-tame : (row : List ℕ) → IsTame row → state_behind Free (trimmed_row (tokens row)) ≡ Free
+bare-tame : (row : List ℕ) → IsTame row → state_after Free (trimmed_row (tokens row)) ≡ Free
 bare-tame row h = run-trimmed Free (tokens row) (ap alive h) ∙ h
 
 bare-tokens : (row : List ℕ) → IsTame row → tokens (bare_row row) ≡ trimmed_row (tokens row)
 bare-tokens row h = tokens-spell Free (trimmed_row (tokens row)) (bare-tame row h)
 
 bare-is-tame : (row : List ℕ) → IsTame row → IsTame (bare_row row)
-bare-is-tame row h = ap (state_behind Free) (bare-tokens row h) ∙ bare-tame row h
+bare-is-tame row h = ap (state_after Free) (bare-tokens row h) ∙ bare-tame row h
 
 trimmed-columns : (ts : List Token) → columns_of (trimmed_row ts) ≤ columns_of ts
 trimmed-columns [] = omega arith
@@ -174,7 +174,7 @@ have-levels : (s : Settings) (arrows : List Arrow) (rows : List (List ℕ)) → 
     → AllByRecursion (FitsRow ((settings_under s arrows).width - 2)) rows → HasLevels s arrows rows
 have-levels s [] rows h w tame fit = record { wide = w; tame = tame; fit = fit; levels = tt }
 have-levels s (arrow ∷ arrows) rows h w tame fit =
-    let n = settings_behind s arrow in
+    let n = settings_after s arrow in
     let indent = bar s arrow in
     let own = have-levels n arrows rows h w tame fit in
     let taken : n.width ≡ s.width - columns_of (tokens indent) = refl in
@@ -195,20 +195,20 @@ have-room s arrows rows h w tame fit = (have-levels s arrows rows h w tame fit).
 
 -- ---- how they stand
 
-spaces-behind : (us vs : List Token) → only_spaces vs ≡ false → only_spaces (us ++ vs) ≡ false
-spaces-behind [] vs h = h
-spaces-behind (Sequence s ∷ us) vs h = spaces-behind us vs h
-spaces-behind (Character c ∷ us) vs h = ap (λ b. is_space c && b) (spaces-behind us vs h) ∙ and-false (is_space c)
+spaces-after : (us vs : List Token) → only_spaces vs ≡ false → only_spaces (us ++ vs) ≡ false
+spaces-after [] vs h = h
+spaces-after (Sequence s ∷ us) vs h = spaces-after us vs h
+spaces-after (Character c ∷ us) vs h = ap (λ b. is_space c && b) (spaces-after us vs h) ∙ and-false (is_space c)
 
-trimmed-behind : (us vs : List Token) → only_spaces vs ≡ false → trimmed_row (us ++ vs) ≡ us ++ trimmed_row vs
-trimmed-behind [] vs h = refl
-trimmed-behind (Sequence s ∷ us) vs h = ap (λ ts. Sequence s ∷ ts) (trimmed-behind us vs h)
-trimmed-behind (Character c ∷ us) vs h =
+trimmed-after : (us vs : List Token) → only_spaces vs ≡ false → trimmed_row (us ++ vs) ≡ us ++ trimmed_row vs
+trimmed-after [] vs h = refl
+trimmed-after (Sequence s ∷ us) vs h = ap (λ ts. Sequence s ∷ ts) (trimmed-after us vs h)
+trimmed-after (Character c ∷ us) vs h =
     ap (λ (b : Bool). if is_space c && b then trimmed_row (us ++ vs) else Character c ∷ trimmed_row (us ++ vs))
-    (spaces-behind us vs h)
+    (spaces-after us vs h)
     ∙ ap (λ (b : Bool). if b then trimmed_row (us ++ vs) else Character c ∷ trimmed_row (us ++ vs))
     (and-false (is_space c))
-    ∙ ap (λ ts. Character c ∷ ts) (trimmed-behind us vs h)
+    ∙ ap (λ ts. Character c ∷ ts) (trimmed-after us vs h)
 
 trimmed-spaces : (ts : List Token) → only_spaces (trimmed_row ts) ≡ only_spaces ts
 trimmed-spaces [] = refl
@@ -251,41 +251,41 @@ bare-ends row h =
       shown = ap only_spaces own ∙ trimmed-spaces (tokens row) ∙ h.1;
     }
 
-behind-ends : (indent row : List ℕ) → IsTame indent → EndsShown row → EndsShown (indent ++ row)
-behind-ends indent row t h =
+after-ends : (indent row : List ℕ) → IsTame indent → EndsShown row → EndsShown (indent ++ row)
+after-ends indent row t h =
     let own = tokens-append indent row t h.tame in
     record {
       tame = append-tame indent row t h.tame;
-      bare = ap trimmed_row own ∙ trimmed-behind (tokens indent) (tokens row) h.shown
+      bare = ap trimmed_row own ∙ trimmed-after (tokens indent) (tokens row) h.shown
           ∙ ap (λ ts. tokens indent ++ ts) h.bare ∙ sym own;
-      shown = ap only_spaces own ∙ spaces-behind (tokens indent) (tokens row) h.shown;
+      shown = ap only_spaces own ∙ spaces-after (tokens indent) (tokens row) h.shown;
     }
 
 bars-tame : (s : Settings) (arrows : List Arrow) → HasPlainBars s → IsTame (bars s arrows)
 bars-tame s [] h = refl
 bars-tame s (arrow ∷ arrows) h =
-    append-tame (bar s arrow) (bars (settings_behind s arrow) arrows) (bar-tame s arrow h)
-    (bars-tame (settings_behind s arrow) arrows h)
+    append-tame (bar s arrow) (bars (settings_after s arrow) arrows) (bar-tame s arrow h)
+    (bars-tame (settings_after s arrow) arrows h)
 
 barred-again : (indent inner : List ℕ) (rows : List (List ℕ)) → IsTame inner → AllByRecursion IsShownRow rows
     → barred indent (barred inner rows) ≡ barred (indent ++ inner) rows
 barred-again indent inner [] t h = refl
 barred-again indent inner (row ∷ rows) t h =
     ap₂ (λ x xs. x ∷ xs) (ap (λ x. indent ++ x) (bare-same (inner ++ bare_row row)
-    (behind-ends inner (bare_row row) t (bare-ends row h.0))) ∙ sym (append_assoc indent inner (bare_row row)))
+    (after-ends inner (bare_row row) t (bare-ends row h.0))) ∙ sym (append_assoc indent inner (bare_row row)))
     (barred-again indent inner rows t h.1)
 
 pub barred-bars : (s : Settings) (arrow : Arrow) (arrows : List Arrow) (rows : List (List ℕ)) → HasPlainBars s
     → AllByRecursion IsShownRow rows → barred_rows s (arrow ∷ arrows) rows ≡ barred (bars s (arrow ∷ arrows)) rows
 barred-bars s arrow [] rows p h = ap (λ b. barred b rows) (sym (append-nil (bar s arrow)))
 barred-bars s arrow (next ∷ arrows) rows p h =
-    let n = settings_behind s arrow in
+    let n = settings_after s arrow in
     ap (barred (bar s arrow)) (barred-bars n next arrows rows p h)
     ∙ barred-again (bar s arrow) (bars n (next ∷ arrows)) rows (bars-tame n (next ∷ arrows) p) h
 
-pub stand-behind : (s : Settings) (arrows : List Arrow) (rows : List (List ℕ)) → HasPlainBars s
-    → StandBehindBars s arrows rows
-stand-behind s arrows rows p h arrow =
+pub stand-after : (s : Settings) (arrows : List Arrow) (rows : List (List ℕ)) → HasPlainBars s
+    → StandAfterBars s arrows rows
+stand-after s arrows rows p h arrow =
     ap fed_rows (barred-bars s arrow arrows rows p h) ∙ sym (barred-fed (bars s (arrow ∷ arrows)) rows)
 
 pub shipped-bars : (s : Settings) → AreShipped s.theme.characters → HasPlainBars s

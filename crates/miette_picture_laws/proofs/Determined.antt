@@ -372,9 +372,10 @@ pub one-followed : (follow : List Call → Type 0) (s : Settings) (blank : Bool)
 one-followed follow s blank t x y same reads h k =
     let some = h.1 in
     let others = k.1 in
-    let behind = λ (calls : List Call) (happened : follow calls). subst follow (sym (append-nil calls)) happened in
+    let none_after = λ (calls : List Call) (happened : follow calls). subst follow (sym (append-nil calls)) happened in
     let d = report follow same s blank t some.0 others.0 some.1 others.1 reads in
-    let one = d.once [] [] [] (behind (report_calls s t some.0) some.2) (behind (report_calls s t others.0) others.2) in
+    let one = d.once [] [] [] (none_after (report_calls s t some.0) some.2)
+    (none_after (report_calls s t others.0) others.2) in
     h.2 ∙ ap encode_utf8_all (some.3 ∙ one.1 ∙ sym others.3) ∙ sym k.2
 
 -- by calls that lead to a state which none need follow

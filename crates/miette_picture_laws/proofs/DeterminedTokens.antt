@@ -140,9 +140,9 @@ character-within d at (b ∷ bs) =
     (λ n. found-less plain ((at + 1) + length bs) (at + length (b ∷ bs)) (omega arith)
     (held-within d false (at + 1) bs)))
 
-behind-within : (before : ℕ) (text : List ℕ)
+after-within : (before : ℕ) (text : List ℕ)
     → IfSome (raw_text before text) (λ found. found.0 ≤ before + length text)
-behind-within before text =
+after-within before text =
     let hashes : ℕ = hash_count text in
     found-less (raw_text before text) (before + hashes + length (drop hashes text)) (before + length text)
     (omega (arith, hashes-within text, length-drop hashes text))
@@ -190,7 +190,7 @@ match-within (Raw prefix) text =
     (λ y. let l : length front ≤ length text = begin-within front text y in
     found-less (raw_text (length front) (drop (length front) text)) (length front + length (drop (length front) text))
     (length text) (omega (arith, l, length-drop (length front) text))
-    (behind-within (length front) (drop (length front) text)))
+    (after-within (length front) (drop (length front) text)))
     (λ n. tt)
 
 -- a token, where there is one, has at most `n` bytes

@@ -27,7 +27,7 @@ use Rattle.miette_picture_laws.specs.laws.Levels.{ends_related, settings_under}
 use Rattle.miette_picture_laws.proofs.ArrowRows.{IsSeen, fed-append, fed-ends, grouped, seen-above, seen-before}
 use Rattle.miette_picture_laws.proofs.ArrowRows.{seen-below}
 use Rattle.miette_picture_laws.proofs.Arrows.{arrow_plan, left-by, printed-rows}
-use Rattle.miette_wrapping.proofs.FittingRows.{IsBehind, rows-wrapped}
+use Rattle.miette_wrapping.proofs.FittingRows.{IsAfter, rows-wrapped}
 use Rattle.miette_printed_laws.proofs.Rows.{bytes-stand, within-stands}
 
 -- ---- indents are to be seen, whatever stands after them
@@ -76,7 +76,7 @@ stem-seen s outer true more = indent-seen _ _ more
 stem-seen s outer false more = indent-seen _ _ more
 
 -- what begins with such a text
-begins-seen : (indent text : List ℕ) → StaysSeen indent → IsBehind indent text → StaysSeen text
+begins-seen : (indent text : List ℕ) → StaysSeen indent → IsAfter indent text → StaysSeen text
 begins-seen indent text h k more =
     ap (λ t. only_feeds (tokens (t ++ more))) k.1
     ∙ ap (λ t. only_feeds (tokens t)) (append_assoc indent k.0 more)

@@ -74,13 +74,13 @@ numbered-bytes : (w number gutter bar : ℕ) (text : List ℕ) → number < 2 ^ 
     → encode_utf8_all (numbered (padded w number) (bar ∷ []) (spaces gutter ++ text))
     ≡ numbered (padded w number) (encode_utf8_all (bar ∷ [])) (spaces gutter ++ encode_utf8_all text)
 numbered-bytes w number gutter bar text h =
-    let behind = spaces gutter ++ text in
+    let after = spaces gutter ++ text in
     let space : 32 < 128 = omega arith in
-    one-byte 32 (padded w number ++ (32 ∷ bar ∷ 32 ∷ behind)) space
-    ∙ ap (λ bs. 32 ∷ bs) (encodes-append (padded w number) (32 ∷ bar ∷ 32 ∷ behind)
-    ∙ ap₂ (λ xs ys. xs ++ ys) (padded-bytes w number h) (one-byte 32 (bar ∷ 32 ∷ behind) space
-    ∙ ap (λ bs. 32 ∷ bs) (encodes-append (bar ∷ []) (32 ∷ behind)
-    ∙ ap (λ bs. encode_utf8_all (bar ∷ []) ++ bs) (one-byte 32 behind space
+    one-byte 32 (padded w number ++ (32 ∷ bar ∷ 32 ∷ after)) space
+    ∙ ap (λ bs. 32 ∷ bs) (encodes-append (padded w number) (32 ∷ bar ∷ 32 ∷ after)
+    ∙ ap₂ (λ xs ys. xs ++ ys) (padded-bytes w number h) (one-byte 32 (bar ∷ 32 ∷ after) space
+    ∙ ap (λ bs. 32 ∷ bs) (encodes-append (bar ∷ []) (32 ∷ after)
+    ∙ ap (λ bs. encode_utf8_all (bar ∷ []) ++ bs) (one-byte 32 after space
     ∙ ap (λ bs. 32 ∷ bs) (encodes-append (spaces gutter) text
     ∙ ap (λ bs. bs ++ encode_utf8_all text) (space-bytes gutter))))))
 

@@ -45,8 +45,8 @@ among_front part back = record { above = []; below = back; whole = refl }
 pub stand_whole : {A : Type 0} (all : List A) → StandAmong all all
 stand_whole all = record { above = []; below = []; whole = sym (append-nil all) }
 
-among_behind : {A : Type 0} (front part all : List A) → StandAmong part all → StandAmong part (front ++ all)
-among_behind front part all h = record {
+among_after : {A : Type 0} (front part all : List A) → StandAmong part all → StandAmong part (front ++ all)
+among_after front part all h = record {
   above = front ++ h.above;
   below = h.below;
   whole = ap (λ r. front ++ r) h.whole ∙ sym (append_assoc front (h.above ++ part) h.below)
@@ -63,7 +63,7 @@ among_before part all back h = record {
 pub among_trans : {A : Type 0} (part mid all : List A) → StandAmong part mid → StandAmong mid all → StandAmong part all
 among_trans part mid all h k =
     subst (λ rows. StandAmong part rows) (sym k.whole)
-    (among_before part (k.above ++ mid) k.below (among_behind k.above part mid h))
+    (among_before part (k.above ++ mid) k.below (among_after k.above part mid h))
 
 among_map : {A B : Type 0} (f : A → B) (part all : List A) → StandAmong part all → StandAmong (map f part) (map f all)
 among_map f part all h = record {
@@ -90,7 +90,7 @@ numbered_among kept gap c bytes pieces [] k back h = record {
       ++ numbered_rows kept (not (kept k)) c bytes (drop 1 pieces) back) h;
 }
 numbered_among kept gap c bytes pieces (j ∷ front) k back h =
-    among_behind (line_or_break gap (not (kept j)) c (line_at (lines_of bytes) j) (j + 1) (first_of pieces))
+    among_after (line_or_break gap (not (kept j)) c (line_at (lines_of bytes) j) (j + 1) (first_of pieces))
     (line_rows c (line_at (lines_of bytes) k) (k + 1) (first_of (drop (suc (length front)) pieces)))
     (numbered_rows kept (not (kept j)) c bytes (drop 1 pieces) (front ++ k ∷ back))
     (subst (λ (own : List (List Highlight)). StandAmong
@@ -102,14 +102,14 @@ numbered_among kept gap c bytes pieces (j ∷ front) k back h =
 
 -- the rows of ranges, in two parts
 parted_at : (kept : ℕ → Bool) (s : SnippetSettings) (labels : List DrawnLabel) (bytes : List ℕ)
-    (pieces : List (List (List Highlight))) (before : List (List ℕ)) (range : List ℕ) (behind : List (List ℕ)) →
-    (later : List (List Row)) × (rows_of_ranges kept s labels bytes pieces (before ++ range ∷ behind)
+    (pieces : List (List (List Highlight))) (before : List (List ℕ)) (range : List ℕ) (after : List (List ℕ)) →
+    (later : List (List Row)) × (rows_of_ranges kept s labels bytes pieces (before ++ range ∷ after)
     ≡ rows_of_ranges kept s labels bytes pieces before
     ++ range_rows kept s labels bytes (first_of (drop (length before) pieces)) range ∷ later)
-parted_at kept s labels bytes pieces [] range behind =
-    (rows_of_ranges kept s labels bytes (drop 1 pieces) behind, refl)
-parted_at kept s labels bytes pieces (r ∷ before) range behind =
-    let rest = parted_at kept s labels bytes (drop 1 pieces) before range behind in
+parted_at kept s labels bytes pieces [] range after =
+    (rows_of_ranges kept s labels bytes (drop 1 pieces) after, refl)
+parted_at kept s labels bytes pieces (r ∷ before) range after =
+    let rest = parted_at kept s labels bytes (drop 1 pieces) before range after in
     let first : List Row = range_rows kept s labels bytes (first_of pieces) r in
     let front : List (List Row) = rows_of_ranges kept s labels bytes (drop 1 pieces) before in (
       rest.0,
@@ -120,23 +120,23 @@ parted_at kept s labels bytes pieces (r ∷ before) range behind =
 
 -- the rows of a range in a frame, where there are as many frames as ranges
 framed_among : (s : SnippetSettings) (source : Source) (labels : List Label) (groups : List Span)
-    (before : List (List Row)) (body : List Row) (behind : List (List Row)) →
-    length groups ≡ length (before ++ body ∷ behind) →
-    StandAmong body (framed_rows s source labels groups (before ++ body ∷ behind))
-framed_among s source labels [] before body behind same =
-    absurd (omega (arith, same, length-append before (body ∷ behind)))
-framed_among s source labels (group ∷ groups) [] body behind same =
+    (before : List (List Row)) (body : List Row) (after : List (List Row)) →
+    length groups ≡ length (before ++ body ∷ after) →
+    StandAmong body (framed_rows s source labels groups (before ++ body ∷ after))
+framed_among s source labels [] before body after same =
+    absurd (omega (arith, same, length-append before (body ∷ after)))
+framed_among s source labels (group ∷ groups) [] body after same =
     let bottom : Row = bottom_row s (number_width (contents s.layout.context_lines source group)) in record {
       above = top_row s (contents s.layout.context_lines source group) (place_of source group labels) ∷ [];
-      below = bottom ∷ framed_rows s source labels groups behind;
+      below = bottom ∷ framed_rows s source labels groups after;
       whole = ap (λ rows. top_row s (contents s.layout.context_lines source group) (place_of source group labels)
-          ∷ rows) (append_assoc body (bottom ∷ []) (framed_rows s source labels groups behind));
+          ∷ rows) (append_assoc body (bottom ∷ []) (framed_rows s source labels groups after));
     }
-framed_among s source labels (group ∷ groups) (first ∷ before) body behind same =
-    among_behind (top_row s (contents s.layout.context_lines source group) (place_of source group labels)
+framed_among s source labels (group ∷ groups) (first ∷ before) body after same =
+    among_after (top_row s (contents s.layout.context_lines source group) (place_of source group labels)
     ∷ first ++ bottom_row s (number_width (contents s.layout.context_lines source group)) ∷ []) body
-    (framed_rows s source labels groups (before ++ body ∷ behind))
-    (framed_among s source labels groups before body behind (omega (arith, same)))
+    (framed_rows s source labels groups (before ++ body ∷ after))
+    (framed_among s source labels groups before body after (omega (arith, same)))
 
 ranges-length : (kept : ℕ → Bool) (s : SnippetSettings) (labels : List DrawnLabel) (bytes : List ℕ)
     (pieces : List (List (List Highlight))) (shown : List (List ℕ)) →
@@ -147,11 +147,11 @@ ranges-length kept s labels bytes pieces (range ∷ shown) =
 
 -- where a line is shown, the snippets are the ranges of the shown lines
 snippets_are : (context : ℕ) (bytes : List ℕ) (labels : List Label) (before : List (List ℕ)) (range : List ℕ)
-    (behind : List (List ℕ)) → ranges (shown_numbers context bytes labels) ≡ before ++ range ∷ behind →
+    (after : List (List ℕ)) → ranges (shown_numbers context bytes labels) ≡ before ++ range ∷ after →
     snippets context bytes labels ≡ ranges (shown_numbers context bytes labels)
-snippets_are context [] labels before range behind there =
-    absurd (omega (arith, ap length there, length-append before (range ∷ behind)))
-snippets_are context (byte ∷ bytes) labels before range behind there = refl
+snippets_are context [] labels before range after there =
+    absurd (omega (arith, ap length there, length-append before (range ∷ after)))
+snippets_are context (byte ∷ bytes) labels before range after there = refl
 
 pub lines_stand : (s : Settings) (source : Source) (labels : List Label) → ShowsRanges s source labels
     → ShownLinesStand s source labels
@@ -164,10 +164,10 @@ lines_stand s source labels shows place pieces h =
     let range : List ℕ = range_at place in
     let rows : List (List ℕ) → List (List Row) = rows_of_ranges kept own drawn source.bytes pieces in
     let body : List Row = range_rows kept own drawn source.bytes (first_of (drop (length place.before) pieces)) range in
-    let is : shown ≡ place.before ++ range ∷ place.behind =
-    snippets_are (context_of s source labels) source.bytes labels place.before range place.behind place.there
+    let is : shown ≡ place.before ++ range ∷ place.after =
+    snippets_are (context_of s source labels) source.bytes labels place.before range place.after place.there
     ∙ place.there in
-    let parts = parted_at kept own drawn source.bytes pieces place.before range place.behind in
+    let parts = parted_at kept own drawn source.bytes pieces place.before range place.after in
     let bodies : rows shown ≡ rows place.before ++ body ∷ parts.0 = ap rows is ∙ parts.1 in
     let many : length groups ≡ length (rows place.before ++ body ∷ parts.0) =
     sym (length-map groups (λ group. lines_in source.bytes (contents own.layout.context_lines source group)))
@@ -202,17 +202,17 @@ last_past : (k : ℕ) (ks : List ℕ) → IsRange (k ∷ ks) → k ≤ last_of k
 last_past k [] h = omega arith
 last_past k (next ∷ ks) h = omega (arith, h.0, last_past next ks h.1)
 
-last_behind : (j : ℕ) (front : List ℕ) (k : ℕ) (back : List ℕ) → IsRange (j ∷ front ++ k ∷ back)
+last_after : (j : ℕ) (front : List ℕ) (k : ℕ) (back : List ℕ) → IsRange (j ∷ front ++ k ∷ back)
     → k ≤ last_of j (front ++ k ∷ back)
-last_behind j [] k back h = last_past k back h.1
-last_behind j (i ∷ front) k back h = last_behind i front k back h.1
+last_after j [] k back h = last_past k back h.1
+last_after j (i ∷ front) k back h = last_after i front k back h.1
 
 wide_enough : (front : List ℕ) (k : ℕ) (back : List ℕ) → IsRange (front ++ k ∷ back)
     → length (decimal (k + 1)) ≤ range_width (front ++ k ∷ back)
 wide_enough [] k back h =
     decimal-mono (k + 1) (last_of k back + 1) (omega (arith, last_past k back h))
 wide_enough (j ∷ front) k back h =
-    decimal-mono (k + 1) (last_of j (front ++ k ∷ back) + 1) (omega (arith, last_behind j front k back h))
+    decimal-mono (k + 1) (last_of j (front ++ k ∷ back) + 1) (omega (arith, last_after j front k back h))
 
 pub lines_show : (s : Settings) (source : Source) (labels : List Label) → AreNarrow width_of s.theme.characters
     → ShowsRanges s source labels → ShownLinesShow s source labels
@@ -225,7 +225,7 @@ lines_show s source labels narrow shows place pieces =
     (at_mapped (λ line. HasRoom drawn line columns) (line_of source) place.front place.line place.back
     (all_room drawn (map (line_of source) range)))
     (wide_enough place.front place.line place.back
-    (at_place IsRange place.before range place.behind
+    (at_place IsRange place.before range place.after
     (subst (λ all. AllByRecursion IsRange all) place.there shows.consecutive)))
 
 -- ---- the rows over each source
@@ -238,5 +238,5 @@ sources_stand s (it ∷ more) a all h =
     let rest : List (List Fragment) = rows_over (after_labels (length it.labels) s) more (drop 1 a) in (
       among_trans own (own ++ rest) all (among_front own rest) h,
       sources_stand (after_labels (length it.labels) s) more (drop 1 a) all
-          (among_trans rest (own ++ rest) all (among_behind own rest rest (stand_whole rest)) h),
+          (among_trans rest (own ++ rest) all (among_after own rest rest (stand_whole rest)) h),
     )

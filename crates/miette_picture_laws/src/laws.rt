@@ -16,7 +16,7 @@ ghost use Rattle.miette_printed_laws.specs.laws.Holding.{Arrow, HoldsSnippets, H
 ghost use Rattle.miette_picture_laws.specs.laws.Arrows.{DrawnRowsStand, FirstStands, InnerRowsStand, RowsStand};
 ghost use Rattle.miette_picture_laws.specs.laws.FittingRows.{fed_rows};
 ghost use Rattle.miette_picture_laws.specs.laws.Levels.{HasPlainBars, HaveRoom, HoldsLevels, LevelRowsStand};
-ghost use Rattle.miette_picture_laws.specs.laws.Levels.{StandBehindBars};
+ghost use Rattle.miette_picture_laws.specs.laws.Levels.{StandAfterBars};
 ghost use Rattle.miette_picture_laws.specs.laws.NumberRows.{IsPlainLine, PrintsItself, PrintsNumber};
 ghost use Rattle.miette_picture_laws.specs.laws.ShownLines.{ShownLinesShow, ShownLinesStand, SourcesStand};
 ghost use Rattle.miette_picture_laws.specs.laws.Determined.{IsDetermined};
@@ -159,7 +159,7 @@ pub fn levels_law()
     ensures room { (s : Settings) (arrows : List Arrow) (rows : List (List ℕ)) → HasPlainBars s →
         HaveRoom s arrows rows }
     ensures bars { (s : Settings) (arrows : List Arrow) (rows : List (List ℕ)) → HasPlainBars s →
-        StandBehindBars s arrows rows }
+        StandAfterBars s arrows rows }
     ensures shipped { (s : Settings) → AreShipped s.theme.characters → HasPlainBars s }
 {}
 

@@ -13,7 +13,7 @@ use Rattle.miette_positions.specs.declared.place.PositionEncoding.{PositionEncod
 use Rattle.miette_positions.specs.declared.place.PositionEncoding.TheVariants.{Utf8, Utf16, Utf32}
 use Rattle.miette_positions.specs.declared.place.Stop.{Stop}
 use Rattle.miette_positions.specs.rules.Regions.{first_stop, last_stop}
-use Rattle.miette_positions.specs.rules.Stops.{begins_with_lf, stop_behind, stops_from, units}
+use Rattle.miette_positions.specs.rules.Stops.{begins_with_lf, stop_past, stops_from, units}
 use Rattle.miette_positions.specs.steps.Marks.{IsMark, IsWithin}
 use Rattle.miette_positions.specs.steps.Onward.{IsOnward, onward}
 use Rattle.miette_positions.proofs.Finding.{first_on, last_on, mark_on}
@@ -26,8 +26,8 @@ units_one Utf8 b h = refl
 units_one Utf16 b h = rw (lt-ltb b 0x10000 (omega (arith, h))) refl
 units_one Utf32 b h = refl
 
-behind_one : (e : PositionEncoding) (s : Stop) (b : ℕ) → 32 ≤ b → b < 127 → stop_behind e s (made b 1) ≡ onward 1 s
-behind_one e s b lo hi =
+after_one : (e : PositionEncoding) (s : Stop) (b : ℕ) → 32 ≤ b → b < 127 → stop_past e s (made b 1) ≡ onward 1 s
+after_one e s b lo hi =
     rw (ne_eqb b 10 (omega (arith, lo)), ne_eqb b 13 (omega (arith, lo)), units_one e b hi) refl
 
 no_pair : (b : ℕ) (bs : List ℕ) → 32 ≤ b → (eqb b 13 && begins_with_lf (characters bs)) ≡ false
@@ -55,12 +55,12 @@ starts_with e source (b ∷ bs) n s r le within h =
       size_is = sym (ap (λ d. d.size) is);
     } in
     let left : bs ≡ drop (s.offset + 1) source = ap (drop 1) r ∙ drop-drop 1 s.offset source in
-    let behind : stop_behind e s (made b 1) ≡ onward 1 s = behind_one e s b p.low p.high in
+    let after : stop_past e s (made b 1) ≡ onward 1 s = after_one e s b p.low p.high in
     record {
       next = stops_one e source (b ∷ bs) bs s b 1 r left first (no_pair b bs p.low)
-          ∙ ap (λ (t : Stop). t ∷ stops_from e source t) behind;
-      later = subst (Later s) behind (later_one e s (made b 1) (omega arith));
-      within = λ w. subst (IsWithin source) behind (within_one e source s (made b 1) (omega arith) within w);
+          ∙ ap (λ (t : Stop). t ∷ stops_from e source t) after;
+      later = subst (Later s) after (later_one e s (made b 1) (omega arith));
+      within = λ w. subst (IsWithin source) after (within_one e source s (made b 1) (omega arith) within w);
       others = ap (λ l. list_all is_printable (take n l)) (sym left) ∙ parts.1;
     }
 
@@ -127,10 +127,10 @@ first_many e source test (suc n) s le h each =
 -- ---- walks
 
 -- a walk from after them finds what one from before them does
-pub mark_behind : (e : PositionEncoding) (source : List ℕ) (most : ℕ) (m s t : Stop) → IsMark e source m →
+pub mark_after : (e : PositionEncoding) (source : List ℕ) (most : ℕ) (m s t : Stop) → IsMark e source m →
     stops_from e source m ≡ s ∷ stops_from e source s → IsWithin source s → Later m s → IsOnward source most s t →
     IsMark e source t
-mark_behind e source most m s t mark next within later p =
+mark_after e source most m s t mark next within later p =
     subst (IsMark e source) (sym p.is)
     (mark_many e source p.many s p.within p.printable (mark_on e source m s mark next within later))
 

@@ -16,7 +16,7 @@ use Rattle.miette_positions.specs.declared.place.PositionEncoding.{PositionEncod
 use Rattle.miette_positions.specs.declared.place.Stop.{Stop}
 use Rattle.miette_positions.specs.rules.Regions.{first_stop, last_stop, is_same, offset_of, stop_after, stop_at}
 use Rattle.miette_positions.specs.rules.Regions.{stop_before}
-use Rattle.miette_positions.specs.rules.Stops.{is_pair, is_until, moved_by, start, stop_behind, stops_behind}
+use Rattle.miette_positions.specs.rules.Stops.{is_pair, is_until, moved_by, start, stop_past, stops_after}
 use Rattle.miette_positions.specs.rules.Stops.{stops_from}
 use Rattle.miette_positions.specs.rules.Stops.{stops_of}
 use Rattle.miette_positions.proofs.Stepping.{Later, later_moved, later_one, later_trans}
@@ -76,31 +76,31 @@ ordered_cond false ss ts h g = g
 
 -- ---- stops rise
 
-behind_all : (e : PositionEncoding) (s : Stop) (cs : List Character) → Sized cs → Each (Later s) (stops_behind e s cs)
-behind_all e s [] z = λ k t h. absurd (cc)
-behind_all e s (c ∷ cs) z =
-    let next : Stop = stop_behind e s c in
+after_all : (e : PositionEncoding) (s : Stop) (cs : List Character) → Sized cs → Each (Later s) (stops_after e s cs)
+after_all e s [] z = λ k t h. absurd (cc)
+after_all e s (c ∷ cs) z =
+    let next : Stop = stop_past e s c in
     let inside : Stop = moved_by c.bytes s in
-    each_cond (Later s) (is_pair c cs) (stops_behind e inside cs) (next ∷ stops_behind e next cs)
-    (λ k t h. later_moved c.bytes s t (behind_all e inside cs z.1 k t h))
-    (each_cons (Later s) next (stops_behind e next cs) (later_one e s c z.0)
-    (λ k t h. later_trans s next t (later_one e s c z.0) (behind_all e next cs z.1 k t h)))
+    each_cond (Later s) (is_pair c cs) (stops_after e inside cs) (next ∷ stops_after e next cs)
+    (λ k t h. later_moved c.bytes s t (after_all e inside cs z.1 k t h))
+    (each_cons (Later s) next (stops_after e next cs) (later_one e s c z.0)
+    (λ k t h. later_trans s next t (later_one e s c z.0) (after_all e next cs z.1 k t h)))
 
-ordered_behind : (e : PositionEncoding) (s : Stop) (cs : List Character) → Sized cs → Ordered (stops_behind e s cs)
-ordered_behind e s [] z = λ i j a b lt h g. absurd (cc)
-ordered_behind e s (c ∷ cs) z =
-    let next : Stop = stop_behind e s c in
+ordered_after : (e : PositionEncoding) (s : Stop) (cs : List Character) → Sized cs → Ordered (stops_after e s cs)
+ordered_after e s [] z = λ i j a b lt h g. absurd (cc)
+ordered_after e s (c ∷ cs) z =
+    let next : Stop = stop_past e s c in
     let inside : Stop = moved_by c.bytes s in
-    ordered_cond (is_pair c cs) (stops_behind e inside cs) (next ∷ stops_behind e next cs)
-    (ordered_behind e inside cs z.1)
-    (ordered_cons next (stops_behind e next cs) (behind_all e next cs z.1) (ordered_behind e next cs z.1))
+    ordered_cond (is_pair c cs) (stops_after e inside cs) (next ∷ stops_after e next cs)
+    (ordered_after e inside cs z.1)
+    (ordered_cons next (stops_after e next cs) (after_all e next cs z.1) (ordered_after e next cs z.1))
 
 pub stops_rise : (e : PositionEncoding) (source : List ℕ) (i j : ℕ) (s t : Stop) → i < j →
     slice_get (stops_of e source) i ≡ Some s → slice_get (stops_of e source) j ≡ Some t → Later s t
 stops_rise e source =
     let cs : List Character = characters (drop 0 source) in
     let z : Sized cs = sized (length (drop 0 source)) (drop 0 source) (omega arith) in
-    ordered_cons start (stops_from e source start) (behind_all e start cs z) (ordered_behind e start cs z)
+    ordered_cons start (stops_from e source start) (after_all e start cs z) (ordered_after e start cs z)
 
 -- ---- which stop is found
 

@@ -12,8 +12,8 @@ use Rattle.miette_positions.specs.declared.place.Position.{Position}
 use Rattle.miette_positions.specs.declared.place.PositionEncoding.{PositionEncoding}
 use Rattle.miette_positions.specs.declared.place.PositionEncoding.TheVariants.{Utf8, Utf16, Utf32}
 use Rattle.miette_positions.specs.declared.place.Stop.{Stop}
-use Rattle.miette_positions.specs.rules.Stops.{begins_with_lf, is_newline, is_until, moved_by, position_behind}
-use Rattle.miette_positions.specs.rules.Stops.{stop_behind, stops_behind, stops_from, units}
+use Rattle.miette_positions.specs.rules.Stops.{begins_with_lf, is_newline, is_until, moved_by, position_after}
+use Rattle.miette_positions.specs.rules.Stops.{stop_past, stops_after, stops_from, units}
 use Rattle.miette_positions.specs.steps.Marks.{IsWithin}
 
 -- ---- an LF in front
@@ -58,12 +58,12 @@ later_position true line column many p h e =
 later_position false line column many p h e =
     subst (λ q. is_until q (record { line = line; column = column }) ≡ false) (sym e) (grind (arith, nat_tests))
 
-pub later_one : (e : PositionEncoding) (s : Stop) (c : Character) → 0 < c.bytes → Later s (stop_behind e s c)
+pub later_one : (e : PositionEncoding) (s : Stop) (c : Character) → 0 < c.bytes → Later s (stop_past e s c)
 later_one e s c h =
     record {
       offset = omega (arith, h);
       position = later_position (is_newline c) s.position.line s.position.column (units e c)
-          (position_behind e s.position c) (units_bounds e c h).0 refl;
+          (position_after e s.position c) (units_bounds e c h).0 refl;
     }
 
 pub later_trans : (s t u : Stop) → Later s t → Later t u → Later s u
@@ -92,10 +92,10 @@ within_position false line column many size at p h m l c e =
     (omega (arith, h, l), omega (arith, h, m, c))
 
 pub within_one : (e : PositionEncoding) (source : List ℕ) (s : Stop) (c : Character) → 0 < c.bytes →
-    s.offset + c.bytes ≤ length source → IsWithin source s → IsWithin source (stop_behind e s c)
+    s.offset + c.bytes ≤ length source → IsWithin source s → IsWithin source (stop_past e s c)
 within_one e source s c h le w =
     let p = within_position (is_newline c) s.position.line s.position.column (units e c) c.bytes s.offset
-    (position_behind e s.position c) h (units_bounds e c h).1 w.line w.column refl in
+    (position_after e s.position c) h (units_bounds e c h).1 w.line w.column refl in
     record { offset = le; line = p.0; column = p.1 }
 
 pub within_moved : (source : List ℕ) (n : ℕ) (s : Stop) → s.offset + n ≤ length source → IsWithin source s →
@@ -118,26 +118,26 @@ first_at source rest left at code size r l some c z =
 
 pub stops_end : (e : PositionEncoding) (source : List ℕ) (s : Stop) → drop s.offset source ≡ [] →
     stops_from e source s ≡ []
-stops_end e source s h = ap (stops_behind e s) (characters_end (drop s.offset source) h)
+stops_end e source s h = ap (stops_after e s) (characters_end (drop s.offset source) h)
 
 -- after a character that is no CR of a CRLF
 pub stops_one : (e : PositionEncoding) (source rest left : List ℕ) (s : Stop) (code size : ℕ) →
     rest ≡ drop s.offset source → left ≡ drop (s.offset + size) source → IsFirst rest left code size →
     (eqb code 13 && begins_with_lf (characters left)) ≡ false → stops_from e source s
-    ≡ stop_behind e s (made code size) ∷ stops_from e source (stop_behind e s (made code size))
+    ≡ stop_past e s (made code size) ∷ stops_from e source (stop_past e s (made code size))
 stops_one e source rest left s code size r l f p =
-    ap (λ bytes. stops_behind e s (characters bytes)) (sym r)
-    ∙ ap (stops_behind e s) (characters_step rest left code size f)
-    ∙ ap (λ b. cond b (stops_behind e (moved_by size s) (characters left))
-    (stop_behind e s (made code size) ∷ stops_behind e (stop_behind e s (made code size)) (characters left))) p
-    ∙ ap (λ bytes. stop_behind e s (made code size)
-    ∷ stops_behind e (stop_behind e s (made code size)) (characters bytes)) l
+    ap (λ bytes. stops_after e s (characters bytes)) (sym r)
+    ∙ ap (stops_after e s) (characters_step rest left code size f)
+    ∙ ap (λ b. cond b (stops_after e (moved_by size s) (characters left))
+    (stop_past e s (made code size) ∷ stops_after e (stop_past e s (made code size)) (characters left))) p
+    ∙ ap (λ bytes. stop_past e s (made code size)
+    ∷ stops_after e (stop_past e s (made code size)) (characters bytes)) l
 
 -- after a CR and an LF
 crlf : (e : PositionEncoding) (s : Stop) (code size newline more : ℕ) (cs : List Character) → code ≡ 13 →
-    newline ≡ 10 → stops_behind e s (made code size ∷ made newline more ∷ cs)
-    ≡ stop_behind e (moved_by size s) (made newline more)
-    ∷ stops_behind e (stop_behind e (moved_by size s) (made newline more)) cs
+    newline ≡ 10 → stops_after e s (made code size ∷ made newline more ∷ cs)
+    ≡ stop_past e (moved_by size s) (made newline more)
+    ∷ stops_after e (stop_past e (moved_by size s) (made newline more)) cs
 crlf e s code size newline more cs c n = rw (c, n) refl
 
 pub pair_parts : (code : ℕ) (left : List ℕ) → (eqb code 13 && begins_with_lf (characters left)) ≡ true →
@@ -153,12 +153,12 @@ lf_is left more newline size f h = eqb-true newline 10 (lf_first left more newli
 pub stops_two : (e : PositionEncoding) (source rest left end : List ℕ) (s : Stop) (code size newline more : ℕ) →
     rest ≡ drop s.offset source → end ≡ drop (s.offset + size + more) source → IsFirst rest left code size →
     IsFirst left end newline more → code ≡ 13 → newline ≡ 10 → stops_from e source s
-    ≡ stop_behind e (moved_by size s) (made newline more)
-    ∷ stops_from e source (stop_behind e (moved_by size s) (made newline more))
+    ≡ stop_past e (moved_by size s) (made newline more)
+    ∷ stops_from e source (stop_past e (moved_by size s) (made newline more))
 stops_two e source rest left end s code size newline more r d f g c n =
-    ap (λ bytes. stops_behind e s (characters bytes)) (sym r)
-    ∙ ap (stops_behind e s) (characters_step rest left code size f
+    ap (λ bytes. stops_after e s (characters bytes)) (sym r)
+    ∙ ap (stops_after e s) (characters_step rest left code size f
     ∙ ap (λ cs. made code size ∷ cs) (characters_step left end newline more g))
     ∙ crlf e s code size newline more (characters end) c n
-    ∙ ap (λ bytes. stop_behind e (moved_by size s) (made newline more)
-    ∷ stops_behind e (stop_behind e (moved_by size s) (made newline more)) (characters bytes)) d
+    ∙ ap (λ bytes. stop_past e (moved_by size s) (made newline more)
+    ∷ stops_after e (stop_past e (moved_by size s) (made newline more)) (characters bytes)) d

@@ -7,7 +7,7 @@ ghost use Rattle.miette_positions.specs.steps.Marks.{IsMark};
 
 use crate::marked::{self, Marked};
 use crate::place::{Position, PositionEncoding, Region, Stop, Stretch};
-use crate::plain::behind_plain;
+use crate::plain::after_plain;
 use crate::stops::{first_of_all, next_stop};
 use miette_protocol::protocol::SourceSpan;
 use std::alloc::{AllocError, Global};
@@ -45,7 +45,7 @@ fn marks_of(
     let mut here = first_of_all();
     let mut last = 0;
     while let Some(next) = next_stop(encoding, source, here) {
-        here = behind_plain(source, next, APART);
+        here = after_plain(source, next, APART);
         if here.offset - last >= APART {
             marks.push(here)?;
             last = here.offset;

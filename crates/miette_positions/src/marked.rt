@@ -11,7 +11,7 @@ ghost use Rattle.miette_positions.specs.steps.Marks.{IsMark, IsWithin, is_reache
 ghost use Rattle.miette_positions.specs.steps.Onward.{onward};
 
 use crate::place::{Position, PositionEncoding, Region, Stop, Stretch};
-use crate::plain::behind_plain;
+use crate::plain::after_plain;
 use crate::stops::{first_of_all, next_stop};
 use miette_protocol::protocol::SourceSpan;
 use std::marker::Model;
@@ -77,7 +77,7 @@ fn last_from(encoding: PositionEncoding, source: &[u8], from: Stop, target: Targ
         if !is_reached(target, next) {
             return here;
         }
-        here = behind_plain(source, next, columns_before(target, next));
+        here = after_plain(source, next, columns_before(target, next));
     }
     here
 }
@@ -92,13 +92,13 @@ fn first_from(encoding: PositionEncoding, source: &[u8], from: Stop, at: usize) 
         let Some(next) = next_stop(encoding, source, here) else {
             return here;
         };
-        here = behind_plain(source, next, at.saturating_sub(next.offset));
+        here = after_plain(source, next, at.saturating_sub(next.offset));
     }
     here
 }
 
 // Where the walk to something begins: the last mark that isn't after it, found by halving, else the first stop.
-fn nearest(encoding: PositionEncoding, source: &[u8], marks: &[Stop], target: Target) -> Stop
+fn nearest_mark(encoding: PositionEncoding, source: &[u8], marks: &[Stop], target: Target) -> Stop
     requires { All (IsMark encoding source.now) marks.now }
     ensures mark { IsMark encoding source.now result }
     ensures reached { is_reached target result ≡ true }
@@ -124,7 +124,7 @@ fn stop_for(marked: &Marked<'_>, target: Target) -> Stop
     ensures stop { result ≡ stop_for marked.now.encoding marked.now.source.now target }
     ensures within { IsWithin marked.now.source.now result }
 {
-    let from = nearest(marked.encoding, marked.source, marked.marks, target);
+    let from = nearest_mark(marked.encoding, marked.source, marked.marks, target);
     last_from(marked.encoding, marked.source, from, target)
 }
 
@@ -132,7 +132,7 @@ fn stop_for(marked: &Marked<'_>, target: Target) -> Stop
 pub(crate) fn stop_after(marked: &Marked<'_>, at: usize) -> Stop
     ensures { result ≡ stop_after marked.now.encoding marked.now.source.now at }
 {
-    let from = nearest(
+    let from = nearest_mark(
         marked.encoding,
         marked.source,
         marked.marks,

@@ -22,7 +22,7 @@ fn plain_at(source: &[u8], from: Stop, most: usize) -> usize
 }
 
 /// The stop after the printable ASCII characters that come next, at most `most`.
-pub(crate) fn behind_plain(source: &[u8], from: Stop, most: usize) -> Stop
+pub(crate) fn after_plain(source: &[u8], from: Stop, most: usize) -> Stop
     requires { IsWithin source.now from }
     ensures passed { IsOnward source.now most from result }
     ensures within { IsWithin source.now result }

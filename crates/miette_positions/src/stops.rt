@@ -4,7 +4,7 @@ ghost use Rattle.std.specs.Prelude.{◌≡◌, ◌<◌, ◌≤◌, ◌+◌, ◌*
 ghost use Rattle.std.specs.Prelude.{IsNone, IfSome};
 ghost use Rattle.bstr.specs.Utf8.{decoded, or_replacement};
 ghost use Rattle.miette_cells.specs.rules.Cells.{Character, characters};
-ghost use Rattle.miette_positions.specs.rules.Stops.{begins_with_lf, is_newline, is_until, stop_behind, stops_from};
+ghost use Rattle.miette_positions.specs.rules.Stops.{begins_with_lf, is_newline, is_until, stop_past, stops_from};
 ghost use Rattle.miette_positions.specs.rules.Stops.{units, start};
 ghost use Rattle.miette_positions.specs.steps.Marks.{IsWithin};
 
@@ -83,12 +83,12 @@ fn is_newline(code: char) -> bool
 }
 
 // The stop after a character of `bytes` bytes.
-fn behind(encoding: PositionEncoding, from: Stop, code: char, bytes: usize) -> Stop
+fn stop_past(encoding: PositionEncoding, from: Stop, code: char, bytes: usize) -> Stop
     requires some { 0 < bytes }
     requires small { from.offset + bytes < 2 ^ 63 }
     requires line { from.position.line ≤ from.offset }
     requires column { from.position.column ≤ 2 * from.offset }
-    ensures { result ≡ stop_behind encoding from (record { code = code; bytes = bytes }) }
+    ensures { result ≡ stop_past encoding from (record { code = code; bytes = bytes }) }
 {
     let offset = from.offset + bytes;
     let position = if is_newline(code) {
@@ -126,7 +126,7 @@ pub(crate) fn next_stop(encoding: PositionEncoding, source: &[u8], from: Stop) -
             offset: from.offset + bytes,
             position: from.position,
         };
-        return Some(behind(encoding, inside, newline, more));
+        return Some(stop_past(encoding, inside, newline, more));
     }
-    Some(behind(encoding, from, code, bytes))
+    Some(stop_past(encoding, from, code, bytes))
 }

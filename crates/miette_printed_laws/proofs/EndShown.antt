@@ -23,7 +23,7 @@ use Rattle.miette_labels.proofs.SourceEnd.{shows_around}
 use Rattle.miette_row_laws.specs.laws.Ends.{draws_ends}
 use Rattle.miette_row_laws.proofs.EndLabels.{shows_ordered}
 use Rattle.miette_picture_rules.specs.rules.Settings.{Settings}
-use Rattle.miette_printed_laws.specs.laws.Headline.{EndIsShown, EndsBehind, context_of, group_settings}
+use Rattle.miette_printed_laws.specs.laws.Headline.{EndIsShown, EndsAfter, context_of, group_settings}
 
 -- ---- one label, with more lines or fewer
 
@@ -97,14 +97,14 @@ in_context : (bytes : List ℕ) (span : Span) (context : ℕ) → 1 ≤ context 
 in_context bytes span context one at some =
     let last : ℕ = length (lines_of bytes) - 1 in
     let there : 0 < length (lines_of bytes) = some_line bytes some in
-    let behind : last ≤ line_of bytes (length bytes) = lines_before bytes last (omega (arith, there)) in
+    let after : last ≤ line_of bytes (length bytes) = lines_before bytes last (omega (arith, there)) in
     let before : line_of bytes span.offset ≤ length (lines_of bytes) = few_lines bytes span.offset in
     let read : line_of bytes span.offset ≤ line_of bytes (reading_end bytes span) =
     line_of_mono bytes span.offset (reading_end bytes span) (offset-le-reading bytes span) in
     let here : line_of bytes span.offset ≡ line_of bytes (length bytes) = ap (line_of bytes) at in
     and_from _ _
     (le-leb (first_line bytes span context) last (omega (arith, one, before, there)))
-    (le-leb last (last_line bytes span context) (omega (arith, behind, read, here)))
+    (le-leb last (last_line bytes span context) (omega (arith, after, read, here)))
 
 last_shown : (bytes : List ℕ) (context : ℕ) (labels : List Label) → 1 ≤ context
     → some_shows_end 1 (length bytes) labels ≡ true
@@ -140,14 +140,14 @@ context_some s source labels h wanted shows =
 
 pub end_shown : (s : Settings) (source : Source) (labels : List Label)
     → (draws_ends (group_settings s source labels) (length source.bytes) (in_order labels) ≡ true
-    → EndsBehind s source labels) → EndIsShown s source labels
-end_shown s source labels behind reads accepted asks =
+    → EndsAfter s source labels) → EndIsShown s source labels
+end_shown s source labels after reads accepted asks =
     let n : ℕ = length source.bytes in
     let context : ℕ = context_of s source labels in
     let p = and_parts s.layout.end_labels (some_shows_end 1 n labels) asks in
     let one : 1 ≤ context = context_some s source labels accepted p.0 p.1 in (
       last_shown source.bytes context labels one p.1,
-      behind (and_from _ _ p.0 (shows_around context n (in_order labels) ∙ shows_ordered context n labels
+      after (and_from _ _ p.0 (shows_around context n (in_order labels) ∙ shows_ordered context n labels
           ∙ some_more n context labels one p.1)),
     )
 

@@ -27,9 +27,9 @@ use Rattle.miette_printed_laws.specs.laws.Holding.{cut_text}
 use Rattle.miette_printed_laws.specs.laws.Holding.{fixes_at}
 use Rattle.miette_printed_laws.specs.laws.Holding.{related_arrows, rows_at, text_at}
 use Rattle.miette_printed_laws.specs.laws.Paths.{Step, to_cause, to_related, at_cause, at_related, printed_at}
-use Rattle.miette_printed_laws.proofs.Rows.{IsEnded, above-ended, ahead-stands, arrow-ended, behind-stands, body-ended}
+use Rattle.miette_printed_laws.proofs.Rows.{IsEnded, above-ended, after-stands, ahead-stands, arrow-ended, body-ended}
 use Rattle.miette_printed_laws.proofs.Rows.{body-grouped, bytes-stand, drawn-ended, drawn-rows, ended-rows, fixes-rows}
-use Rattle.miette_printed_laws.proofs.Rows.{help-rows, here-stands, row-stands, rows-behind, texts-rows, whole-stands}
+use Rattle.miette_printed_laws.proofs.Rows.{help-rows, here-stands, row-stands, rows-after, texts-rows, whole-stands}
 use Rattle.miette_printed_laws.proofs.Rows.{fix-row-stands, fix-stands, within-stands}
 
 -- ---- what a part holds, the whole holds
@@ -47,12 +47,12 @@ ahead (arrow ∷ arrows) s drawn x text h k = (
   k.2,
 )
 
-behind : (arrows : List Arrow) (s : Settings) (drawn : Drawn) (y text : List ℕ) → HoldsUnder arrows s drawn text
+holds_after : (arrows : List Arrow) (s : Settings) (drawn : Drawn) (y text : List ℕ) → HoldsUnder arrows s drawn text
     → HoldsUnder arrows s drawn (text ++ y)
-behind [] s drawn y text k = behind-stands y (drawn s) text k
-behind (arrow ∷ arrows) s drawn y text k = (
+holds_after [] s drawn y text k = after-stands y (drawn s) text k
+holds_after (arrow ∷ arrows) s drawn y text k = (
   k.0,
-  behind-stands y (under_arrow s arrow.outer arrow.is_last (cut_text arrow k.0)) text k.1,
+  after-stands y (under_arrow s arrow.outer arrow.is_last (cut_text arrow k.0)) text k.1,
   k.2,
 )
 
@@ -63,7 +63,7 @@ drawn_below : (x : List ℕ) (s : Settings) (m : Diagnosis) (drawn causes relate
 drawn_below x s m drawn causes related h =
     let above = (x ++ message_text s m) ++ causes in
     subst (StandsIn drawn) (sym (body-grouped x s m drawn causes related))
-    (behind-stands related drawn (above ++ drawn)
+    (after-stands related drawn (above ++ drawn)
     (ahead-stands above drawn drawn
     (inr (ended-rows (x ++ message_text s m) causes (above-ended x s m) h)) (whole-stands drawn)))
 
@@ -73,8 +73,8 @@ causes_below : (arrows : List Arrow) (s : Settings) (at : Drawn) (x : List ℕ) 
 causes_below arrows s at x m drawn causes related k =
     let above = x ++ message_text s m in
     subst (HoldsUnder arrows s at) (sym (body-grouped x s m drawn causes related))
-    (behind arrows s at related (above ++ causes ++ drawn)
-    (behind arrows s at drawn (above ++ causes) (ahead arrows s at above causes (inr (above-ended x s m)) k)))
+    (holds_after arrows s at related (above ++ causes ++ drawn)
+    (holds_after arrows s at drawn (above ++ causes) (ahead arrows s at above causes (inr (above-ended x s m)) k)))
 
 related_below : (arrows : List Arrow) (s : Settings) (at : Drawn) (x : List ℕ) (m : Diagnosis)
     (drawn causes related : List ℕ) → EndsRow drawn → EndsRow causes → HoldsUnder arrows s at related
@@ -164,8 +164,8 @@ module _ (drawing : Drawing) where
   text-rows s m source a =
       let rows = rows_text (drawing.rows s source m a) in
       let fixes = fixes_text s (drawing.fixes s source m a) in
-      rows-behind (rows ++ help_text s m.help) fixes
-      (rows-behind rows (help_text s m.help) (drawn-rows (drawing.rows s source m a)) (help-rows s m.help))
+      rows-after (rows ++ help_text s m.help) fixes
+      (rows-after rows (help_text s m.help) (drawn-rows (drawing.rows s source m a)) (help-rows s m.help))
       (fixes-rows s (drawing.fixes s source m a))
 
   mutual
@@ -240,7 +240,7 @@ module _ (drawing : Drawing) where
         let arrow = cause_arrow outer c in
         subst (λ q. HoldsUnder (arrow ∷ []) s (whole_at q (own_answer a))
         (causes_text drawing s outer inherited (diagnostic (tree m own c r)) a)) (same_Some _ _ h)
-        (behind (arrow ∷ []) s (whole_at (over source m) (own_answer a))
+        (holds_after (arrow ∷ []) s (whole_at (over source m) (own_answer a))
         (causes_text drawing s outer inherited c (cause_answers a)) (first_cause s outer source (tree m own c r) a)
         (own_under s arrow m source (own_answer a) (related_under s arrow m source r a)))
     causes_hold s outer inherited (diagnostic (tree m own c r)) a nested w (to_cause ∷ path) p h =
@@ -255,7 +255,7 @@ module _ (drawing : Drawing) where
         let arrow = cause_arrow outer c in
         let below = related_arrows nested m.severity r k path in
         let at = whole_at p (answer_at (numbered_answers (related_answers a) k) path) in
-        behind (arrow ∷ below) s at (causes_text drawing s outer inherited c (cause_answers a))
+        holds_after (arrow ∷ below) s at (causes_text drawing s outer inherited c (cause_answers a))
         (first_cause s outer source (tree m own c r) a)
         (more_under s arrow below at m source (own_answer a) (related_under s arrow m source r a)
         (related_hold (narrow_settings s outer (ends_there c)) m.severity source r (related_answers a) nested w k path p
@@ -275,7 +275,7 @@ module _ (drawing : Drawing) where
         (inr (first-ended s (related_arrow outer ts) (effective own inherited) (tree m own c r) (first_answers more)))
         (related_hold s outer inherited ts (later_answers more) nested w k path p h)
     related_hold s outer inherited (more_trees (tree m own c r) ts) more nested w zero path p h =
-        behind (related_arrows nested outer (more_trees (tree m own c r) ts) zero path) s
+        holds_after (related_arrows nested outer (more_trees (tree m own c r) ts) zero path) s
         (whole_at p (answer_at (first_answers more) path))
         (related_text drawing s outer inherited ts (later_answers more))
         (first_related s (related_arrow outer ts) (effective own inherited) (tree m own c r) (first_answers more))
@@ -369,7 +369,7 @@ module _ (drawing : Drawing) where
       let causes = only_if s.cause_chain (causes_text drawing s m.severity own c (cause_answers a)) in
       let related = related_text drawing s m.severity own r (related_answers a) in
       subst (λ q. StandsIn (whole_at q (own_answer a) s) (report_text drawing s (tree m own c r) a)) (same_Some _ _ h)
-      (behind-stands (footer_text s) drawn (print (header s m) ++ body_over s m drawn causes related)
+      (after-stands (footer_text s) drawn (print (header s m) ++ body_over s m drawn causes related)
       (drawn_below (print (header s m)) s m drawn causes related
       (root-rows s.cause_chain s m own c (cause_answers a))))
   report_holds s (tree m own c r) a (to_cause ∷ path) p h =
@@ -378,7 +378,7 @@ module _ (drawing : Drawing) where
       let related = related_text drawing s m.severity own r (related_answers a) in
       let arrows = cause_arrows s.related_as_nested m.severity c path in
       let at = whole_at p (answer_at (cause_answers a) path) in
-      behind arrows s at (footer_text s) (print (header s m) ++ body_over s m drawn causes related)
+      holds_after arrows s at (footer_text s) (print (header s m) ++ body_over s m drawn causes related)
       (causes_below arrows s at (print (header s m)) m drawn causes related
       (root_causes_hold s.cause_chain s m own c (cause_answers a) path p h))
   report_holds s (tree m own c r) a (to_related k ∷ path) p h =
@@ -387,7 +387,7 @@ module _ (drawing : Drawing) where
       let related = related_text drawing s m.severity own r (related_answers a) in
       let arrows = related_arrows s.related_as_nested m.severity r k path in
       let at = whole_at p (answer_at (numbered_answers (related_answers a) k) path) in
-      behind arrows s at (footer_text s) (print (header s m) ++ body_over s m drawn causes related)
+      holds_after arrows s at (footer_text s) (print (header s m) ++ body_over s m drawn causes related)
       (related_below arrows s at (print (header s m)) m drawn causes related (text-rows s m own (own_answer a))
       (root-rows s.cause_chain s m own c (cause_answers a))
       (related_hold s m.severity own r (related_answers a) s.related_as_nested refl k path p h))
@@ -397,7 +397,7 @@ module _ (drawing : Drawing) where
   snippets_hold s t a path p found =
       let answer = answer_at a path in
       within (arrows_at s t path) s (text_at drawing p answer) (whole_at p answer) (report_text drawing s t a)
-      (λ u. behind-stands (fixes_at drawing p answer u) (text_at drawing p answer u)
+      (λ u. after-stands (fixes_at drawing p answer u) (text_at drawing p answer u)
       (text_at drawing p answer u ++ help_text u p.meaning.help)
       (here-stands (text_at drawing p answer u) (help_text u p.meaning.help)))
       (report_holds s t a path p found)
@@ -408,7 +408,7 @@ module _ (drawing : Drawing) where
       within (arrows_at s t path) s (fixes_at drawing p answer) (whole_at p answer) (report_text drawing s t a)
       (λ u. ahead-stands (text_at drawing p answer u ++ help_text u p.meaning.help) (fixes_at drawing p answer u)
       (fixes_at drawing p answer u)
-      (rows-behind (text_at drawing p answer u) (help_text u p.meaning.help) (drawn-rows (rows_at drawing p answer u))
+      (rows-after (text_at drawing p answer u) (help_text u p.meaning.help) (drawn-rows (rows_at drawing p answer u))
       (help-rows u p.meaning.help)) (whole-stands (fixes_at drawing p answer u)))
       (report_holds s t a path p found)
 

@@ -10,9 +10,9 @@ use Rattle.miette_label_rules.specs.rules.Around.{lines_around}
 use Rattle.miette_snippet_rules.specs.rules.Snippets.{is_in_context, is_shown, shown_numbers}
 use Rattle.miette_printed_laws.specs.laws.LabelLines.{HasItsLines}
 
-behind : (b : Bool) (a : ℕ) (xs : List ℕ) (k : ℕ) → Contains xs k → Contains (cond b (a ∷ xs) xs) k
-behind true a xs k c = (suc c.0, omega (arith, c.1), c.2)
-behind false a xs k c = c
+contains_after : (b : Bool) (a : ℕ) (xs : List ℕ) (k : ℕ) → Contains xs k → Contains (cond b (a ∷ xs) xs) k
+contains_after true a xs k c = (suc c.0, omega (arith, c.1), c.2)
+contains_after false a xs k c = c
 
 -- a number of a range that passes a test is among those that do
 passing : (test : ℕ → Bool) (a n k : ℕ) → a ≤ k → k < a + n → test k ≡ true
@@ -21,7 +21,7 @@ passing test a zero k from until is = absurd (omega arith)
 passing test a (suc n) k from until is =
     let rest = filter test (range_with_len (a + 1) n) in
     elim (cases_lt a k) [
-      | inl further ↦ behind (test a) a rest k (passing test (a + 1) n k (omega arith) (omega arith) is)
+      | inl further ↦ contains_after (test a) a rest k (passing test (a + 1) n k (omega arith) (omega arith) is)
       | inr here ↦
           let same : k ≡ a = omega arith in
           subst (λ x. Contains (cond (test x) (x ∷ rest) rest) k) same

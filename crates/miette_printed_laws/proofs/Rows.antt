@@ -23,17 +23,17 @@ use Rattle.miette_printed_laws.proofs.Paths.{first_or_later, none}
 abbrev pub IsEnded : List ℕ → Type 0
 IsEnded text = (before : List ℕ) × (text ≡ before ++ line_feed)
 
-pub ended-behind : (x y : List ℕ) → IsEnded y → IsEnded (x ++ y)
-ended-behind x y h = (x ++ h.0, ap (λ t. x ++ t) h.1 ∙ sym (append_assoc x h.0 line_feed))
+pub ended-after : (x y : List ℕ) → IsEnded y → IsEnded (x ++ y)
+ended-after x y h = (x ++ h.0, ap (λ t. x ++ t) h.1 ∙ sym (append_assoc x h.0 line_feed))
 
 pub ended-rows : (x y : List ℕ) → IsEnded x → EndsRow y → IsEnded (x ++ y)
 ended-rows x y h k = elim k [
   | inl none ↦ (h.0, ap (λ t. x ++ t) none ∙ append-nil x ∙ h.1)
-  | inr e ↦ ended-behind x y e
+  | inr e ↦ ended-after x y e
 ]
 
-pub rows-behind : (x y : List ℕ) → EndsRow x → EndsRow y → EndsRow (x ++ y)
-rows-behind x y h k = elim h [
+pub rows-after : (x y : List ℕ) → EndsRow x → EndsRow y → EndsRow (x ++ y)
+rows-after x y h k = elim h [
   | inl none ↦ subst EndsRow (sym (ap (λ t. t ++ y) none)) k
   | inr e ↦ inr (ended-rows x y e k)
 ]
@@ -84,7 +84,7 @@ pub body-grouped : (x : List ℕ) (s : Settings) (m : Diagnosis) (drawn causes r
 body-grouped x s m drawn causes related = grouped x (message_text s m) causes drawn related
 
 pub above-ended : (x : List ℕ) (s : Settings) (m : Diagnosis) → IsEnded (x ++ message_text s m)
-above-ended x s m = ended-behind x (message_text s m) (message-ended s m)
+above-ended x s m = ended-after x (message_text s m) (message-ended s m)
 
 pub drawn-ended : (x : List ℕ) (s : Settings) (m : Diagnosis) (drawn causes : List ℕ) → EndsRow drawn → EndsRow causes
     → IsEnded ((x ++ message_text s m) ++ causes ++ drawn)
@@ -112,11 +112,11 @@ ahead-stands x part text h k = record {
   back = k.back;
   whole = ap (λ t. x ++ t) k.whole ∙ sym (append_assoc x (k.front ++ part) k.back)
       ∙ ap (λ t. t ++ k.back) (sym (append_assoc x k.front part));
-  begins = rows-behind x k.front h k.begins;
+  begins = rows-after x k.front h k.begins;
 }
 
-pub behind-stands : (y part text : List ℕ) → StandsIn part text → StandsIn part (text ++ y)
-behind-stands y part text k = record {
+pub after-stands : (y part text : List ℕ) → StandsIn part text → StandsIn part (text ++ y)
+after-stands y part text k = record {
   front = k.front;
   back = k.back ++ y;
   whole = ap (λ t. t ++ y) k.whole ∙ append_assoc (k.front ++ part) k.back y;
@@ -125,7 +125,7 @@ behind-stands y part text k = record {
 
 pub within-stands : (part text outer : List ℕ) → StandsIn part text → StandsIn text outer → StandsIn part outer
 within-stands part text outer h k = subst (StandsIn part) (sym k.whole)
-    (behind-stands k.back part (k.front ++ text) (ahead-stands k.front part text k.begins h))
+    (after-stands k.back part (k.front ++ text) (ahead-stands k.front part text k.begins h))
 
 -- a row among rows
 pub row-stands : (rows : List (List Fragment)) (row : List Fragment) → Contains rows row

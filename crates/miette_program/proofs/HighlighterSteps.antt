@@ -130,13 +130,13 @@ closed rules left_open other [] begun follow = tt
 closed rules left_open other (restarted read ∷ calls) begun follow = follow
 closed rules left_open other (asked line pieces ∷ calls) begun follow = absurd begun
 
-behind : (rules : List Rule) (left_open other : Option OpenPart) (earlier calls : List Call) → Restarts calls
+happen_after : (rules : List Rule) (left_open other : Option OpenPart) (earlier calls : List Call) → Restarts calls
     → FollowTokens rules left_open (earlier ++ calls) → FollowTokens rules other calls
-behind rules left_open other [] calls begun follow = closed rules left_open other calls begun follow
-behind rules left_open other (restarted read ∷ earlier) calls begun follow =
-    behind rules None other earlier calls begun follow
-behind rules left_open other (asked line pieces ∷ earlier) calls begun follow =
-    behind rules follow.1 other earlier calls begun follow.4
+happen_after rules left_open other [] calls begun follow = closed rules left_open other calls begun follow
+happen_after rules left_open other (restarted read ∷ earlier) calls begun follow =
+    happen_after rules None other earlier calls begun follow
+happen_after rules left_open other (asked line pieces ∷ earlier) calls begun follow =
+    happen_after rules follow.1 other earlier calls begun follow.4
 
 none-follow : (after : Option LanguageHighlighter) → follows TokensFollow after []
 none-follow None = tt
@@ -147,7 +147,7 @@ later-follow : (it : Option LanguageHighlighter) (calls : List Call) → Restart
 later-follow None calls begun later = tt
 later-follow (Some it) calls begun later =
     let left_open = it.patterns.left_open in
-    behind it.patterns.rules.items left_open left_open later.0 calls begun
+    happen_after it.patterns.rules.items left_open left_open later.0 calls begun
     (subst (FollowTokens it.patterns.rules.items left_open) (append-nil (later.0 ++ calls))
     (later.2 [] (none-follow later.1)))
 
@@ -174,10 +174,10 @@ whole : (a b c d : List Call) → a ++ ((b ++ c) ++ d) ≡ ((a ++ b) ++ c) ++ d
 whole a b c d = sym (append_assoc a (b ++ c) d) ∙ ap (λ x. x ++ d) (sym (append_assoc a b c))
 
 -- what happens after calls that led there, happens later
-pub happen-behind : {H : Type 0} (may_follow : H → List Call → Type 0) (h k : JobHandler H) (calls : List Call)
+pub happen-after : {H : Type 0} (may_follow : H → List Call → Type 0) (h k : JobHandler H) (calls : List Call)
     → IsLed may_follow h k → HappenLater may_follow (highlighter_of k) calls
     → HappenLater may_follow (highlighter_of h) calls
-happen-behind may_follow h k calls led later = (
+happen-after may_follow h k calls led later = (
   led.calls ++ later.0,
   later.1,
   λ more follow.

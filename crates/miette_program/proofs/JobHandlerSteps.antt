@@ -38,7 +38,7 @@ use Rattle.miette_program.specs.declared.job_handler.JobHandler.TheVariants.{Bui
 use Rattle.miette_program.specs.declared.language.LanguageHighlighter.{LanguageHighlighter}
 use Rattle.miette_program.specs.declared.option_words.Choice.{Choice}
 use Rattle.miette_program.specs.rules.LanguageRules.{TokensFollow}
-use Rattle.miette_program.proofs.HighlighterSteps.{happen-behind, report-follows}
+use Rattle.miette_program.proofs.HighlighterSteps.{happen-after, report-follows}
 use Rattle.miette_outputs.proofs.AlwaysRead.{printed-reads, told-accepted, brief-accepted, told-fixed}
 
 -- ---- what a handler of the library appends
@@ -255,14 +255,14 @@ given-before is_blank follow (Built (handler.Graphical h)) (Built (handler.Graph
     stays led given =
     let asked = given.0.1 in
     let happen = HappenLater follow h.highlighter in
-    let behind : HappenLater follow h.highlighter (report_calls k.settings t asked.0) =
-    happen-behind follow (Built (handler.Graphical h)) (Built (handler.Graphical k))
+    let happens_later : HappenLater follow h.highlighter (report_calls k.settings t asked.0) =
+    happen-after follow (Built (handler.Graphical h)) (Built (handler.Graphical k))
     (report_calls k.settings t asked.0) led asked.2 in
     subst (λ b. drawn.IsAskedText whole_drawing h.settings b happen t text
     × (b ≡ true → text ≡ encode_utf8_all (report_text whole_drawing h.settings t unlisted))) stays.1
     (subst (λ s. drawn.IsAskedText whole_drawing s (draws_plain is_blank k) happen t text
     × (draws_plain is_blank k ≡ true → text ≡ encode_utf8_all (report_text whole_drawing s t unlisted))) stays.0
-    ((given.0.0, (asked.0, asked.1, behind, asked.3), given.0.2), given.1))
+    ((given.0.0, (asked.0, asked.1, happens_later, asked.3), given.0.2), given.1))
 given-before is_blank follow (Built (handler.Narrated h)) (Built (handler.Narrated k)) t text
     stays led given =
     subst (λ s. IsBuiltText is_blank (HappenLater follow) (handler.Narrated s) t text) stays given

@@ -26,11 +26,11 @@ left_beside limit context bytes labels k own beside =
     let shown : Bool = N.is_shown context bytes labels k in
     let fold : Bool = N.is_in_some_fold limit context bytes labels k in
     let before : Bool = N.is_hidden limit context bytes labels (k - 1) in
-    let behind : Bool = N.is_hidden limit context bytes labels (k + 1) in
+    let after : Bool = N.is_hidden limit context bytes labels (k + 1) in
     let parts = and_parts shown (not fold) own in
     let far : fold ≡ false = not-true fold parts.1 in
     let alone : N.is_alone limit context bytes labels k ≡ false =
-    and_right (N.is_hidden limit context bytes labels k) (not before && not behind) (none_of before behind beside) in
+    and_right (N.is_hidden limit context bytes labels k) (not before && not after) (none_of before after beside) in
     and_from shown (not (N.is_kept (Some limit) context bytes labels k)) parts.0
     (ap not (or_from fold (N.is_alone limit context bytes labels k) far alone))
 

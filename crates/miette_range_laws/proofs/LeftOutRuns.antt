@@ -141,11 +141,11 @@ hidden_before limit context source labels low many k r le lt =
         ap (N.is_hidden limit context source.bytes labels) zeroth
         ∙ first_number limit context source.bytes labels) (cases_lt 0 k)
 
-hidden_behind : (limit context : ℕ) (source : Source) (labels : List Label) (low many k : ℕ)
+hidden_after : (limit context : ℕ) (source : Source) (labels : List Label) (low many k : ℕ)
     → IsRun context source labels low many → low ≤ k → k < low + many →
     hidden_at limit context source labels low many (k + 1 - (low + 1) + 1)
     ≡ N.is_hidden limit context source.bytes labels (k + 1)
-hidden_behind limit context source labels low many k r le lt =
+hidden_after limit context source labels low many k r le lt =
     ⊎_elim {C = hidden_at limit context source labels low many (k + 1 - (low + 1) + 1)
     ≡ N.is_hidden limit context source.bytes labels (k + 1)}
     (λ inside. hidden_in limit context source labels low many (k + 1) (k + 1 - (low + 1) + 1) r (omega (arith, le))
@@ -157,10 +157,10 @@ hidden_behind limit context source labels low many k r le lt =
     (omega (arith, le, last)))
     ∙ none_hidden limit (frame source.bytes low many) (map (spread context source labels) labels)
     (k + 1 - (low + 1) + 1)
-    ∙ sym (behind_run (omega (arith, last, lt)))) (cases_lt (k + 1) (low + many))
+    ∙ sym (after_run (omega (arith, last, lt)))) (cases_lt (k + 1) (low + many))
   where
-    behind_run : k + 1 ≡ low + many → N.is_hidden limit context source.bytes labels (k + 1) ≡ false
-    behind_run e = ⊎_elim {C = N.is_hidden limit context source.bytes labels (k + 1) ≡ false}
+    after_run : k + 1 ≡ low + many → N.is_hidden limit context source.bytes labels (k + 1) ≡ false
+    after_run e = ⊎_elim {C = N.is_hidden limit context source.bytes labels (k + 1) ≡ false}
         (λ there. unshown limit context source.bytes labels (k + 1)
         (ap (N.is_shown context source.bytes labels) e ∙ r.whole.above (omega (arith, there, e))))
         (λ past. past_numbers limit context source.bytes labels (k + 1) past)
@@ -168,10 +168,10 @@ hidden_behind limit context source labels low many k r le lt =
 
 -- ---- what is left out of a run isn't kept
 
-out_not_kept : (fold before behind : Bool) → ((true && not fold) && (before || behind))
-    ≡ not (fold || ((true && not fold) && (not before && not behind)))
-out_not_kept true before behind = refl
-out_not_kept false true behind = refl
+out_not_kept : (fold before after : Bool) → ((true && not fold) && (before || after))
+    ≡ not (fold || ((true && not fold) && (not before && not after)))
+out_not_kept true before after = refl
+out_not_kept false true after = refl
 out_not_kept false false true = refl
 out_not_kept false false false = refl
 
@@ -184,14 +184,14 @@ leaves_alike (Some limit) context source labels low many k r le lt =
     let bytes : List ℕ = source.bytes in
     let fold : Bool = N.is_in_some_fold limit context bytes labels k in
     let before : Bool = N.is_hidden limit context bytes labels (k - 1) in
-    let behind : Bool = N.is_hidden limit context bytes labels (k + 1) in
+    let after : Bool = N.is_hidden limit context bytes labels (k + 1) in
     let shown : N.is_shown context bytes labels k ≡ true = r.whole.all k le lt in
     ap₂ (λ x y. x && y) (own_hidden limit context source labels low many k r le lt)
     (ap₂ (λ x y. x || y) (hidden_before limit context source labels low many k r le lt)
-    (hidden_behind limit context source labels low many k r le lt))
-    ∙ ap (λ x. (x && not fold) && (before || behind)) shown
-    ∙ out_not_kept fold before behind
-    ∙ ap (λ x. not (fold || ((x && not fold) && (not before && not behind)))) (sym shown)
+    (hidden_after limit context source labels low many k r le lt))
+    ∙ ap (λ x. (x && not fold) && (before || after)) shown
+    ∙ out_not_kept fold before after
+    ∙ ap (λ x. not (fold || ((x && not fold) && (not before && not after)))) (sym shown)
 
 -- ---- the order of labels changes nothing
 

@@ -102,9 +102,9 @@ in_front o part group groups t u a b = record {
       rw u (ap (λ r. suc (length r)) b);
 }
 
-behind : (o : ℕ) (part group : Span) (groups : List Span) → at_place o group ≡ false → holds group part ≡ false
+group_after : (o : ℕ) (part group : Span) (groups : List Span) → at_place o group ≡ false → holds group part ≡ false
     → Same o part groups → Same o part (group ∷ groups)
-behind o part group groups t u h = record { own = rw (t, u) h.own; one = rw u h.one }
+group_after o part group groups t u h = record { own = rw (t, u) h.own; one = rw u h.one }
 
 alone : (b : Bool) → (b || false) ≡ true → b ≡ true
 alone true e = refl
@@ -132,7 +132,7 @@ same_from o part before (span ∷ spans) low high h any =
     (λ g. let rest : list_any (λ m. holds m part) (span ∷ spans) ≡ true =
     sym (ap (λ b. b || list_any (λ m. holds m part) (span ∷ spans)) g) ∙ any in
     let from : span.offset ≤ part.offset = held_from span.offset part (span ∷ spans) (omega arith, h.1) rest in
-    behind o part before (stretches_from span spans) (and_right (leb before.offset o) (leb o (end_of_span before))
+    group_after o part before (stretches_from span spans) (and_right (leb before.offset o) (leb o (end_of_span before))
     (lt-leb o (end_of_span before) (omega (arith, gap, from, low)))) g
     (same_from o part span spans low high h.1 rest))))
 

@@ -41,8 +41,8 @@ module _ (a b : Mark) (a_forth : a.stretch.start ≤ a.stretch.end) (b_forth : b
       let a_from = covers_from (label_of a) k here in
       let b_from = covers_from (label_of b) k there in
       elim (and_cases _ _ e) [
-        | inl behind ↦
-            (let parts = or_parts _ _ behind in
+        | inl after ↦
+            (let parts = or_parts _ _ after in
             beside a.stretch.start b.stretch.start b.stretch.end k b_forth
             (ltb-false a.stretch.start b.stretch.end parts.0) (leb-false a.stretch.start b.stretch.start parts.1)
             a_from there)
@@ -142,11 +142,11 @@ module _ (files : List ℕ → Option Source) (name : List ℕ) (source : Source
   -- a list of its own
   clear_of_all : length ss ≤ n → (ms : List Mark) → AllFit files ss ms
       → AllByRecursion (λ m. IsClear files m (new_mark (length ss) name s t n)) ms
-  clear_of_all behind [] fits = tt
-  clear_of_all behind (m ∷ ms) fits =
+  clear_of_all after [] fits = tt
+  clear_of_all after (m ∷ ms) fits =
       let f = fits.0 in
       let less = within_lists ss m.list f.0 f.2 in
-      ((λ x here there same. absurd (omega (arith, behind, less, same))), clear_of_all behind ms fits.1)
+      ((λ x here there same. absurd (omega (arith, after, less, same))), clear_of_all after ms fits.1)
 
   clear_by : (m : Mark) → clashes_in source.bytes s n m ≡ false → IsClear files m (new_mark (length ss) name s t n)
   clear_by m e = λ x here there same.
@@ -171,8 +171,8 @@ newly_clear files done name source s t fits is h =
     let n = first_open opens 0 (length done.files) in
     let new = new_mark (length done.files) name s t n in
     clear_more files done.marks new h (elim (found_list opens 0 (length done.files)) [
-      | inl behind ↦
-          (let all : length done.files ≤ n = omega (arith, behind) in
+      | inl after ↦
+          (let all : length done.files ≤ n = omega (arith, after) in
           clear_of_all files name source is done.files s t n all done.marks fits)
       | inr it ↦
           clear_of_each files name source is done.files s t n done.marks (not-true _ (and_parts _ _ it).1)

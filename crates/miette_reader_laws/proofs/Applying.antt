@@ -9,7 +9,7 @@ use Rattle.std.proofs.lemmas.Option.{same_Some}
 use Rattle.std.proofs.lemmas.Slice.Eq.{bytes_eq-Decides}
 use Rattle.miette_fixes.specs.rules.Applying.{refusal}
 use Rattle.miette_fixes.specs.rules.ApplyingAll.{conflict}
-use Rattle.miette_fixes.specs.rules.Edits.{Proposal, Replacement, ends_behind, is_behind, overlap, some_overlap}
+use Rattle.miette_fixes.specs.rules.Edits.{Proposal, Replacement, ends_after, is_after, overlap, some_overlap}
 use Rattle.miette_protocol.specs.rules.Reading.{Source}
 use Rattle.miette_readers.specs.rules.Places.{Told}
 use Rattle.miette_readers.specs.rules.Proposing.{FileEdit, Offer, Parting, begun, fix_by, fixes_in, is_in}
@@ -35,14 +35,14 @@ same_overlap e x apart =
       | inr (inl less) ↦
           (let below : e.span.offset ≤ x.span.offset = omega (arith, less) in
           let differ = ne_eqb x.span.offset e.span.offset (λ same. omega (arith, less, same)) in
-          cond-true (is_behind x e) _ _ (or_left _ _ (lt-ltb e.span.offset x.span.offset less))
-          ∙ sym (cond-false (is_behind e x) _ _
+          cond-true (is_after x e) _ _ (or_left _ _ (lt-ltb e.span.offset x.span.offset less))
+          ∙ sym (cond-false (is_after e x) _ _
           (or_from _ _ (le-ltb x.span.offset e.span.offset below) (and_left _ _ differ))))
       | inr (inr more) ↦
           (let below : x.span.offset ≤ e.span.offset = omega (arith, more) in
-          cond-false (is_behind x e) _ _
+          cond-false (is_after x e) _ _
           (or_from _ _ (le-ltb e.span.offset x.span.offset below) (and_left _ _ apart))
-          ∙ sym (cond-true (is_behind e x) _ _ (or_left _ _ (lt-ltb x.span.offset e.span.offset more))))
+          ∙ sym (cond-true (is_after e x) _ _ (or_left _ _ (lt-ltb x.span.offset e.span.offset more))))
     ]
 
 no_overlap : (e x : Replacement) → conflict e x ≡ false → overlap x e ≡ false
@@ -68,7 +68,7 @@ none_overlap (x ∷ xs) e h k =
 
 module _ (name : List ℕ) (n : ℕ) where
   abbrev IsGood : Proposal → Type 0
-  IsGood fix = (some_overlap fix.edits ≡ false) × (list_any (ends_behind n) fix.edits ≡ false)
+  IsGood fix = (some_overlap fix.edits ≡ false) × (list_any (ends_after n) fix.edits ≡ false)
 
   abbrev AreGood : Parting → Type 0
   AreGood p = AllByRecursion IsGood p.done × IsGood p.fix
@@ -78,16 +78,16 @@ module _ (name : List ℕ) (n : ℕ) where
   good_next fixes fix h k = all_more IsGood fixes (fix ∷ []) h (k, tt)
 
   good_by : (p : Parting) (e : Replacement) (b : Bool) → list_any (conflict e) p.fix.edits ≡ b
-      → ends_behind n e ≡ false → AreGood p
+      → ends_after n e ≡ false → AreGood p
       → AreGood (if b
       then record { done = p.done ++ p.fix ∷ []; fix = record p.fix { edits = e ∷ [] } }
       else record p { fix = record p.fix { edits = p.fix.edits ++ e ∷ [] } })
-  good_by p e true is within h = (good_next p.done p.fix h.0 h.1, (refl, or_from (ends_behind n e) false within refl))
+  good_by p e true is within h = (good_next p.done p.fix h.0 h.1, (refl, or_from (ends_after n e) false within refl))
   good_by p e false is within h =
-      (h.0, (none_overlap p.fix.edits e h.1.0 is, none_more (ends_behind n) p.fix.edits e h.1.1 within))
+      (h.0, (none_overlap p.fix.edits e h.1.0 is, none_more (ends_after n) p.fix.edits e h.1.1 within))
 
   abbrev EndsWithin : FileEdit → Type 0
-  EndsWithin x = is_in name x ≡ true → ends_behind n x.edit ≡ false
+  EndsWithin x = is_in name x ≡ true → ends_after n x.edit ≡ false
 
   item_by : (p : Parting) (x : FileEdit) (b : Bool) → is_in name x ≡ b → EndsWithin x → AreGood p
       → AreGood (if b then with_edit p x.edit else p)
@@ -113,7 +113,7 @@ module _ (name : List ℕ) (n : ℕ) where
 
   none_refused : (fix : Proposal) → IsGood fix → refusal n fix.edits ≡ None
   none_refused fix h =
-      cond-false (list_any (ends_behind n) fix.edits) _ _ h.1 ∙ cond-false (some_overlap fix.edits) _ _ h.0
+      cond-false (list_any (ends_after n) fix.edits) _ _ h.1 ∙ cond-false (some_overlap fix.edits) _ _ h.0
 
 -- edits over a file that is found end within it
 all_within : (files : List ℕ → Option Source) (name : List ℕ) (s : Source) → files name ≡ Some s
@@ -124,7 +124,7 @@ all_within files name s is es h =
     (λ e found at. (
     let same : e.source ≡ s =
     same_Some e.source s (sym found.0 ∙ (ap files ((bytes_eq-Decides e.name name).0 at) ∙ is)) in
-    subst (λ (k : Source). ends_behind (length k.bytes) e.edit ≡ false) same found.1)) es h
+    subst (λ (k : Source). ends_after (length k.bytes) e.edit ≡ false) same found.1)) es h
 
 fixes_apply : (files : List ℕ → Option Source) (name message : List ℕ) (s : Source) → files name ≡ Some s
     → (offer : Offer) → AreFound files offer → (o : Option Source) → o ≡ Some s

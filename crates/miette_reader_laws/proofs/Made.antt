@@ -67,10 +67,10 @@ listed_by : (Q : Label → Type 0) (m : Mark) (ms : List Mark) (b : Bool) → b 
 listed_by Q m ms true e q = inl q
 listed_by Q m ms false e q = cc
 
-listed_behind : (Q : Label → Type 0) (m : Mark) (ms : List Mark) (b : Bool) → Has Q (map label_of ms)
+listed_after : (Q : Label → Type 0) (m : Mark) (ms : List Mark) (b : Bool) → Has Q (map label_of ms)
     → Has Q (map label_of (if b then m ∷ ms else ms))
-listed_behind Q m ms true h = inr h
-listed_behind Q m ms false h = h
+listed_after Q m ms true h = inr h
+listed_after Q m ms false h = h
 
 pub listed : (P : Mark → Type 0) (Q : Label → Type 0) → ((m : Mark) → P m → Q (label_of m)) → (n : ℕ) (ms : List Mark)
     → Has (λ (m : Mark). P m × (m.list ≡ n)) ms → Has Q (labels_in ms n)
@@ -78,7 +78,7 @@ listed P Q each n [] h = absurd h
 listed P Q each n (m ∷ ms) (inl here) =
     listed_by Q m (filter (is_listed n) ms) (is_listed n m) (eq-eqb m.list n here.1) (each m here.0)
 listed P Q each n (m ∷ ms) (inr h) =
-    listed_behind Q m (filter (is_listed n) ms) (is_listed n m) (listed P Q each n ms h)
+    listed_after Q m (filter (is_listed n) ms) (is_listed n m) (listed P Q each n ms h)
 
 -- in the list of a number, which is over its file
 pub sectioned : (Q : Label → Type 0) (s : Source) (ms : List Mark) (n : ℕ) → Has Q (labels_in ms n)

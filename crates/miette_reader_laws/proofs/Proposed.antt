@@ -20,7 +20,7 @@ use Rattle.miette_readers.proofs.Accepted.{AllFit, nth, settled_fits}
 use Rattle.miette_readers.proofs.ReportsRead.{either}
 use Rattle.miette_tree.specs.rules.Tree.{Tree, trees}
 use Rattle.miette_reader_laws.specs.laws.Proposed.{AnyOf, HasEdit, IsAdvice, IsOfFile, IsProposed}
-use Rattle.miette_readers.proofs.Holding.{Has, Is, has_any, has_behind, has_by, has_each, has_flat, has_it, has_map}
+use Rattle.miette_readers.proofs.Holding.{Has, Is, has_after, has_any, has_by, has_each, has_flat, has_it, has_map}
 use Rattle.miette_readers.proofs.Holding.{has_more, it_is_there}
 use Rattle.miette_reader_laws.proofs.Made.{all_advice, all_fixes, fixes_made, source_made}
 use Rattle.miette_reader_laws.proofs.Steps.{all_keep, retold}
@@ -48,7 +48,7 @@ module _ (name message : List ℕ) (sure : Applicability) (edit : Replacement) w
   stays_by : (p : Parting) (e : Replacement) (b : Bool) → IsThere p
       → IsThere (if b then begins p e else joins p e)
   stays_by p e true (inl h) = inl (has_more IsIn p.done (p.fix ∷ []) h)
-  stays_by p e true (inr h) = inl (has_behind IsIn p.done (p.fix ∷ []) (inl h))
+  stays_by p e true (inr h) = inl (has_after IsIn p.done (p.fix ∷ []) (inl h))
   stays_by p e false (inl h) = inl h
   stays_by p e false (inr h) = inr (h.0, has_more (Is edit) p.fix.edits (e ∷ []) h.1)
 
@@ -76,7 +76,7 @@ module _ (name message : List ℕ) (sure : Applicability) (edit : Replacement) w
   comes_by : (p : Parting) (b : Bool) → IsOf p.fix
       → IsThere (if b then begins p edit else joins p edit)
   comes_by p true h = inr (h, inl refl)
-  comes_by p false h = inr (h, has_behind (Is edit) p.fix.edits (edit ∷ []) (inl refl))
+  comes_by p false h = inr (h, has_after (Is edit) p.fix.edits (edit ∷ []) (inl refl))
 
   item_by : (p : Parting) (x : FileEdit) (b : Bool) → b ≡ true → x.edit ≡ edit → IsOf p.fix
       → IsThere (if b then with_edit p x.edit else p)
@@ -105,7 +105,7 @@ module _ (name message : List ℕ) (sure : Applicability) (edit : Replacement) w
   parts_have : (p : Parting) → IsThere p → Has IsIn (all_parts p)
   parts_have p (inl h) = has_more IsIn p.done (fix_by p.fix p.fix.edits) h
   parts_have p (inr h) =
-      has_behind IsIn p.done (fix_by p.fix p.fix.edits) (fix_there p.fix p.fix.edits h.1 h)
+      has_after IsIn p.done (fix_by p.fix p.fix.edits) (fix_there p.fix p.fix.edits h.1 h)
 
   pub fixes_have : (xs : List FileEdit) → Has IsEditOf xs
       → Has (HasEdit message sure edit) (all_parts (fold (with_item name) (begun message sure) xs))
@@ -149,7 +149,7 @@ module _ (files : List ℕ → Option Source) (main : Option (List ℕ)) (e : Fi
         → Has IsLike (if a || b then found else found ++ e ∷ [])
     other_by found true b beside there of it = cc
     other_by found false true beside there of it = like_there found of there
-    other_by found false false beside there of it = has_behind IsLike found (e ∷ []) (inl (refl, it))
+    other_by found false false beside there of it = has_after IsLike found (e ∷ []) (inl (refl, it))
 
     other_stays : (found : List FileEdit) (x : FileEdit) → Has IsLike found → Has IsLike (with_other main found x)
     other_stays found x h =

@@ -3,7 +3,7 @@ use Rattle.std.proofs.Common.{ℕ, List, [], ◌∷◌, ◌++◌, refl, sym, ap,
 use Rattle.std.proofs.Common.{◌∙◌, inl, inr, append_assoc, append-nil}
 use Rattle.std.specs.List.{fold}
 use Rattle.miette_readers.specs.rules.Kept.{IsPart}
-use Rattle.miette_readers.specs.rules.Places.{joined, row_behind}
+use Rattle.miette_readers.specs.rules.Places.{joined, row_after}
 use Rattle.miette_reader_laws.specs.laws.Shown.{BeginsRow, IsRowIn, IsRowOf}
 use Rattle.miette_readers.proofs.Holding.{Has, Is}
 
@@ -12,21 +12,21 @@ use Rattle.miette_readers.proofs.Holding.{Has, Is}
 row_self : (row : List ℕ) → IsRowOf row row
 row_self row = ([], [], sym (append-nil row), inl refl, inl refl)
 
-begins_more : (rest more : List ℕ) → BeginsRow rest → BeginsRow (row_behind rest more)
+begins_more : (rest more : List ℕ) → BeginsRow rest → BeginsRow (row_after rest more)
 begins_more rest more (inl e) = inr (more, ap (λ t. t ++ 10 ∷ more) e)
-begins_more rest more (inr h) = inr (row_behind h.0 more, ap (λ t. t ++ 10 ∷ more) h.1)
+begins_more rest more (inr h) = inr (row_after h.0 more, ap (λ t. t ++ 10 ∷ more) h.1)
 
-row_before : (row text more : List ℕ) → IsRowOf row text → IsRowOf row (row_behind text more)
+row_before : (row text more : List ℕ) → IsRowOf row text → IsRowOf row (row_after text more)
 row_before row text more h = (
   h.0,
-  row_behind h.1 more,
+  row_after h.1 more,
   ap (λ t. t ++ 10 ∷ more) h.2 ∙ append_assoc h.0 (row ++ h.1) (10 ∷ more)
       ∙ ap (λ t. h.0 ++ t) (append_assoc row h.1 (10 ∷ more)),
   h.3,
   begins_more h.1 more h.4,
 )
 
-row_next : (row text : List ℕ) → IsRowOf row (row_behind text row)
+row_next : (row text : List ℕ) → IsRowOf row (row_after text row)
 row_next row text = (
   text ++ 10 ∷ [],
   [],
@@ -35,16 +35,16 @@ row_next row text = (
   inl refl,
 )
 
-row_kept : (row text : List ℕ) (rows : List (List ℕ)) → IsRowOf row text → IsRowOf row (fold row_behind text rows)
+row_kept : (row text : List ℕ) (rows : List (List ℕ)) → IsRowOf row text → IsRowOf row (fold row_after text rows)
 row_kept row text [] h = h
-row_kept row text (r ∷ rs) h = row_kept row (row_behind text r) rs (row_before row text r h)
+row_kept row text (r ∷ rs) h = row_kept row (row_after text r) rs (row_before row text r h)
 
-row_among : (row text : List ℕ) (rows : List (List ℕ)) → Has (Is row) rows → IsRowOf row (fold row_behind text rows)
+row_among : (row text : List ℕ) (rows : List (List ℕ)) → Has (Is row) rows → IsRowOf row (fold row_after text rows)
 row_among row text [] h = absurd h
 row_among row text (r ∷ rs) (inl is) =
-    row_kept row (row_behind text r) rs
-    (subst (λ (k : List ℕ). IsRowOf row (row_behind text k)) (sym is) (row_next row text))
-row_among row text (r ∷ rs) (inr h) = row_among row (row_behind text r) rs h
+    row_kept row (row_after text r) rs
+    (subst (λ (k : List ℕ). IsRowOf row (row_after text k)) (sym is) (row_next row text))
+row_among row text (r ∷ rs) (inr h) = row_among row (row_after text r) rs h
 
 pub row_joined : (row : List ℕ) (rows : List (List ℕ)) → Has (Is row) rows → IsRowIn row (joined rows)
 row_joined row [] h = absurd h
@@ -57,8 +57,8 @@ row_joined row (r ∷ rs) (inr h) = row_among row r rs h
 pub part_self : (text : List ℕ) → IsPart text text
 part_self text = ([], [], sym (append-nil text))
 
-pub part_behind : (text front : List ℕ) → IsPart text (front ++ text)
-part_behind text front = (front, [], ap (λ t. front ++ t) (sym (append-nil text)))
+pub part_after : (text front : List ℕ) → IsPart text (front ++ text)
+part_after text front = (front, [], ap (λ t. front ++ t) (sym (append-nil text)))
 
 -- a part of a part
 pub part_within : (text row whole : List ℕ) → IsPart text row → IsPart row whole → IsPart text whole

@@ -22,11 +22,11 @@ use Rattle.miette_reader_laws.specs.laws.Applying.{AreFound, IsFound}
 use Rattle.miette_reader_laws.specs.laws.RustcTexts.{child_texts, span_texts, texts_of}
 use Rattle.miette_reader_laws.specs.laws.Shown.{IsRowIn}
 use Rattle.miette_reader_laws.specs.laws.Standing.{Stands}
-use Rattle.miette_readers.proofs.Holding.{Has, Is, all_each, all_flat, all_more, all_there, has_behind, has_each}
+use Rattle.miette_readers.proofs.Holding.{Has, Is, all_each, all_flat, all_more, all_there, has_after, has_each}
 use Rattle.miette_readers.proofs.Holding.{all_made, has_flat, has_kept, has_made, has_map, has_more, has_split}
 use Rattle.miette_reader_laws.proofs.Offers.{AreSound, all_sound, edit_is}
 use Rattle.miette_readers.proofs.RowLists.{rows_there}
-use Rattle.miette_reader_laws.proofs.Rows.{part_behind, part_self, row_joined}
+use Rattle.miette_reader_laws.proofs.Rows.{part_after, part_self, row_joined}
 use Rattle.miette_reader_laws.proofs.Standing.{IsOffered, Says, help_stands, offered_stands, told_stands}
 
 -- ---- labels of spans
@@ -47,7 +47,7 @@ labels_have ds = all_flat HasLabel label_rows (λ d. rows_have (label_rows d)) d
 either_kept : (P : Data → Type 0) (b : Bool) (d : Data) (xs ys : List Data)
     → (P d ⊎ Has P (xs ++ ys)) → Has P ((if b then d ∷ xs else xs) ++ (if not b then d ∷ ys else ys))
 either_kept P true d xs ys h = h
-either_kept P false d xs ys (inl p) = has_behind P xs (d ∷ ys) (inl p)
+either_kept P false d xs ys (inl p) = has_after P xs (d ∷ ys) (inl p)
 either_kept P false d [] ys (inr h) = inr h
 either_kept P false d (x ∷ xs) ys (inr (inl p)) = inl p
 either_kept P false d (x ∷ xs) ys (inr (inr h)) = inr (either_kept P false d xs ys (inr h))
@@ -71,7 +71,7 @@ module _ (files : List ℕ → Option Source) where
   leading_says : (text : List ℕ) (rows : List (List ℕ)) (ds : List Data) → Has (HasLabel text) ds
       → Says (leading files rows ds) text
   leading_says text rows [] h = absurd h
-  leading_says text rows (d ∷ ds) (inl h) = inl (has_behind (IsPart text) rows (label_rows d) h)
+  leading_says text rows (d ∷ ds) (inl h) = inl (has_after (IsPart text) rows (label_rows d) h)
   leading_says text rows (d ∷ ds) (inr h) =
       inr (has_map (HasLabel text) (λ (t : Told). Has (IsPart text) t.rows) (note_told files []) (λ d h. h) ds h)
 
@@ -151,7 +151,7 @@ module _ (files : List ℕ → Option Source) where
   proposal_by c (Some o) is h edits = inr (inr (o, is, h.0, h.1))
 
   said_by : (message : List ℕ) (b : Bool) → IsPart message (if b then codes "help: " ++ message else message)
-  said_by message true = part_behind message (codes "help: ")
+  said_by message true = part_after message (codes "help: ")
   said_by message false = part_self message
 
   is_said : (c : Data) → IsPart (message_of c) (note_message c)
@@ -217,7 +217,7 @@ module _ (files : List ℕ → Option Source) where
 
     told_stand : (text : List ℕ) → Has (λ c. Says (child_told files c) text) children → Says (told_of files d) text
     told_stand text h =
-        has_behind (λ (t : Told). Has (IsPart text) t.rows)
+        has_after (λ (t : Told). Has (IsPart text) t.rows)
         (map (own_told files) (spans_of d) ++ filter_map (macro_told files) (spans_of d))
         (flat_map (child_told files) children)
         (has_flat (λ c. Says (child_told files c) text) (λ (t : Told). Has (IsPart text) t.rows) (child_told files)

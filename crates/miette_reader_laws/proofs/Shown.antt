@@ -20,7 +20,7 @@ use Rattle.miette_readers.proofs.ReportsRead.{either}
 use Rattle.miette_tree.specs.rules.Diagnosis.{Section}
 use Rattle.miette_tree.specs.rules.Tree.{cause_of, causes_of, trees}
 use Rattle.miette_reader_laws.specs.laws.Shown.{IsRowIn, IsShown, IsShownBy, IsShownIn}
-use Rattle.miette_readers.proofs.Holding.{Has, Is, all_each, has_any, has_behind, has_by, has_it, has_map, has_more}
+use Rattle.miette_readers.proofs.Holding.{Has, Is, all_each, has_after, has_any, has_by, has_it, has_map, has_more}
 use Rattle.miette_readers.proofs.Holding.{it_is_there}
 use Rattle.miette_reader_laws.proofs.Made.{all_advice, all_fixes, listed, lists_made, sectioned}
 use Rattle.miette_readers.proofs.RowLists.{all_rows_there, row_stays, row_there, rows_stay}
@@ -116,7 +116,7 @@ module _ (name : List ℕ) (s : Stretch) (t : Told) where
   newly_shows : (done : Settled) (source : Source) → Has Shows (newly_marked done name source s t).marks
   newly_shows done source =
       let n = first_open (is_open done.marks name source.bytes s t.own) 0 (length done.files) in
-      has_behind Shows done.marks (new_mark (length done.files) name s t n ∷ [])
+      has_after Shows done.marks (new_mark (length done.files) name s t n ∷ [])
       (inl (refl, inl (refl, refl, all_rows_there [] t.rows, (λ p o. and_from _ _ p (or_left _ _ o)))))
 
   beside_by : (done : Settled) (source : Source) (b : Bool)

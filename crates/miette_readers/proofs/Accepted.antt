@@ -122,8 +122,8 @@ newly_fits files done name source s t h is within =
     let longer = done.files ++ source ∷ [] in
     let each = fit_longer files done.files source done.marks h in
     elim (opened opens 0 count) [
-      | inl behind ↦
-          (let e : n ≡ count = omega (arith, behind) in
+      | inl after ↦
+          (let e : n ≡ count = omega (arith, after) in
           let last : nth longer n ≡ Some source =
           subst (λ k. nth longer k ≡ Some source) (sym e) (nth_last done.files source) in
           subst (λ (b : Bool). AllFit files (if b then longer else done.files) (done.marks ++ m ∷ []))

@@ -16,9 +16,9 @@ has_more P [] ys h = absurd h
 has_more P (x ∷ xs) ys (inl p) = inl p
 has_more P (x ∷ xs) ys (inr h) = inr (has_more P xs ys h)
 
-pub has_behind : {X : Type 0} (P : X → Type 0) (xs ys : List X) → Has P ys → Has P (xs ++ ys)
-has_behind P [] ys h = h
-has_behind P (x ∷ xs) ys h = inr (has_behind P xs ys h)
+pub has_after : {X : Type 0} (P : X → Type 0) (xs ys : List X) → Has P ys → Has P (xs ++ ys)
+has_after P [] ys h = h
+has_after P (x ∷ xs) ys h = inr (has_after P xs ys h)
 
 pub has_map : {X Y : Type 0} (P : X → Type 0) (Q : Y → Type 0) (f : X → Y) → ((x : X) → P x → Q (f x)) → (xs : List X)
     → Has P xs → Has Q (map f xs)
@@ -35,7 +35,7 @@ pub has_flat : {X Y : Type 0} (P : X → Type 0) (Q : Y → Type 0) (f : X → L
     → (xs : List X) → Has P xs → Has Q (flat_map f xs)
 has_flat P Q f each [] h = absurd h
 has_flat P Q f each (x ∷ xs) (inl p) = has_more Q (f x) (flat_map f xs) (each x p)
-has_flat P Q f each (x ∷ xs) (inr h) = has_behind Q (f x) (flat_map f xs) (has_flat P Q f each xs h)
+has_flat P Q f each (x ∷ xs) (inr h) = has_after Q (f x) (flat_map f xs) (has_flat P Q f each xs h)
 
 has_cons : {Y : Type 0} (Q : Y → Type 0) (o : Option Y) (ys : List Y) → Has Q ys → Has Q (cons_option o ys)
 has_cons Q None ys h = h
@@ -53,16 +53,16 @@ kept_by : {X : Type 0} (P : X → Type 0) (b : Bool) (x : X) (xs : List X) → b
 kept_by P true x xs e p = inl p
 kept_by P false x xs e p = cc
 
-kept_behind : {X : Type 0} (P : X → Type 0) (b : Bool) (x : X) (xs : List X) → Has P xs
+kept_after : {X : Type 0} (P : X → Type 0) (b : Bool) (x : X) (xs : List X) → Has P xs
     → Has P (if b then x ∷ xs else xs)
-kept_behind P true x xs h = inr h
-kept_behind P false x xs h = h
+kept_after P true x xs h = inr h
+kept_after P false x xs h = h
 
 pub has_kept : {X : Type 0} (P : X → Type 0) (p : X → Bool) → ((x : X) → P x → p x ≡ true) → (xs : List X) → Has P xs
     → Has P (filter p xs)
 has_kept P p each [] h = absurd h
 has_kept P p each (x ∷ xs) (inl it) = kept_by P (p x) x (filter p xs) (each x it) it
-has_kept P p each (x ∷ xs) (inr h) = kept_behind P (p x) x (filter p xs) (has_kept P p each xs h)
+has_kept P p each (x ∷ xs) (inr h) = kept_after P (p x) x (filter p xs) (has_kept P p each xs h)
 
 pub has_by : {X : Type 0} (p : X → Bool) (xs : List X) → list_any p xs ≡ true → Has (λ x. p x ≡ true) xs
 has_by p [] e = cc

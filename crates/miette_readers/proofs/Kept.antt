@@ -12,7 +12,7 @@ use Rattle.miette_tree.specs.rules.DiagnosticParts.{given_labels}
 use Rattle.miette_tree.specs.rules.Tree.{Trees, alone, texts, trees, with_all_snippets, with_cause, with_fixes}
 use Rattle.miette_tree.specs.rules.Tree.{with_related}
 use Rattle.miette_readers.specs.rules.Kept.{IsInLabel, IsInSection, IsKept, IsPart, IsPartOf}
-use Rattle.miette_readers.specs.rules.Places.{Place, Stretch, Told, joined, place_text, row_behind, text_behind}
+use Rattle.miette_readers.specs.rules.Places.{Place, Stretch, Told, joined, place_text, row_after, text_after}
 use Rattle.miette_readers.specs.rules.Proposing.{Offer}
 use Rattle.miette_readers.specs.rules.Reports.{Said, advice_of, further_files, is_listed, label_of, labels_in}
 use Rattle.miette_readers.specs.rules.Reports.{main_fixes, maybe_source, meaning_with, report_tree, sections_from}
@@ -22,7 +22,7 @@ use Rattle.miette_readers.specs.rules.Settling.{marked, maybe_text}
 use Rattle.miette_readers.specs.rules.Settling.{newly_marked, nothing_settled, settled, settled_at, settled_one}
 use Rattle.miette_readers.specs.rules.Settling.{settled_with, told_again, with_row, with_rows, with_text}
 use Rattle.miette_readers.proofs.Accepted.{AllFit, given_some, nth, settled_fits}
-use Rattle.miette_readers.proofs.Holding.{Has, Is, has_any, has_behind, has_by, has_each, has_it, has_map, has_more}
+use Rattle.miette_readers.proofs.Holding.{Has, Is, has_after, has_any, has_by, has_each, has_it, has_map, has_more}
 use Rattle.miette_readers.proofs.ReportsRead.{either}
 use Rattle.miette_readers.proofs.RowLists.{row_stays, row_there, rows_stay, rows_there}
 
@@ -38,24 +38,24 @@ part_before row text more h = (
   ap (λ t. t ++ more) h.2 ∙ append_assoc h.0 (row ++ h.1) more ∙ ap (λ t. h.0 ++ t) (append_assoc row h.1 more),
 )
 
-part_behind : (row front text : List ℕ) → IsPart row text → IsPart row (front ++ text)
-part_behind row front text h =
+part_after : (row front text : List ℕ) → IsPart row text → IsPart row (front ++ text)
+part_after row front text h =
     (front ++ h.0, h.1, ap (λ t. front ++ t) h.2 ∙ sym (append_assoc front h.0 (row ++ h.1)))
 
 -- a row after a text begins with a line feed
-part_next : (row text : List ℕ) → IsPart row (row_behind text row)
-part_next row text = part_behind row text (10 ∷ row) (part_behind row (10 ∷ []) row (part_self row))
+part_next : (row text : List ℕ) → IsPart row (row_after text row)
+part_next row text = part_after row text (10 ∷ row) (part_after row (10 ∷ []) row (part_self row))
 
-part_kept : (row text : List ℕ) (rows : List (List ℕ)) → IsPart row text → IsPart row (fold row_behind text rows)
+part_kept : (row text : List ℕ) (rows : List (List ℕ)) → IsPart row text → IsPart row (fold row_after text rows)
 part_kept row text [] h = h
-part_kept row text (r ∷ rs) h = part_kept row (row_behind text r) rs (part_before row text (10 ∷ r) h)
+part_kept row text (r ∷ rs) h = part_kept row (row_after text r) rs (part_before row text (10 ∷ r) h)
 
-part_among : (row text : List ℕ) (rows : List (List ℕ)) → Has (Is row) rows → IsPart row (fold row_behind text rows)
+part_among : (row text : List ℕ) (rows : List (List ℕ)) → Has (Is row) rows → IsPart row (fold row_after text rows)
 part_among row text [] h = absurd h
 part_among row text (r ∷ rs) (inl is) =
-    part_kept row (row_behind text r) rs
-    (subst (λ (k : List ℕ). IsPart row (row_behind text k)) (sym is) (part_next row text))
-part_among row text (r ∷ rs) (inr h) = part_among row (row_behind text r) rs h
+    part_kept row (row_after text r) rs
+    (subst (λ (k : List ℕ). IsPart row (row_after text k)) (sym is) (part_next row text))
+part_among row text (r ∷ rs) (inr h) = part_among row (row_after text r) rs h
 
 part_joined : (row : List ℕ) (rows : List (List ℕ)) → Has (Is row) rows → IsPartOf row (joined rows)
 part_joined row [] h = absurd h
@@ -63,15 +63,15 @@ part_joined row (r ∷ rs) (inl is) =
     part_kept row r rs (subst (λ (k : List ℕ). IsPart row k) (sym is) (part_self row))
 part_joined row (r ∷ rs) (inr h) = part_among row r rs h
 
-part_told : (row : List ℕ) (o : Option (List ℕ)) → IsPartOf row o → IsPart row (text_behind o)
+part_told : (row : List ℕ) (o : Option (List ℕ)) → IsPartOf row o → IsPart row (text_after o)
 part_told row None h = absurd h
-part_told row (Some text) h = part_behind row (codes ": ") text h
+part_told row (Some text) h = part_after row (codes ": ") text h
 
 part_placed : (row : List ℕ) (p : Place) (rows : List (List ℕ)) → Has (Is row) rows
     → IsPart row (place_text p rows)
 part_placed row p rows h =
-    part_behind row ((p.name ++ (codes ":" ++ decimal p.line)) ++ (codes ":" ++ decimal p.column))
-    (text_behind (joined rows)) (part_told row (joined rows) (part_joined row rows h))
+    part_after row ((p.name ++ (codes ":" ++ decimal p.line)) ++ (codes ":" ++ decimal p.column))
+    (text_after (joined rows)) (part_told row (joined rows) (part_joined row rows h))
 
 some_rows : (row : List ℕ) (rows : List (List ℕ)) → Has (Is row) rows → has_no_rows rows ≡ false
 some_rows row [] h = absurd h
@@ -153,7 +153,7 @@ again_by row t m false e h = cc
 
 newly_held : (row : List ℕ) (done : Settled) (name : List ℕ) (source : Source) (s : Stretch) (t : Told)
     → Has (Is row) t.rows → IsHeld row (newly_marked done name source s t)
-newly_held row done name source s t h = inl (has_behind (IsOf row) done.marks (_ ∷ [])
+newly_held row done name source s t h = inl (has_after (IsOf row) done.marks (_ ∷ [])
     (inl (rows_there row [] t.rows h)))
 
 beside_held : (row : List ℕ) (done : Settled) (name : List ℕ) (source : Source) (s : Stretch) (t : Told)

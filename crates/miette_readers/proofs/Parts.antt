@@ -11,31 +11,31 @@ use Rattle.miette_readers.specs.rules.Proposing.{FileEdit, Parting, all_parts, b
 use Rattle.miette_readers.specs.rules.Proposing.{with_item}
 use Rattle.miette_readers.specs.rules.Proposing.{without_edits}
 
-abbrev behind : List Proposal → Parting → Parting
-behind before p = record { done = before ++ p.done; fix = p.fix }
+abbrev after_done : List Proposal → Parting → Parting
+after_done before p = record { done = before ++ p.done; fix = p.fix }
 
-either_behind : (before : List Proposal) (b : Bool) (p q r s : Parting) → p ≡ behind before r → q ≡ behind before s
-    → (if b then p else q) ≡ behind before (if b then r else s)
-either_behind before true p q r s e f = e
-either_behind before false p q r s e f = f
+either_after : (before : List Proposal) (b : Bool) (p q r s : Parting) → p ≡ after_done before r
+    → q ≡ after_done before s → (if b then p else q) ≡ after_done before (if b then r else s)
+either_after before true p q r s e f = e
+either_after before false p q r s e f = f
 
-edit_behind : (before : List Proposal) (p : Parting) (e : Replacement)
-    → with_edit (behind before p) e ≡ behind before (with_edit p e)
-edit_behind before p e =
+edit_after : (before : List Proposal) (p : Parting) (e : Replacement)
+    → with_edit (after_done before p) e ≡ after_done before (with_edit p e)
+edit_after before p e =
     let next : List Proposal → Parting = λ d. record { done = d; fix = record p.fix { edits = e ∷ [] } } in
-    either_behind before (list_any (conflict e) p.fix.edits) _ _ _ _
+    either_after before (list_any (conflict e) p.fix.edits) _ _ _ _
     (ap next (append_assoc before p.done (p.fix ∷ []))) refl
 
-item_behind : (name : List ℕ) (before : List Proposal) (p : Parting) (item : FileEdit)
-    → with_item name (behind before p) item ≡ behind before (with_item name p item)
-item_behind name before p item = either_behind before (is_in name item) _ _ _ _ (edit_behind before p item.edit) refl
+item_after : (name : List ℕ) (before : List Proposal) (p : Parting) (item : FileEdit)
+    → with_item name (after_done before p) item ≡ after_done before (with_item name p item)
+item_after name before p item = either_after before (is_in name item) _ _ _ _ (edit_after before p item.edit) refl
 
-items_behind : (name : List ℕ) (before : List Proposal) (p : Parting) (es : List FileEdit)
-    → fold (with_item name) (behind before p) es ≡ behind before (fold (with_item name) p es)
-items_behind name before p [] = refl
-items_behind name before p (e ∷ es) =
-    ap (λ (q : Parting). fold (with_item name) q es) (item_behind name before p e)
-    ∙ items_behind name before (with_item name p e) es
+items_after : (name : List ℕ) (before : List Proposal) (p : Parting) (es : List FileEdit)
+    → fold (with_item name) (after_done before p) es ≡ after_done before (fold (with_item name) p es)
+items_after name before p [] = refl
+items_after name before p (e ∷ es) =
+    ap (λ (q : Parting). fold (with_item name) q es) (item_after name before p e)
+    ∙ items_after name before (with_item name p e) es
 
 pub all_parted : (name message : List ℕ) (sure : Applicability) (before now : List Proposal) (fix : Proposal)
     (es : List FileEdit) (i : ℕ) → length es ≤ i
@@ -46,9 +46,9 @@ all_parted name message sure before now fix es i full is =
     let begin : List Proposal → Parting = λ d. record { done = d; fix = without_edits message sure } in
     let parts = fold (with_item name) (begun message sure) es in
     let here : Parting = record { done = now; fix = fix } in
-    let all : here ≡ behind before parts =
+    let all : here ≡ after_done before parts =
     sym is ∙ ap (λ (l : List FileEdit). fold (with_item name) (begin before) l) (take_all i es full)
     ∙ ap (λ d. fold (with_item name) (begin d) es) (sym (append-nil before))
-    ∙ items_behind name before (begun message sure) es
+    ∙ items_after name before (begun message sure) es
     in
     ap all_parts all ∙ append_assoc before parts.done (fix_by parts.fix parts.fix.edits)

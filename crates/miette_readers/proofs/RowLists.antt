@@ -4,7 +4,7 @@ use Rattle.std.specs.Prelude.{if◌then◌else◌, bytes_eq}
 use Rattle.std.specs.List.{AllByRecursion, list_any}
 use Rattle.std.proofs.lemmas.Slice.Eq.{bytes_eq-Decides}
 use Rattle.miette_readers.specs.rules.Settling.{with_row, with_rows}
-use Rattle.miette_readers.proofs.Holding.{Has, Is, all_each, all_there, has_behind, has_by, has_each, has_more}
+use Rattle.miette_readers.proofs.Holding.{Has, Is, all_each, all_there, has_after, has_by, has_each, has_more}
 use Rattle.miette_readers.proofs.ReportsRead.{either}
 
 pub row_stays : (P : List ℕ → Type 0) (rows : List (List ℕ)) (new : List ℕ) → Has P rows → Has P (with_row rows new)
@@ -16,7 +16,7 @@ row_by : (rows : List (List ℕ)) (new : List ℕ) (b : Bool) → list_any (byte
 row_by rows new true e =
     has_each (λ r. bytes_eq new r ≡ true) (Is new) (λ r is. sym ((bytes_eq-Decides new r).0 is)) rows
     (has_by (bytes_eq new) rows e)
-row_by rows new false e = has_behind (Is new) rows (new ∷ []) (inl refl)
+row_by rows new false e = has_after (Is new) rows (new ∷ []) (inl refl)
 
 pub row_there : (rows : List (List ℕ)) (new : List ℕ) → Has (Is new) (with_row rows new)
 row_there rows new = row_by rows new (list_any (bytes_eq new) rows) refl

@@ -2,8 +2,8 @@
 
 ghost use Rattle.std.specs.Prelude.{◌≡◌, ◌++◌, ◌∷◌, IfOk, OnOk, map, option_map, string_bytes, codes, decimal};
 ghost use Rattle.miette_readers.specs.rules.Places.{clash, ends_between, holds, is_same, is_within, joined, last_byte};
-ghost use Rattle.miette_readers.specs.rules.Places.{near, on_one_line, place_text, row_behind, shares_byte};
-ghost use Rattle.miette_readers.specs.rules.Places.{text_behind};
+ghost use Rattle.miette_readers.specs.rules.Places.{near, on_one_line, place_text, row_after, shares_byte};
+ghost use Rattle.miette_readers.specs.rules.Places.{text_after};
 
 use miette_basics::numbers::push_number;
 use std::alloc::{AllocError, Global};
@@ -142,9 +142,9 @@ fn push_counted(text: &mut String, number: u64) -> Result<(), AllocError>
 }
 
 /// Appends what stands after a place's name, line and column.
-fn push_behind(text: &mut String, alloc: Global, rows: &[String]) -> Result<(), AllocError>
+fn push_after(text: &mut String, alloc: Global, rows: &[String]) -> Result<(), AllocError>
     ensures { OnOk result (string_bytes text.new
-        ≡ string_bytes text.old ++ text_behind (joined (map string_bytes rows.now))) }
+        ≡ string_bytes text.old ++ text_after (joined (map string_bytes rows.now))) }
 {
     let Some(told) = joined(alloc, rows)? else {
         return Ok(());
@@ -161,7 +161,7 @@ impl<'v> Place<'v> {
         let mut text = String::from_str(alloc, self.name)?;
         push_counted(&mut text, self.line)?;
         push_counted(&mut text, self.column)?;
-        push_behind(&mut text, alloc, rows)?;
+        push_after(&mut text, alloc, rows)?;
         Ok(text)
     }
 }

@@ -149,7 +149,7 @@ fn sections_over<'f>(
 }
 
 /// The labels over further files.
-fn further<'f>(
+fn further_labels<'f>(
     alloc: Global,
     done: &Settled<'f, '_>,
 ) -> Result<Vec<Snippets<LentFile<'f>>>, AllocError>
@@ -186,7 +186,7 @@ fn told_report<'f, D: Diagnostic>(
         ≡ told_tree said done.entry) }
 {
     let diagnostic = diagnostic_of(alloc, said, done.marks.as_slice())?;
-    let snippets = further(alloc, &done)?;
+    let snippets = further_labels(alloc, &done)?;
     let report = over_first(Report::built(diagnostic), done.files.as_slice());
     let Settled {
         marks: _,

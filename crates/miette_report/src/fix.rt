@@ -27,7 +27,7 @@ pub fn fixing(words: &[String]) -> Option<bool>
 }
 
 /// Reads a description, and writes the text of its report's source after fixes: all of them, or those that may be
-/// applied without a look. The status is 0, and 5 where a fix wasn't taken; 1 for want of memory and for a device that
+/// applied without a look. The status is 0, and 5 where a fix wasn't taken; 1 for refused memory and for a device that
 /// failed; 3 for a bad description. The text of a fault and a line feed go to `faults`, whose own faults are ignored.
 pub fn fix_with<R, W, F>(alloc: Global, all: bool, reader: R, writer: W, faults: F) -> u8
 where

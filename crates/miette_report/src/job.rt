@@ -21,7 +21,7 @@ use std::alloc::Global;
 use std::io::{Read, Write};
 
 /// Reads a description, and writes its report. The words after the program's name go in, and the status comes out: 0;
-/// 1 for want of memory and for a device that failed; 2 for words that are no settings; 3 for a bad description; 4
+/// 1 for refused memory and for a device that failed; 2 for words that are no settings; 3 for a bad description; 4
 /// for a report that the handler refused. The words are checked first, before anything is read. The text of a fault
 /// and a line feed go to `faults`, whose own faults are ignored.
 pub fn job_with<R, W, F>(alloc: Global, words: &[String], reader: R, writer: W, faults: F) -> u8

@@ -59,7 +59,7 @@ pub fn write_log<R: Read, W: Write>(
     write_whole(writer, text.as_bytes())
 }
 
-/// Reads a description, and writes the log of its report. The status is 0; 1 for want of memory and for a device
+/// Reads a description, and writes the log of its report. The status is 0; 1 for refused memory and for a device
 /// that failed; 3 for a bad description. The text of a fault and a line feed go to `faults`, whose own faults are
 /// ignored.
 pub fn log_with<R, W, F>(alloc: Global, log: Logging<'_>, reader: R, writer: W, faults: F) -> u8

@@ -31,14 +31,14 @@ code_at-front f from (suc many) (suc column) rest one lt =
     ∙ code_at-front f (from + 1) many column rest one (omega arith))
 
 -- and after it
-pub code_at-behind : (f : ℕ → Glyph) (from many column : ℕ) (rest : List Glyph) → ((k : ℕ) → (f k).columns ≡ 1)
+pub code_at-after : (f : ℕ → Glyph) (from many column : ℕ) (rest : List Glyph) → ((k : ℕ) → (f k).columns ≡ 1)
     → code_at (map f (range_with_len from many) ++ rest) (many + column) ≡ code_at rest column
-code_at-behind f from zero column rest one = let e : zero + column ≡ column = omega arith in ap (code_at rest) e
-code_at-behind f from (suc many) column rest one =
+code_at-after f from zero column rest one = let e : zero + column ≡ column = omega arith in ap (code_at rest) e
+code_at-after f from (suc many) column rest one =
     let d : suc many + column - 1 ≡ many + column = omega arith in
     code_at-next (f from) (map f (range_with_len (from + 1) many) ++ rest) (suc many + column) (one from) (omega arith)
     ∙ ap (code_at (map f (range_with_len (from + 1) many) ++ rest)) d
-    ∙ code_at-behind f (from + 1) many column rest one
+    ∙ code_at-after f (from + 1) many column rest one
 
 pub columns_of-map : (f : ℕ → Glyph) (from many : ℕ) → ((k : ℕ) → (f k).columns ≡ 1)
     → columns_of (map f (range_with_len from many)) ≡ many

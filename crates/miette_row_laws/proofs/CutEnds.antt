@@ -16,27 +16,27 @@ use Rattle.miette_snippet_rules.specs.rules.Marks.{AreApart, Mark, Text}
 use Rattle.miette_snippet_rules.specs.rules.PrintedCells.{cells_width}
 use Rattle.miette_snippet_rules.specs.rules.SnippetLayout.{cells_of, cut_ends, line_marks, text_of_cells}
 use Rattle.miette_snippet_rules.proofs.CutColumns.{AreColumns, columns_in-append}
-use Rattle.miette_row_laws.specs.laws.Ends.{AreBehindShown, BeginBehind}
+use Rattle.miette_row_laws.specs.laws.Ends.{AreAfterShown, BeginAfter}
 use Rattle.miette_row_laws.proofs.Apart.{marks_apart}
 use Rattle.miette_row_laws.proofs.CleanTexts.{line_same}
 use Rattle.miette_row_laws.proofs.CutShows.{cells_in, cut_cells, cut_pieces}
 use Rattle.miette_row_laws.proofs.CutWidth.{cells-columns, dots-columns, dots_some, pieces-columns, whole-columns}
-use Rattle.miette_row_laws.proofs.EndLabels.{behind_text}
+use Rattle.miette_row_laws.proofs.EndLabels.{all_after_text}
 use Rattle.miette_row_laws.proofs.Whole.{line_columns}
 use Rattle.miette_snippet_rules.specs.rules.Settings.{SnippetSettings}
 
 -- ---- columns of the row: after all stretches, and before
 
 module _ (many : ℕ) (dotted : 0 < many) where
-  row_behind : (ss : List Stretch) (column : ℕ) → columns_in (cells_in ss) ≤ column
+  row_past : (ss : List Stretch) (column : ℕ) → columns_in (cells_in ss) ≤ column
       → row_column many ss column ≡ text_columns many ss + (column - columns_in (cells_in ss))
-  row_behind [] column le = omega arith
-  row_behind (s ∷ later) column le =
+  row_past [] column le = omega arith
+  row_past (s ∷ later) column le =
       let all : columns_in (cells_in (s ∷ later)) ≡ columns_in s.cells + columns_in (cells_in later) =
       columns_in-append s.cells (cells_in later) in
       let past : ltb column (columns_in s.cells) ≡ false = le-ltb column (columns_in s.cells)
       (omega (arith, le, all)) in
-      rw past (omega (arith, all, row_behind later (column - columns_in s.cells) (omega (arith, le, all))))
+      rw past (omega (arith, all, row_past later (column - columns_in s.cells) (omega (arith, le, all))))
 
   row_before : (ss : List Stretch) (column : ℕ) → column < columns_in (cells_in ss)
       → row_column many ss column < text_columns many ss
@@ -66,13 +66,13 @@ module _ (many : ℕ) (dotted : 0 < many) where
       ≡ max (text_columns many ss) (row_column many ss (until - 1) + 1)} (leb until all)
       (λ y. let le : until ≤ all = leb-true until all y in
       ap (row_column many ss) (later until all le)
-      ∙ omega (arith, row_behind ss all (omega arith), row_before ss (until - 1) (omega (arith, some, le))))
+      ∙ omega (arith, row_past ss all (omega arith), row_before ss (until - 1) (omega (arith, some, le))))
       (λ n. let lt : all < until = leb-false until all n in
       ap (row_column many ss) (sooner until all lt)
       ∙ omega (
         arith,
-        row_behind ss until (omega (arith, lt)),
-        row_behind ss (until - 1) (omega (arith, lt)),
+        row_past ss until (omega (arith, lt)),
+        row_past ss (until - 1) (omega (arith, lt)),
         lt,
       ))
     where
@@ -84,31 +84,31 @@ module _ (many : ℕ) (dotted : 0 < many) where
 
   -- ---- marks of labels after the text
 
-  moved_behind : (ss : List Stretch) (columns shown reached low : ℕ) (ms : List Mark)
+  moved_after : (ss : List Stretch) (columns shown reached low : ℕ) (ms : List Mark)
       → columns_in (cells_in ss) ≡ columns → shown ≡ text_columns many ss
       → row_column many ss (max columns reached) ≡ max shown low → AreApart reached ms
-      → BeginBehind columns reached ms → BeginBehind shown low (map (row_mark many ss) ms)
-  moved_behind ss columns shown reached low [] all is here apart h = tt
-  moved_behind ss columns shown reached low (m ∷ ms) all is here apart h =
+      → BeginAfter columns reached ms → BeginAfter shown low (map (row_mark many ss) ms)
+  moved_after ss columns shown reached low [] all is here apart h = tt
+  moved_after ss columns shown reached low (m ∷ ms) all is here apart h =
       let last : ℕ = row_column many ss (m.until - 1) + 1 in
       let next : row_column many ss (max columns m.until) ≡ max shown last =
       ap (λ c. row_column many ss (max c m.until)) (sym all)
       ∙ row_after ss m.until (omega (arith, apart.1.0, apart.1.1))
       ∙ ap (λ w. max w last) (sym is) in (
-        λ behind. ap (row_column many ss) (h.0 behind) ∙ here,
-        moved_behind ss columns shown m.until last ms all is next apart.2 h.1,
+        λ after. ap (row_column many ss) (h.0 after) ∙ here,
+        moved_after ss columns shown m.until last ms all is next apart.2 h.1,
       )
 
   -- before the first mark
-  first_behind : (ss : List Stretch) (columns shown : ℕ) → columns_in (cells_in ss) ≡ columns
+  first_after : (ss : List Stretch) (columns shown : ℕ) → columns_in (cells_in ss) ≡ columns
       → shown ≡ text_columns many ss → row_column many ss (max columns 0) ≡ max shown 0
-  first_behind ss columns shown all is =
+  first_after ss columns shown all is =
       let from : max columns 0 ≡ columns_in (cells_in ss) = omega (arith, all) in
-      ap (row_column many ss) from ∙ omega (arith, is, row_behind ss (columns_in (cells_in ss)) (omega arith))
+      ap (row_column many ss) from ∙ omega (arith, is, row_past ss (columns_in (cells_in ss)) (omega arith))
 
-same_behind : (columns shown : ℕ) (ms : List Mark) → shown ≡ columns → BeginBehind columns 0 ms
-    → BeginBehind shown 0 ms
-same_behind columns shown ms e h = subst (λ (n : ℕ). BeginBehind n 0 ms) (sym e) h
+same_after : (columns shown : ℕ) (ms : List Mark) → shown ≡ columns → BeginAfter columns 0 ms
+    → BeginAfter shown 0 ms
+same_after columns shown ms e h = subst (λ (n : ℕ). BeginAfter n 0 ms) (sym e) h
 
 line_width : (cells : List Cell) → AreColumns 0 cells → columns_in cells ≡ cells_width 0 cells
 line_width cells h = omega (arith, whole-columns 0 cells h)
@@ -118,14 +118,14 @@ abbrev text_cut : Theme → Option ℕ → List ℕ → List Cell → List Highl
 text_cut t limit all cells pieces =
     columns_of (glyphs_of (shown_runs (dots t) (cut_line (dots_in t.characters) limit all cells) pieces cells))
 
-shown_behind : (t : Theme) (limit : Option ℕ) (ms : List Mark) (all : List ℕ) (cells : List Cell)
-    (pieces : List Highlight) → AreColumns 0 cells → AreApart 0 ms → BeginBehind (cells_width 0 cells) 0 ms →
-    BeginBehind (text_cut t limit all cells pieces) 0
+shown_after : (t : Theme) (limit : Option ℕ) (ms : List Mark) (all : List ℕ) (cells : List Cell)
+    (pieces : List Highlight) → AreColumns 0 cells → AreApart 0 ms → BeginAfter (cells_width 0 cells) 0 ms →
+    BeginAfter (text_cut t limit all cells pieces) 0
     (shown_marks (dots_in t.characters) (cut_line (dots_in t.characters) limit all cells) ms)
-shown_behind t None ms all cells pieces h apart behind =
-    same_behind (cells_width 0 cells) (text_cut t None all cells pieces) ms
-    (ap columns_of (line_same pieces cells) ∙ cells-columns cells ∙ line_width cells h) behind
-shown_behind t (Some limit) ms all cells pieces h apart behind =
+shown_after t None ms all cells pieces h apart after =
+    same_after (cells_width 0 cells) (text_cut t None all cells pieces) ms
+    (ap columns_of (line_same pieces cells) ∙ cells-columns cells ∙ line_width cells h) after
+shown_after t (Some limit) ms all cells pieces h apart after =
     let many : ℕ = dots_in t.characters in
     let ss : List Stretch = cut_to (limit_of limit) many all cells in
     let shown : ℕ = columns_of (glyphs_of (shown_runs (dots t) (Some ss) pieces cells)) in
@@ -133,19 +133,19 @@ shown_behind t (Some limit) ms all cells pieces h apart behind =
     ap columns_in (cut_cells (limit_of limit) many all cells) ∙ line_width cells h in
     let is : shown ≡ text_columns many ss =
     ap columns_of (cut_pieces (dots t) pieces 0 ss) ∙ pieces-columns (dots t) many ss (dots-columns t) in
-    by_cases {C = BeginBehind (text_cut t (Some limit) all cells pieces) 0
+    by_cases {C = BeginAfter (text_cut t (Some limit) all cells pieces) 0
     (shown_marks many (cut_line many (Some limit) all cells) ms)} (ltb (limit_of limit) (cells_width 0 cells))
-    (λ y. rw y (moved_behind many (dots_some t.characters) ss (cells_width 0 cells) shown 0 0 ms whole is
-    (first_behind many (dots_some t.characters) ss (cells_width 0 cells) shown whole is) apart behind))
-    (λ n. rw n (same_behind (cells_width 0 cells) (text_cut t None all cells pieces) ms
-    (ap columns_of (line_same pieces cells) ∙ cells-columns cells ∙ line_width cells h) behind))
+    (λ y. rw y (moved_after many (dots_some t.characters) ss (cells_width 0 cells) shown 0 0 ms whole is
+    (first_after many (dots_some t.characters) ss (cells_width 0 cells) shown whole is) apart after))
+    (λ n. rw n (same_after (cells_width 0 cells) (text_cut t None all cells pieces) ms
+    (ap columns_of (line_same pieces cells) ∙ cells-columns cells ∙ line_width cells h) after))
 
-pub behind_shown : (s : SnippetSettings) (labels : List DrawnLabel) (source : List ℕ) (line : Line)
-    (pieces : List Highlight) → AreBehindShown s labels line (cells_of s source line) pieces
-behind_shown s labels source line pieces =
+pub after_shown : (s : SnippetSettings) (labels : List DrawnLabel) (source : List ℕ) (line : Line)
+    (pieces : List Highlight) → AreAfterShown s labels line (cells_of s source line) pieces
+after_shown s labels source line pieces =
     let cells : List Cell = cells_of s source line in
     let one : List DrawnLabel = one_line line labels in
     let text : Text = text_of_cells cells line.text_end in
-    shown_behind s.theme s.layout.line_columns (line_marks line cells one)
+    shown_after s.theme s.layout.line_columns (line_marks line cells one)
     (cut_ends line cells one (multi_line line labels)) cells pieces (line_columns s source line)
-    (marks_apart text one) (behind_text text one)
+    (marks_apart text one) (all_after_text text one)

@@ -37,12 +37,12 @@ standing-front (g ∷ a) b column lt =
     (λ y. rw y refl)
     (λ n. rw n (standing-front a b (column - g.columns) (omega (arith, lt, ltb-false column g.columns n))))
 
-pub standing-behind : (a b : List Glyph) (column : ℕ) → columns_of a ≤ column
+pub standing-after : (a b : List Glyph) (column : ℕ) → columns_of a ≤ column
     → standing_at (a ++ b) column ≡ standing_at b (column - columns_of a)
-standing-behind [] b column le = ap (standing_at b) (omega arith)
-standing-behind (g ∷ a) b column le =
+standing-after [] b column le = ap (standing_at b) (omega arith)
+standing-after (g ∷ a) b column le =
     let past : ltb column g.columns ≡ false = le-ltb column g.columns (omega (arith, le)) in
-    rw past (standing-behind a b (column - g.columns) (omega (arith, le)) ∙ ap (standing_at b) (omega arith))
+    rw past (standing-after a b (column - g.columns) (omega (arith, le)) ∙ ap (standing_at b) (omega arith))
 
 printed-append : (a b : List Cell) → printed_cells (a ++ b) ≡ printed_cells a ++ printed_cells b
 printed-append [] b = refl
@@ -73,11 +73,11 @@ module _ (run : Run) (many : ℕ) (all : columns_of run.glyphs ≡ many) where
       let own : List Glyph = printed_cells s.cells in
       let rest : List Glyph = printed_cells (cells_in later) in
       let width : columns_of (own_pieces run s) ≡ row_columns many s = own-columns run many s all in
-      standing-behind (own_pieces run s) (pieces_shown run later) (row_columns many s + row) (omega (arith, width))
+      standing-after (own_pieces run s) (pieces_shown run later) (row_columns many s + row) (omega (arith, width))
       ∙ ap (standing_at (pieces_shown run later)) (omega (arith, width))
       ∙ same
       ∙ sym (ap (λ r. standing_at r column) (printed-append s.cells (cells_in later))
-      ∙ standing-behind own rest column (omega (arith, le, cells-columns s.cells))
+      ∙ standing-after own rest column (omega (arith, le, cells-columns s.cells))
       ∙ ap (λ columns. standing_at rest (column - columns)) (cells-columns s.cells))
 
   same_at : (ss : List Stretch) (column : ℕ) → is_shown_at ss column ≡ true

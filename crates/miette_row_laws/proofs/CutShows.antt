@@ -155,7 +155,7 @@ within_is reach cell column some h =
       first = omega arith;
       last = omega (arith, some);
       before = omega (arith, low);
-      behind = omega (arith, some, high);
+      after = omega (arith, some, high);
     }
 
 pub is_within_of : (reach : ℕ) (cell : Cell) (column : ℕ) → IsWithin reach cell column → is_within reach cell column
@@ -163,7 +163,7 @@ pub is_within_of : (reach : ℕ) (cell : Cell) (column : ℕ) → IsWithin reach
 is_within_of reach cell column h =
     and_from (leb cell.from (column + reach)) (ltb column (cell.until + reach))
     (le-leb cell.from (column + reach) (omega (arith, h.first, h.before)))
-    (lt-ltb column (cell.until + reach) (omega (arith, h.last, h.behind)))
+    (lt-ltb column (cell.until + reach) (omega (arith, h.last, h.after)))
 
 -- ---- what is printed
 

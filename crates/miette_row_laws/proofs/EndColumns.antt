@@ -26,20 +26,20 @@ fewer many near p q (c ∷ cs) le =
     (λ f. rw (n, f) (fewer many near (p + (c.until - c.from)) (q + (c.until - c.from)) cs (omega (arith, le)))))
 
 -- after a column no cell has it
-behind_same : (many end column p : ℕ) (near : Cell → Bool) (cells : List Cell) → AreColumns column cells
+after_same : (many end column p : ℕ) (near : Cell → Bool) (cells : List Cell) → AreColumns column cells
     → end < column → shown_columns many (also_at end near) p cells ≡ shown_columns many near p cells
-behind_same many end column p near [] h lt = refl
-behind_same many end column p near (c ∷ cs) h lt =
+after_same many end column p near [] h lt = refl
+after_same many end column p near (c ∷ cs) h lt =
     let none : is_within 0 c end ≡ false = and_left (leb c.from (end + 0)) (ltb end (c.until + 0))
     (lt-leb c.from (end + 0) (omega (arith, h.0, lt))) in
     let later : end < c.until = omega (arith, h.0, h.1, lt) in
     by_cases {C = shown_columns many (also_at end near) p (c ∷ cs) ≡ shown_columns many near p (c ∷ cs)}
     (eqb c.from c.until)
-    (λ y. rw y (behind_same many end c.until p near cs h.2 later))
+    (λ y. rw y (after_same many end c.until p near cs h.2 later))
     (λ n. by_cases {C = shown_columns many (also_at end near) p (c ∷ cs) ≡ shown_columns many near p (c ∷ cs)}
     (near c)
-    (λ y. rw (n, none, y) (omega (arith, behind_same many end c.until 0 near cs h.2 later)))
-    (λ f. rw (n, none, f) (behind_same many end c.until (p + (c.until - c.from)) near cs h.2 later)))
+    (λ y. rw (n, none, y) (omega (arith, after_same many end c.until 0 near cs h.2 later)))
+    (λ f. rw (n, none, f) (after_same many end c.until (p + (c.until - c.from)) near cs h.2 later)))
 
 -- one end more needs its own character, and dots before it
 one_more : (many widest end column p : ℕ) (near : Cell → Bool) (cells : List Cell) → AreColumns column cells
@@ -66,7 +66,7 @@ one_more many widest end column p near (c ∷ cs) h w =
     rw (n, both, f) (omega (
       arith,
       w.0,
-      behind_same many end c.until 0 near cs h.2 past,
+      after_same many end c.until 0 near cs h.2 past,
       fewer many near 0 (p + own) cs (omega arith),
     )))
     (λ g. let none : also_at end near c ≡ false = or_from (is_within 0 c end) (near c) g f in

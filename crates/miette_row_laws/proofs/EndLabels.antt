@@ -22,8 +22,8 @@ use Rattle.miette_snippet_rules.specs.rules.SnippetLayout.{cells_of, line_or_bre
 use Rattle.miette_snippet_rules.specs.rules.SnippetLayout.{drawn_labels, all_snippets, settings_around, place_of}
 use Rattle.miette_snippet_rules.specs.rules.SnippetLayout.{rows_unless, snippet_rows}
 use Rattle.miette_page.specs.rules.Rows.{Row}
-use Rattle.miette_row_laws.specs.laws.Ends.{draws_ends, last_line, stands_behind, EndsStandBehind, AreBehindText}
-use Rattle.miette_row_laws.specs.laws.Ends.{BeginBehind, with_ends}
+use Rattle.miette_row_laws.specs.laws.Ends.{draws_ends, last_line, stands_after, EndsStandAfter, AreAfterText}
+use Rattle.miette_row_laws.specs.laws.Ends.{BeginAfter, with_ends}
 use Rattle.miette_source_lines.proofs.Cuts.{cut_le, lines_cut}
 use Rattle.miette_basics.proofs.Cases.{by_cases}
 use Rattle.miette_labels.proofs.OwnContexts.{own_ordered, order_any}
@@ -46,7 +46,7 @@ last_of_bytes bytes some = last_cut 0 (length bytes) (lines_of bytes) (lines_cut
 
 -- an empty label at a line's last byte
 at_last : (line : Line) (n : ℕ) (style : Style) (parts : List (List ℕ)) → line.start < n → line.end ≡ n →
-    stands_behind line (record { start = n - 1; after = n - 1; style = style; parts = parts; behind = true }) ≡ true
+    stands_after line (record { start = n - 1; after = n - 1; style = style; parts = parts; after_text = true }) ≡ true
 at_last line n style parts from to =
     let empty : eqb (n - 1) (n - 1) ≡ true = eq-eqb (n - 1) (n - 1) refl in
     let a : leb line.start (n - 1) ≡ true = le-leb line.start (n - 1) (omega (arith, from)) in
@@ -56,13 +56,13 @@ at_last line n style parts from to =
     rw (empty, a, b, c, d) refl
 
 one_stands : (line : Line) (styles : List Style) (n i : ℕ) (label : Label) → line.start < n → line.end ≡ n →
-    stands_behind line (drawn_label true styles n i label) ≡ is_at_end n label
+    stands_after line (drawn_label true styles n i label) ≡ is_at_end n label
 one_stands line styles n i label from to =
-    by_cases {C = stands_behind line (drawn_label true styles n i label) ≡ is_at_end n label} (eqb label.span.offset n)
+    by_cases {C = stands_after line (drawn_label true styles n i label) ≡ is_at_end n label} (eqb label.span.offset n)
     (λ t. rw t (at_last line n (style_at styles i) (parts_of label.text) from to)) (λ f. rw f refl)
 
 all_stand : (line : Line) (styles : List Style) (n i : ℕ) (labels : List Label) → line.start < n → line.end ≡ n →
-    map (stands_behind line) (drawn_from true styles n i labels) ≡ map (is_at_end n) labels
+    map (stands_after line) (drawn_from true styles n i labels) ≡ map (is_at_end n) labels
 all_stand line styles n i [] from to = refl
 all_stand line styles n i (label ∷ labels) from to = ap₂ (λ b bs. b ∷ bs) (one_stands line styles n i label from to)
     (all_stand line styles n (i + 1) labels from to)
@@ -77,27 +77,27 @@ some_bytes n lines (label ∷ labels) h =
     some_bytes n lines labels (sym (ap (λ b. b || list_any (λ label. shows_end n (lines label) label) labels) no) ∙ h))
 
 pub ends_stand : (s : SnippetSettings) (bytes : List ℕ) (labels : List Label)
-    → draws_ends s (length bytes) labels ≡ true → EndsStandBehind s bytes labels
+    → draws_ends s (length bytes) labels ≡ true → EndsStandAfter s bytes labels
 ends_stand s bytes labels drawn =
     let n : ℕ = length bytes in
     let line : Line = last_line (lines_of bytes) in
     let last = last_of_bytes bytes (some_bytes n _ labels (and_parts s.layout.end_labels _ drawn).1) in
-    ap (λ b. map (stands_behind line) (drawn_from b s.theme.styles.highlights n 0 labels)) drawn
+    ap (λ b. map (stands_after line) (drawn_from b s.theme.styles.highlights n 0 labels)) drawn
     ∙ all_stand line s.theme.styles.highlights n 0 labels last.0 last.1
 
 -- ---- their marks
 
-far : (text : Text) (reached : ℕ) (label : DrawnLabel) → label.behind ≡ true
+far : (text : Text) (reached : ℕ) (label : DrawnLabel) → label.after_text ≡ true
     → mark_from text reached label ≡ max text.width reached
 far text reached label h = rw h refl
 
 far_from : (text : Text) (reached : ℕ) (labels : List DrawnLabel)
-    → BeginBehind text.width reached (marks_from text reached labels)
+    → BeginAfter text.width reached (marks_from text reached labels)
 far_from text reached [] = tt
 far_from text reached (label ∷ labels) = (far text reached label, far_from text (mark_until text reached label) labels)
 
-pub behind_text : (text : Text) (labels : List DrawnLabel) → AreBehindText text labels
-behind_text text labels = far_from text 0 labels
+pub all_after_text : (text : Text) (labels : List DrawnLabel) → AreAfterText text labels
+all_after_text text labels = far_from text 0 labels
 
 -- ---- where no label shows the end, nothing changes
 

@@ -11,7 +11,7 @@ use Rattle.miette_row_laws.specs.laws.Pictures.{mark_at, marks_end, HangsFrom, P
 use Rattle.miette_row_laws.proofs.GlyphRows.{mark_row, lead_at, lead, corner_pieces, beside_pieces, glyph_rows_of_parts}
 use Rattle.miette_row_laws.proofs.GlyphRows.{glyph_rows_below}
 use Rattle.miette_basics.proofs.Cases.{by_cases}
-use Rattle.miette_row_laws.proofs.Columns.{code_at-here, code_at-front, code_at-behind, columns_of-map}
+use Rattle.miette_row_laws.proofs.Columns.{code_at-here, code_at-front, code_at-after, columns_of-map}
 use Rattle.miette_row_laws.proofs.Columns.{columns_of-append, code_at-append}
 use Rattle.miette_style.specs.rules.Themes.{Characters}
 use Rattle.miette_snippet_rules.specs.rules.Settings.{SnippetSettings}
@@ -153,7 +153,7 @@ cornered : (v : SnippetSettings) (n : IsNarrow v.width v.theme.characters) (earl
     × Begins (lead v earlier mark ++ ((p ∷ q ∷ r ∷ s ∷ []) ++ part)) (mark.anchor + 4) part
 cornered v n earlier mark p q r s part is a b c d = (
   ap (code_at (lead v earlier mark ++ ((p ∷ q ∷ r ∷ s ∷ []) ++ part))) (omega arith)
-      ∙ code_at-behind (lead_at v earlier) 0 mark.anchor 0 ((p ∷ q ∷ r ∷ s ∷ []) ++ part)
+      ∙ code_at-after (lead_at v earlier) 0 mark.anchor 0 ((p ∷ q ∷ r ∷ s ∷ []) ++ part)
       (lead_at-narrow v n earlier)
       ∙ code_at-here p ((q ∷ r ∷ s ∷ []) ++ part) a
       ∙ ap Some is,

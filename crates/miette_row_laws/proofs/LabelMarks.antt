@@ -21,7 +21,7 @@ use Rattle.miette_snippet_rules.proofs.CutColumns.{AreColumns}
 use Rattle.miette_source_lines.specs.rules.Lines.{Line}
 use Rattle.miette_row_laws.specs.laws.Cuts.{standing_at}
 use Rattle.miette_row_laws.specs.laws.LabelMarks.{HasByte, StandAtColumns, StandPast, StandUnder}
-use Rattle.miette_row_laws.proofs.CutMarks.{standing-behind, standing-front}
+use Rattle.miette_row_laws.proofs.CutMarks.{standing-after, standing-front}
 use Rattle.miette_row_laws.proofs.CutWidth.{printed-columns}
 use Rattle.miette_row_laws.proofs.Whole.{line_columns}
 
@@ -110,10 +110,10 @@ first_at at end (c ∷ cs) text_end width offset cell are there has =
     (first_or_later c cs cell there)
 
 -- after an offset up to which no cell begins
-behind_at : (column at end : ℕ) (cells : List Cell) (offset : ℕ) → AreColumns column cells → AreBytes at end cells
+after_at : (column at end : ℕ) (cells : List Cell) (offset : ℕ) → AreColumns column cells → AreBytes at end cells
     → offset ≤ at → at ≤ end → last_column cells end (cells_width column cells) offset ≡ column
-behind_at column at end [] offset columns are le fits = rw (le-leb offset end (omega (arith, le, fits))) refl
-behind_at column at end (c ∷ cs) offset columns are le fits =
+after_at column at end [] offset columns are le fits = rw (le-leb offset end (omega (arith, le, fits))) refl
+after_at column at end (c ∷ cs) offset columns are le fits =
     rw (le-leb offset c.start (omega (arith, are.0, le))) columns.0
 
 last_at : (column at end : ℕ) (cells : List Cell) (offset : ℕ) (cell : Cell) → AreColumns column cells
@@ -124,7 +124,7 @@ last_at column at end (c ∷ cs) offset cell columns are there some has =
     ⊎_elim {C = last_column (c ∷ cs) end (cells_width column (c ∷ cs)) offset ≡ cell.until}
     (λ (e : cell ≡ c). let n : leb offset c.start ≡ false =
     lt-leb offset c.start (omega (arith, some, has.0, ap (λ (x : Cell). x.start) e)) in
-    rw n (behind_at c.until c.after end cs offset columns.2 are.3
+    rw n (after_at c.until c.after end cs offset columns.2 are.3
     (omega (arith, some, has.1, ap (λ (x : Cell). x.after) e)) are.2 ∙ sym (ap (λ (x : Cell). x.until) e)))
     (λ (later : Contains cs cell). let n : leb offset c.start ≡ false =
     lt-leb offset c.start (omega (arith, some, has.0, are.1, later_byte c.after end cs cell are.3 later)) in
@@ -169,11 +169,11 @@ first_at_end at end [] width offset are is = rw (le-leb offset end (omega (arith
 first_at_end at end (c ∷ cs) width offset are is =
     rw (le-ltb offset c.after (omega (arith, are.2, is))) (first_at_end c.after end cs width offset are.3 is)
 
-first_behind : (at end : ℕ) (cells : List Cell) (width offset : ℕ) → AreBytes at end cells → end < offset
+first_after : (at end : ℕ) (cells : List Cell) (width offset : ℕ) → AreBytes at end cells → end < offset
     → first_column cells end width offset ≡ width + 1
-first_behind at end [] width offset are lt = rw (lt-leb offset end lt) refl
-first_behind at end (c ∷ cs) width offset are lt =
-    rw (le-ltb offset c.after (omega (arith, are.2, lt))) (first_behind c.after end cs width offset are.3 lt)
+first_after at end [] width offset are lt = rw (lt-leb offset end lt) refl
+first_after at end (c ∷ cs) width offset are lt =
+    rw (le-ltb offset c.after (omega (arith, are.2, lt))) (first_after c.after end cs width offset are.3 lt)
 
 last_past : (at end : ℕ) (cells : List Cell) (width offset : ℕ) → AreBytes at end cells → end < offset
     → last_column cells end width offset ≡ width + 1
@@ -192,8 +192,8 @@ past_from end cells at reached (label ∷ labels) are =
       record {
         at_end = λ is shown. ap (λ b. max (cond b text.width first) reached) shown
             ∙ ap (λ n. max n reached) (first_at_end at end cells text.width label.start are is);
-        behind_end = λ lt shown. ap (λ b. max (cond b text.width first) reached) shown
-            ∙ ap (λ n. max n reached) (first_behind at end cells text.width label.start are lt);
+        after_end = λ lt shown. ap (λ b. max (cond b text.width first) reached) shown
+            ∙ ap (λ n. max n reached) (first_after at end cells text.width label.start are lt);
         last = λ some lt.
             ap (λ b. cond b (from + 1) (max last (from + 1)))
             (ne_eqb label.start label.after (λ e. omega (arith, some, e)))
@@ -223,7 +223,7 @@ stands_at from (c ∷ cs) cell column are there le lt =
     (omega (arith, printed-columns c, are.0, first, last, le, lt))
     ∙ ap₂ (λ x n. standing_at (printed_glyphs x) n) (sym e) (omega (arith, are.0, first)))
     (λ (later : Contains cs cell). let past : c.until ≤ cell.from = later_column c.until cs cell are.2 later in
-    standing-behind (printed_glyphs c) (printed_cells cs) (column - from)
+    standing-after (printed_glyphs c) (printed_cells cs) (column - from)
     (omega (arith, printed-columns c, are.0, past, le))
     ∙ ap (standing_at (printed_cells cs)) (omega (arith, printed-columns c, are.0, are.1, past, le))
     ∙ stands_at c.until cs cell column are.2 later le lt)

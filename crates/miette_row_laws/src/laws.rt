@@ -7,7 +7,7 @@ ghost use Rattle.std.specs.List.{AllByRecursion};
 ghost use Rattle.miette_protocol.specs.views.Meaning.{Label};
 ghost use Rattle.miette_protocol.specs.rules.Reading.{Source, Contents};
 ghost use Rattle.miette_row_laws.specs.laws.Clean.{AreCleanDrawings, IsCleanLabel, IsCleanRow, IsCleanSource};
-ghost use Rattle.miette_row_laws.specs.laws.Ends.{AreBehindShown, AreBehindText, EndsStandBehind, draws_ends};
+ghost use Rattle.miette_row_laws.specs.laws.Ends.{AreAfterShown, AreAfterText, EndsStandAfter, draws_ends};
 ghost use Rattle.miette_row_laws.specs.laws.Ends.{with_ends};
 ghost use Rattle.miette_row_laws.specs.laws.Cuts.{AreAsWide, AreMoved, Fits, GroupsFit, IsCutBy, IsCutByReach};
 ghost use Rattle.miette_row_laws.specs.laws.Cuts.{IsSameAt, IsWithin, most_columns, pieces_shown, without_limit};
@@ -163,10 +163,10 @@ pub fn lines_that_fit_stay()
 /// Where none of them has one, or no label is at the end, or the source is empty, the rows are those of before.
 pub fn ends_are_drawn()
     ensures lines { (s : SnippetSettings) (bytes : List ℕ) (labels : List Label) →
-        draws_ends s (length bytes) labels ≡ true → EndsStandBehind s bytes labels }
-    ensures marks { (text : Text) (labels : List DrawnLabel) → AreBehindText text labels }
+        draws_ends s (length bytes) labels ≡ true → EndsStandAfter s bytes labels }
+    ensures marks { (text : Text) (labels : List DrawnLabel) → AreAfterText text labels }
     ensures row { (s : SnippetSettings) (labels : List DrawnLabel) (source : List ℕ) (line : Line)
-        (pieces : List Highlight) → AreBehindShown s labels line (cells_of s source line) pieces }
+        (pieces : List Highlight) → AreAfterShown s labels line (cells_of s source line) pieces }
     ensures others { (ends : Bool) (s : SnippetSettings) (source : Source) (labels : List Label) (answers : Answers) →
         some_shows_end s.layout.context_lines (length source.bytes) labels ≡ false →
         snippet_rows (with_ends ends s) source labels answers

@@ -137,7 +137,7 @@ module _ (from : Format) (files : List ℕ → Option Source) where
       → both ≡ ts ++ made → Appends after later (passed_on number kind row)
       → with_it ≡ record { unread = verdict.unread || kind_unread kind; error = verdict.error || kind_grave kind }
       → following ≡ number + ends_in row → Gathering from files (parts ++ row ∷ []) both before later following with_it
-  more parts ts made both before after later number verdict with_it row kind following p are joined said is behind =
+  more parts ts made both before after later number verdict with_it row kind following p are joined said is count_is =
       let s : Logged = record { row = row; kind = kind; trees = made } in
       let counted : number ≡ ends_before p.logged + 1 = p.count in
       let was : verdict ≡ verdict_of p.logged = p.is in
@@ -148,7 +148,7 @@ module _ (from : Format) (files : List ℕ → Option Source) where
         trees = joined ∙ ap (λ l. l ++ made) p.trees ∙ sym (trees_more p.logged s);
         notes = subst (Appends before later) (sym (notes_more 1 p.logged s number counted))
             (Appends-trans before after later (log_notes 1 p.logged) (passed_on number kind row) p.notes said);
-        count = omega (arith, counted, behind, ends_more p.logged s);
+        count = omega (arith, counted, count_is, ends_more p.logged s);
         is = is ∙ ap₂ verdict_by
             (ap (λ (v : Verdict). v.unread || kind_unread kind) was ∙ sym (any_more is_unread p.logged s))
             (ap (λ (v : Verdict). v.error || kind_grave kind) was ∙ sym (any_more is_grave p.logged s));
@@ -201,9 +201,9 @@ pub parted_at : {X : Type 0} (look : X → List ℕ) (xs : List X) (i : ℕ)
     → map look xs ≡ map look (take i xs) ++ map look (drop i xs)
 parted_at look xs i = ap (map look) (sym (take-append-drop i xs)) ∙ map-append look (take i xs) (drop i xs)
 
-pub parted_behind : {X : Type 0} (look : X → List ℕ) (xs : List X) (i : ℕ) (x : X) → i < length xs
+pub parted_after : {X : Type 0} (look : X → List ℕ) (xs : List X) (i : ℕ) (x : X) → i < length xs
     → x ≡ get_or xs i x → map look xs ≡ (map look (take i xs) ++ look x ∷ []) ++ map look (drop (i + 1) xs)
-parted_behind look xs i x h is =
+parted_after look xs i x h is =
     parted_at look xs (i + 1) ∙ ap (λ l. l ++ map look (drop (i + 1) xs)) (one_more_taken look xs i x h is)
 
 pub one_more_known : {X : Type 0} (look : X → List ℕ) (holds : List ℕ → Type 0) (xs : List X) (i : ℕ) (x : X)

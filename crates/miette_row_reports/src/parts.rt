@@ -128,7 +128,7 @@ fn part_reports<'f, F: Files>(
 }
 
 /// The number of the row after a part whose first row has this number.
-fn number_behind(number: u64, part: &[u8]) -> Result<u64, Fault>
+fn number_after(number: u64, part: &[u8]) -> Result<u64, Fault>
     ensures value { IfOk result (λ following. following ≡ number + ends_in part.now) }
     ensures others { OnErr result (result ≡ Err Fault.Memory) }
 {
@@ -176,7 +176,7 @@ pub fn all_reports<'f, F: Files, E: Write>(
         pass_on(alloc, faults, number, kind, row.bytes)?;
         push_all(&mut list, reports)?;
         verdict = verdict.with(kind);
-        let following = number_behind(number, row.bytes)?;
+        let following = number_after(number, row.bytes)?;
         number = following;
     }
     Ok((verdict, list))

@@ -63,7 +63,7 @@ fn is_shellcheck(from: Format, value: &Value) -> bool
 }
 
 /// A list of one item.
-fn alone<T: Drop>(alloc: Global, item: T) -> Result<Vec<T>, AllocError>
+fn list_of_one<T: Drop>(alloc: Global, item: T) -> Result<Vec<T>, AllocError>
     ensures { IfOk result (λ list. list.items ≡ item ∷ []) }
 {
     let mut list = Vec::new(alloc);
@@ -84,7 +84,7 @@ fn rustc_reports<'f, F: Files>(
         → rustc_trees (F.found files.now) (view value.now) ≡ None }
 {
     match rustc_report(alloc, files, value) {
-        Ok(Some(report)) => Ok(alone(alloc, report)?),
+        Ok(Some(report)) => Ok(list_of_one(alloc, report)?),
         Ok(None) => Ok(Vec::new(alloc)),
         Err(error) => Err(error),
     }

@@ -4,7 +4,7 @@ use Rattle.std.proofs.Common.{sym, ap, ◌∙◌, arith, append_assoc, drop-drop
 use Rattle.std.proofs.lemmas.Bool.Decides.{nat_tests}
 use Rattle.std.proofs.lemmas.List.{drop_more}
 use Rattle.miette_runs.specs.rules.Sequences.{command_len, one_more, is_line_feed, is_bell, begins_terminator}
-use Rattle.miette_runs.specs.rules.Sequences.{sequence_len, Token, Character, Sequence, tokens, tokens_behind}
+use Rattle.miette_runs.specs.rules.Sequences.{sequence_len, Token, Character, Sequence, tokens, tokens_after}
 
 -- i more, where there is any
 abbrev pub counted : ℕ → ℕ → ℕ
@@ -27,7 +27,7 @@ command_step cs i l h k t = ap (λ xs. counted i (command_len xs)) (drop_more cs
     ∙ command_at (get_or cs i 0) (drop (i + 1) cs) i h k (ap begins_terminator (sym (drop_more cs i 0 l)) ∙ t)
 
 -- a text from its next token on
-pub tokens_later : (k : ℕ) (cs : List ℕ) → tokens_behind k cs ≡ tokens (drop k cs)
+pub tokens_later : (k : ℕ) (cs : List ℕ) → tokens_after k cs ≡ tokens (drop k cs)
 tokens_later zero [] = refl
 tokens_later zero (c ∷ cs) = refl
 tokens_later (suc k) [] = refl
@@ -37,8 +37,8 @@ tokens_step : (c : ℕ) (cs : List ℕ) (n : ℕ) → sequence_len (c ∷ cs) �
     ∷ tokens (drop n cs)
 tokens_step c cs n h =
     ap (λ (n : ℕ). elim n as (λ _. List Token) [
-      | zero ↦ Character c ∷ tokens_behind 0 cs
-      | suc k ↦ Sequence (take (suc k) (c ∷ cs)) ∷ tokens_behind k cs
+      | zero ↦ Character c ∷ tokens_after 0 cs
+      | suc k ↦ Sequence (take (suc k) (c ∷ cs)) ∷ tokens_after k cs
     ]) h
     ∙ ap (λ ts. Sequence (c ∷ take n cs) ∷ ts) (tokens_later n cs)
 

@@ -12,68 +12,68 @@ none_more zero h = refl
 none_more (suc n) h = absurd (omega arith)
 
 -- after a character but a line feed
-command_behind : (c : ℕ) (cs : List ℕ) → is_line_feed c ≡ false → command_len (c ∷ cs) ≡ 0 → command_len cs ≡ 0
-command_behind c cs h k = grind (arith, nat_tests, none_more (command_len cs))
+command_after : (c : ℕ) (cs : List ℕ) → is_line_feed c ≡ false → command_len (c ∷ cs) ≡ 0 → command_len cs ≡ 0
+command_after c cs h k = grind (arith, nat_tests, none_more (command_len cs))
 
-control_behind : (cs : List ℕ) → command_len cs ≡ 0 → command_len (drop (control_len cs) cs) ≡ 0
-control_behind [] h = refl
-control_behind (c ∷ cs) h =
+control_after : (cs : List ℕ) → command_len cs ≡ 0 → command_len (drop (control_len cs) cs) ≡ 0
+control_after [] h = refl
+control_after (c ∷ cs) h =
     elim (is_line_feed c) as (λ b. is_line_feed c ≡ b → command_len
     (drop (if b then 0 else if is_final c then 1 else one_more (control_len cs)) (c ∷ cs)) ≡ 0) [
       | true ↦ λ e. h
       | false ↦ λ e.
           elim (is_final c) as (λ b. command_len (drop (if b then 1 else one_more (control_len cs)) (c ∷ cs)) ≡ 0) [
-            | true ↦ command_behind c cs e h
+            | true ↦ command_after c cs e h
             | false ↦ elim (control_len cs) as (λ n. command_len (drop n cs) ≡ 0
                 → command_len (drop (one_more n) (c ∷ cs)) ≡ 0) [
                   | zero ↦ λ k. h
                   | suc n ↦ λ k. k
-                ] (control_behind cs (command_behind c cs e h))
+                ] (control_after cs (command_after c cs e h))
           ]
     ] refl
 
-more_behind : (c n : ℕ) (cs : List ℕ) → command_len (c ∷ cs) ≡ 0 → command_len (drop n cs) ≡ 0
+more_after : (c n : ℕ) (cs : List ℕ) → command_len (c ∷ cs) ≡ 0 → command_len (drop n cs) ≡ 0
     → command_len (drop (one_more n) (c ∷ cs)) ≡ 0
-more_behind c zero cs h k = h
-more_behind c (suc n) cs h k = k
+more_after c zero cs h k = h
+more_after c (suc n) cs h k = k
 
-commands_behind : (cs : List ℕ) → command_len cs ≡ 0 → command_len (drop (command_len cs) cs) ≡ 0
-commands_behind cs h = ap (λ n. command_len (drop n cs)) h ∙ h
+commands_after : (cs : List ℕ) → command_len cs ≡ 0 → command_len (drop (command_len cs) cs) ≡ 0
+commands_after cs h = ap (λ n. command_len (drop n cs)) h ∙ h
 
 not_feed : (c k : ℕ) → (c == k) ≡ true → is_line_feed k ≡ false → is_line_feed c ≡ false
 not_feed c k h e = grind (arith, nat_tests)
 
-after_behind : (cs : List ℕ) → command_len cs ≡ 0 → command_len (drop (after_escape_len cs) cs) ≡ 0
-after_behind [] h = refl
-after_behind (c ∷ cs) h =
+after_after : (cs : List ℕ) → command_len cs ≡ 0 → command_len (drop (after_escape_len cs) cs) ≡ 0
+after_after [] h = refl
+after_after (c ∷ cs) h =
     elim (c == 91) as (λ b. (c == 91) ≡ b → command_len (drop
     (if b then one_more (control_len cs) else if c == 93 then one_more (command_len cs) else 0) (c ∷ cs)) ≡ 0) [
-      | true ↦ λ e. more_behind c (control_len cs) cs h (control_behind cs
-          (command_behind c cs (not_feed c 91 e refl) h))
+      | true ↦ λ e. more_after c (control_len cs) cs h (control_after cs
+          (command_after c cs (not_feed c 91 e refl) h))
       | false ↦ λ _.
           elim (c == 93) as (λ b. (c == 93) ≡ b → command_len
           (drop (if b then one_more (command_len cs) else 0) (c ∷ cs)) ≡ 0) [
-            | true ↦ λ e. more_behind c (command_len cs) cs h
-                (commands_behind cs (command_behind c cs (not_feed c 93 e refl) h))
+            | true ↦ λ e. more_after c (command_len cs) cs h
+                (commands_after cs (command_after c cs (not_feed c 93 e refl) h))
             | false ↦ λ _. h
           ] refl
     ] refl
 
-sequence_behind : (cs : List ℕ) → command_len cs ≡ 0 → command_len (drop (sequence_len cs) cs) ≡ 0
-sequence_behind [] h = refl
-sequence_behind (c ∷ cs) h =
+sequence_after : (cs : List ℕ) → command_len cs ≡ 0 → command_len (drop (sequence_len cs) cs) ≡ 0
+sequence_after [] h = refl
+sequence_after (c ∷ cs) h =
     elim (is_escape c) as (λ b. (c == 27) ≡ b → command_len
     (drop (if b then one_more (after_escape_len cs) else 0) (c ∷ cs)) ≡ 0) [
-      | true ↦ λ e. more_behind c (after_escape_len cs) cs h
-          (after_behind cs (command_behind c cs (not_feed c 27 e refl) h))
+      | true ↦ λ e. more_after c (after_escape_len cs) cs h
+          (after_after cs (command_after c cs (not_feed c 27 e refl) h))
       | false ↦ λ _. h
     ] refl
 
 -- in a text, from an index on
-pub open_behind : (cs : List ℕ) (i n : ℕ) (b : Bool) → n ≡ sequence_len (drop i cs)
+pub open_after : (cs : List ℕ) (i n : ℕ) (b : Bool) → n ≡ sequence_len (drop i cs)
     → (b ≡ true → command_len (drop i cs) ≡ 0) → b ≡ true → command_len (drop (i + n) cs) ≡ 0
-open_behind cs i n b e h t = ap command_len (sym (drop-drop n i cs) ∙ ap (λ n. drop n (drop i cs)) e)
-    ∙ sequence_behind (drop i cs) (h t)
+open_after cs i n b e h t = ap command_len (sym (drop-drop n i cs) ∙ ap (λ n. drop n (drop i cs)) e)
+    ∙ sequence_after (drop i cs) (h t)
 
 tail_opened : (c : ℕ) (cs : List ℕ) → begins_command (c ∷ cs) ≡ true → sequence_len (c ∷ cs) ≡ 0 → command_len cs ≡ 0
 tail_opened c [] b h = refl
@@ -84,14 +84,14 @@ tail_opened c (d ∷ ds) b h =
     let z : command_len ds ≡ 0 = none_more (command_len ds) (none_more (one_more (command_len ds)) g) in
     grind (arith, nat_tests, z, f)
 
-pub opened_behind : (cs : List ℕ) (i : ℕ) → i < length cs → sequence_len (drop i cs) ≡ 0 → begins_command (drop i cs)
+pub opened_after : (cs : List ℕ) (i : ℕ) → i < length cs → sequence_len (drop i cs) ≡ 0 → begins_command (drop i cs)
     ≡ true → command_len (drop (i + 1) cs) ≡ 0
-opened_behind cs i l h b = tail_opened (get_or cs i 0) (drop (i + 1) cs)
+opened_after cs i l h b = tail_opened (get_or cs i 0) (drop (i + 1) cs)
     (ap begins_command (sym (drop_more cs i 0 l)) ∙ b) (ap sequence_len (sym (drop_more cs i 0 l)) ∙ h)
 
-pub plain_behind : (cs : List ℕ) (i c : ℕ) (b : Bool) → i < length cs → c ≡ get_or cs i c → (c ≡ 10 → ⊥)
+pub plain_after : (cs : List ℕ) (i c : ℕ) (b : Bool) → i < length cs → c ≡ get_or cs i c → (c ≡ 10 → ⊥)
     → (b ≡ true → command_len (drop i cs) ≡ 0) → b ≡ true → command_len (drop (i + 1) cs) ≡ 0
-plain_behind cs i c b l e h k t =
+plain_after cs i c b l e h k t =
     let f : is_line_feed c ≡ false = grind (arith, nat_tests) in
-    command_behind c (drop (i + 1) cs) f (ap (λ x. command_len (x ∷ drop (i + 1) cs)) e
+    command_after c (drop (i + 1) cs) f (ap (λ x. command_len (x ∷ drop (i + 1) cs)) e
     ∙ ap command_len (sym (drop_more cs i c l)) ∙ k t)

@@ -2,7 +2,7 @@
 use Rattle.std.proofs.Common.{◌≡◌, ℕ, zero, suc, ◌<◌, true, List, [], ◌∷◌, ◌++◌, length, take, refl, ap, ◌∙◌, arith}
 use Rattle.std.proofs.lemmas.Bool.Decides.{nat_tests}
 use Rattle.std.proofs.lemmas.List.{take_at}
-use Rattle.miette_runs.specs.rules.Sequences.{Token, Character, Sequence, tokens, tokens_behind, spell, one_more}
+use Rattle.miette_runs.specs.rules.Sequences.{Token, Character, Sequence, tokens, tokens_after, spell, one_more}
 use Rattle.miette_runs.specs.rules.Sequences.{control_len, sequence_len}
 use Rattle.miette_runs.specs.rules.Colours.{is_colour, is_colour_end}
 use Rattle.miette_basics.specs.rules.Lists.{is_nil}
@@ -41,7 +41,7 @@ colour-sequence (c ∷ d ∷ s) r h = grind (
   one_more_pos (control_len (s ++ r)),
 )
 
-tokens_skip : (s r : List ℕ) → tokens_behind (length s) (s ++ r) ≡ tokens_behind 0 r
+tokens_skip : (s r : List ℕ) → tokens_after (length s) (s ++ r) ≡ tokens_after 0 r
 tokens_skip [] [] = refl
 tokens_skip [] (c ∷ r) = refl
 tokens_skip (c ∷ s) r = tokens_skip s r
@@ -52,31 +52,31 @@ pub tokens_sequence : (s r : List ℕ) → 0 < length s → sequence_len (s ++ r
 tokens_sequence [] r p h = absurd (omega arith)
 tokens_sequence (c ∷ s) r p h =
     ap (λ (n : ℕ). elim n as (λ _. List Token) [
-      | zero ↦ Character c ∷ tokens_behind 0 (s ++ r)
-      | suc k ↦ Sequence (take (suc k) (c ∷ (s ++ r))) ∷ tokens_behind k (s ++ r)
+      | zero ↦ Character c ∷ tokens_after 0 (s ++ r)
+      | suc k ↦ Sequence (take (suc k) (c ∷ (s ++ r))) ∷ tokens_after k (s ++ r)
     ]) h
-    ∙ ap (λ xs. Sequence (c ∷ xs) ∷ tokens_behind (length s) (s ++ r)) (take_at s r (length s) refl)
+    ∙ ap (λ xs. Sequence (c ∷ xs) ∷ tokens_after (length s) (s ++ r)) (take_at s r (length s) refl)
     ∙ ap (λ ts. Sequence (c ∷ s) ∷ ts) (tokens_skip s r)
 
 pub tokens_character : (c : ℕ) (r : List ℕ) → sequence_len (c ∷ r) ≡ 0 → tokens (c ∷ r) ≡ Character c ∷ tokens r
 tokens_character c r h =
     ap (λ (n : ℕ). elim n as (λ _. List Token) [
-      | zero ↦ Character c ∷ tokens_behind 0 r
-      | suc k ↦ Sequence (take (suc k) (c ∷ r)) ∷ tokens_behind k r
+      | zero ↦ Character c ∷ tokens_after 0 r
+      | suc k ↦ Sequence (take (suc k) (c ∷ r)) ∷ tokens_after k r
     ]) h
 
-spell-behind : (k : ℕ) (cs : List ℕ) → take k cs ++ spell (tokens_behind k cs) ≡ cs
-spell-behind zero [] = refl
-spell-behind (suc k) [] = refl
-spell-behind (suc k) (c ∷ cs) = ap (λ xs. c ∷ xs) (spell-behind k cs)
-spell-behind zero (c ∷ cs) =
+spell-after : (k : ℕ) (cs : List ℕ) → take k cs ++ spell (tokens_after k cs) ≡ cs
+spell-after zero [] = refl
+spell-after (suc k) [] = refl
+spell-after (suc k) (c ∷ cs) = ap (λ xs. c ∷ xs) (spell-after k cs)
+spell-after zero (c ∷ cs) =
     elim (sequence_len (c ∷ cs)) as (λ n. spell (elim n as (λ _. List Token) [
-      | zero ↦ Character c ∷ tokens_behind 0 cs
-      | suc k ↦ Sequence (take (suc k) (c ∷ cs)) ∷ tokens_behind k cs
+      | zero ↦ Character c ∷ tokens_after 0 cs
+      | suc k ↦ Sequence (take (suc k) (c ∷ cs)) ∷ tokens_after k cs
     ]) ≡ c ∷ cs) [
-      | zero ↦ ap (λ xs. c ∷ xs) (spell-behind 0 cs)
-      | suc k ↦ ap (λ xs. c ∷ xs) (spell-behind k cs)
+      | zero ↦ ap (λ xs. c ∷ xs) (spell-after 0 cs)
+      | suc k ↦ ap (λ xs. c ∷ xs) (spell-after k cs)
     ]
 
 pub spell-tokens : (text : List ℕ) → spell (tokens text) ≡ text
-spell-tokens text = spell-behind 0 text
+spell-tokens text = spell-after 0 text

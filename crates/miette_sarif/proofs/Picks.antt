@@ -66,17 +66,17 @@ no_label test xs e =
 -- ---- in those of several sources
 
 -- what is picked after some groups
-abbrev pub behind : List Group → Option Picked → Option Picked
-behind gs found = option_map (λ it. record { mark = it.mark; others = gs ++ it.others }) found
+abbrev pub after_groups : List Group → Option Picked → Option Picked
+after_groups gs found = option_map (λ it. record { mark = it.mark; others = gs ++ it.others }) found
 
-pub behind_none : (found : Option Picked) → behind [] found ≡ found
-behind_none None = refl
-behind_none (Some it) = refl
+pub after_none : (found : Option Picked) → after_groups [] found ≡ found
+after_none None = refl
+after_none (Some it) = refl
 
-pub behind_one : (gs : List Group) (g : Group) (hs : List Group) (found : Option Picked)
-    → behind gs (picked_or None g hs found) ≡ behind (gs ++ g ∷ []) found
-behind_one gs g hs None = refl
-behind_one gs g hs (Some it) =
+pub after_one : (gs : List Group) (g : Group) (hs : List Group) (found : Option Picked)
+    → after_groups gs (picked_or None g hs found) ≡ after_groups (gs ++ g ∷ []) found
+after_one gs g hs None = refl
+after_one gs g hs (Some it) =
     let made : List Group → Option Picked = λ others. Some (record { mark = it.mark; others = others }) in
     ap made (sym (append_assoc gs (g ∷ []) it.others))
 

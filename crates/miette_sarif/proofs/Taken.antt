@@ -9,7 +9,7 @@ use Rattle.miette_sarif.specs.declared.labels.Group.{Group as GroupHere}
 use Rattle.miette_sarif.specs.rules.Findings.{Mark, SeenSource}
 use Rattle.miette_sarif.specs.rules.Marks.{Group, Picked, mark_over, pick, pick_in, pick_label, pick_over, picked_or}
 use Rattle.miette_sarif.specs.views.Grouped.{group_of, groups_in, labels_in}
-use Rattle.miette_sarif.proofs.Picks.{behind, found_label, no_label}
+use Rattle.miette_sarif.proofs.Picks.{after_groups, found_label, no_label}
 use denote.Ref.{Bor}
 
 abbrev with_labels : Option SeenSource → List Label → Group
@@ -42,7 +42,7 @@ set_is (y ∷ ys) zero x h = refl
 set_is (y ∷ ys) (suc i) x h = ap (λ l. y ∷ l) (set_is ys i x (omega (arith, h)))
 
 pub first_taken : (test : Label → Bool) (gs now : List GroupHere) (i : ℕ) (g h : GroupHere) (mark : Mark)
-    → pick test (groups_in gs) ≡ behind (groups_in (take i gs)) (pick test (groups_in (drop i gs)))
+    → pick test (groups_in gs) ≡ after_groups (groups_in (take i gs)) (pick test (groups_in (drop i gs)))
     → now ≡ gs → i < length gs → g ≡ get_or now i g → pick_in test (group_of g) ≡ Some (mark, group_of h)
     → pick test (groups_in gs) ≡ Some (record { mark = mark; others = groups_in (set now i h) })
 first_taken test gs now i g h mark picked same within is found =
@@ -55,5 +55,5 @@ first_taken test gs now i g h mark picked same within is found =
     ∙ ap (λ o. picked_or o (group_of g) (groups_in later) (pick test (groups_in later))) found in
     let others : groups_in (take i now) ++ group_of h ∷ groups_in later ≡ groups_in (set now i h) =
     sym (map-append group_of (take i now) (h ∷ later)) ∙ ap groups_in (sym (set_is now i h inside)) in
-    picked ∙ ap (λ l. behind (groups_in (take i l)) (pick test (groups_in (drop i l)))) (sym same)
-    ∙ ap (behind (groups_in (take i now))) step ∙ ap made others
+    picked ∙ ap (λ l. after_groups (groups_in (take i l)) (pick test (groups_in (drop i l)))) (sym same)
+    ∙ ap (after_groups (groups_in (take i now))) step ∙ ap made others

@@ -33,8 +33,8 @@ object_written v slice members old mid new is begun same e =
     ∙ ap (λ l. old ++ 123 ∷ members_text (members_view l)) same ∙ ap (λ l. old ++ json_text l) (sym is)
 
 -- a text, and then others after it
-behind : (old mid new text more : List ℕ) → mid ≡ old ++ text → new ≡ mid ++ more → new ≡ old ++ (text ++ more)
-behind old mid new text more e f = f ∙ ap (λ l. l ++ more) e ∙ append_assoc old text more
+added_after : (old mid new text more : List ℕ) → mid ≡ old ++ text → new ≡ mid ++ more → new ≡ old ++ (text ++ more)
+added_after old mid new text more e f = f ∙ ap (λ l. l ++ more) e ∙ append_assoc old text more
 
 -- the rows of a message, one after the other
 pub message_written : (r : Rules) (f : Finding) (old own caused helped fixed new : List ℕ)
@@ -46,6 +46,6 @@ message_written r f old own caused helped fixed new a b c d e =
     let help : List ℕ = maybe_row (codes "help: ") f.help in
     let fixes : List ℕ = rows (codes "fix: ") f.unapplied in
     let see : List ℕ = see_row (r.uri f.code) f.url in
-    behind old own new (doubled f.message) (causes ++ (help ++ (fixes ++ see))) a
-    (behind own caused new causes (help ++ (fixes ++ see)) b
-    (behind caused helped new help (fixes ++ see) c (behind helped fixed new fixes see d e)))
+    added_after old own new (doubled f.message) (causes ++ (help ++ (fixes ++ see))) a
+    (added_after own caused new causes (help ++ (fixes ++ see)) b
+    (added_after caused helped new help (fixes ++ see) c (added_after helped fixed new fixes see d e)))

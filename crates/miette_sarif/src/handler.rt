@@ -84,7 +84,7 @@ impl SarifReportHandler {
         }
     }
 
-    /// Appends the log of a report. After an error, which is want of memory, `out` is as before.
+    /// Appends the log of a report. After an error, where memory is refused, `out` is as before.
     pub fn render_report(&self, report: &Report, out: &mut String) -> Result<(), RenderError>
         // The text is the spelling of the log, for some answers of the sources; it stands for that value, and for no
         // other.
@@ -103,7 +103,7 @@ impl SarifReportHandler {
         self.render_reports(slice::from_ref(report), out)
     }
 
-    /// Appends the log of reports, in their order. After an error, which is want of memory, `out` is as before.
+    /// Appends the log of reports, in their order. After an error, where memory is refused, `out` is as before.
     pub fn render_reports<D: Diagnostic, S: SourceCode>(
         &self,
         reports: &[Report<D, S>],

@@ -5,8 +5,8 @@ ghost use Rattle.std.specs.Prelude.{if◌then◌else◌};
 ghost use Rattle.std.specs.Option.{option_copied};
 ghost use Rattle.percent_encoding.specs.Percent.{percent_encode};
 ghost use Rattle.miette_sarif.specs.declared.uri.TheConstants.{ADDRESS};
-ghost use Rattle.miette_sarif.specs.rules.Uris.{address_uri, after_scheme, begins_with_hex};
-ghost use Rattle.miette_sarif.specs.rules.Uris.{begins_with_slash, begins_with_slashes, has_authority, behind_scheme};
+ghost use Rattle.miette_sarif.specs.rules.Uris.{address_uri, after_scheme, after_scheme_bytes, begins_with_hex};
+ghost use Rattle.miette_sarif.specs.rules.Uris.{begins_with_slash, begins_with_slashes, has_authority};
 ghost use Rattle.miette_sarif.specs.rules.Uris.{is_absolute, is_scheme_byte};
 ghost use Rattle.miette_sarif.specs.rules.Uris.{name_uri, path_uri};
 
@@ -48,8 +48,8 @@ fn is_scheme_byte(byte: u8) -> bool
 }
 
 // The bytes after the `:` of a scheme, whose first byte was a letter.
-fn behind_scheme(bytes: &[u8]) -> Option<&[u8]>
-    ensures { option_copied result ≡ behind_scheme bytes.now }
+fn after_scheme_bytes(bytes: &[u8]) -> Option<&[u8]>
+    ensures { option_copied result ≡ after_scheme_bytes bytes.now }
 {
     let mut rest = bytes;
     while let Some((first, more)) = rest.split_first() {
@@ -72,7 +72,7 @@ fn after_scheme(bytes: &[u8]) -> Option<&[u8]>
     if !first.is_ascii_alphabetic() {
         return None;
     }
-    behind_scheme(rest)
+    after_scheme_bytes(rest)
 }
 
 /// Whether a text is an absolute address: a scheme, and `:`.
@@ -120,11 +120,11 @@ fn push_encoded(out: &mut String, bytes: &[u8], set: AsciiSet) -> Result<(), All
 }
 
 // Appends a byte of an address before others: it is escaped where it stands in no URI, and doesn't begin an escape.
-fn push_byte(out: &mut String, byte: u8, behind: &[u8]) -> Result<(), AllocError>
+fn push_byte(out: &mut String, byte: u8, after: &[u8]) -> Result<(), AllocError>
     ensures { OnOk result (string_bytes out.new ≡ string_bytes out.old
-        ++ (if (byte == 37) && begins_with_hex behind.now then byte ∷ [] else percent_encode ADDRESS (byte ∷ []))) }
+        ++ (if (byte == 37) && begins_with_hex after.now then byte ∷ [] else percent_encode ADDRESS (byte ∷ []))) }
 {
-    if byte == b'%' && begins_with_hex(behind) {
+    if byte == b'%' && begins_with_hex(after) {
         return out.push_str("%");
     }
     push_encoded(out, &[byte], ADDRESS)

@@ -2,7 +2,7 @@
 
 ghost use Rattle.std.specs.Prelude.{◌≡◌, [], ◌∷◌, ◌++◌, codes, Some};
 ghost use Rattle.miette_tree.specs.rules.Tree.{no_trees, trees};
-ghost use Rattle.miette_sarif.specs.laws.Worked.{bad_file, bad_file_log, behind_emoji, lint, region_text, source, span};
+ghost use Rattle.miette_sarif.specs.laws.Worked.{after_emoji, bad_file, bad_file_log, lint, region_text, source, span};
 ghost use Rattle.miette_sarif.specs.rules.Artifacts.{uris_in, untitled_in};
 ghost use Rattle.miette_sarif.specs.rules.LogText.{log_text};
 
@@ -13,7 +13,7 @@ pub fn worked_logs()
         ∷ source 2 (codes "a:b") ∷ source 5 [] ∷ source 3 [] ∷ source 4 (codes "https://x.org/a b") ∷ [] in
         uris_in (untitled_in names) names ≡ codes "my%20dir/a.rs" ∷ codes "untitled:1" ∷ codes "file:///a:b"
         ∷ codes "a%3Ab" ∷ codes "untitled:2" ∷ codes "https://x.org/a%20b" ∷ [] }
-    ensures place { region_text behind_emoji (span 4 1)
+    ensures place { region_text after_emoji (span 4 1)
         ≡ Some (codes "{\"startLine\": 1,\"startColumn\": 3,\"endLine\": 1,\"endColumn\": 4,"
         ++ codes "\"byteOffset\": 4,\"byteLength\": 1,\"snippet\": {\"text\": \"b\"}}") }
 {}

@@ -8,7 +8,7 @@ use Rattle.std.proofs.lemmas.List.{length-drop, map-append, nil_from_length}
 use Rattle.std.proofs.lemmas.List.Elements.{filter_map-append}
 use Rattle.miette_readers.proofs.Steps.{next_taken}
 use Rattle.miette_readers.specs.views.Values.{texts}
-use Rattle.miette_sarif_reader.specs.rules.Newlines.{end_size, ended_by, line_behind, line_size, one_more}
+use Rattle.miette_sarif_reader.specs.rules.Newlines.{end_size, ended_by, line_after, line_size, one_more}
 use Rattle.miette_sarif_reader.specs.rules.Newlines.{or_usual, text_size, usual_newlines}
 
 -- an offset in the bytes from another one on
@@ -70,17 +70,17 @@ module _ (newlines : List (List ℕ)) where
   -- ---- lines
 
   pub next_line : (bytes : List ℕ) (at left size : ℕ) → 0 < left → Some size ≡ line_size newlines (drop at bytes)
-      → line_behind newlines bytes at left ≡ line_behind newlines bytes (at + size) (left - 1)
+      → line_after newlines bytes at left ≡ line_after newlines bytes (at + size) (left - 1)
   next_line bytes at zero size some is = absurd (omega (arith, some))
   next_line bytes at (suc k) size some is =
       let less : k ≡ suc k - 1 = omega arith in
-      ap (option_and_then (λ s. line_behind newlines bytes (at + s) k)) (sym is)
-      ∙ ap (line_behind newlines bytes (at + size)) less
+      ap (option_and_then (λ s. line_after newlines bytes (at + s) k)) (sym is)
+      ∙ ap (line_after newlines bytes (at + size)) less
 
   pub no_line : (bytes : List ℕ) (at left : ℕ) → 0 < left → None ≡ line_size newlines (drop at bytes)
-      → line_behind newlines bytes at left ≡ None
+      → line_after newlines bytes at left ≡ None
   no_line bytes at zero some is = absurd (omega (arith, some))
-  no_line bytes at (suc k) some is = ap (option_and_then (λ s. line_behind newlines bytes (at + s) k)) (sym is)
+  no_line bytes at (suc k) some is = ap (option_and_then (λ s. line_after newlines bytes (at + s) k)) (sym is)
 
 -- ---- the end of a line
 

@@ -9,7 +9,7 @@ use Rattle.std.proofs.lemmas.Bool.{ltb-false}
 use Rattle.std.proofs.lemmas.Bool.Decides.{nat_tests}
 use Rattle.serde_json.specs.Data.{Data}
 use Rattle.miette_sarif_reader.specs.rules.Messages.{Piece, backslash_piece, brace_piece, closing_piece, is_brace}
-use Rattle.miette_sarif_reader.specs.rules.Messages.{is_mark, opening_piece, piece_of, plain, shown_behind}
+use Rattle.miette_sarif_reader.specs.rules.Messages.{is_mark, opening_piece, piece_of, plain, shown_after}
 
 pub mark_is_ascii : (x : ℕ) → is_mark x ≡ true → x < 128
 mark_is_ascii x e = grind (arith, nat_tests)
@@ -35,15 +35,15 @@ stands arguments in_link b bs h =
 module _ (arguments : List Data) where
   -- what is shown with a piece in front
   with_piece : Piece → List ℕ → List ℕ
-  with_piece piece bs = piece.shown ++ shown_behind arguments piece.in_link piece.further bs
+  with_piece piece bs = piece.shown ++ shown_after arguments piece.in_link piece.further bs
 
   byte_shown : (in_link : Bool) (b : ℕ) (bs : List ℕ) → is_mark b ≡ false
-      → shown_behind arguments in_link 0 (b ∷ bs) ≡ b ∷ shown_behind arguments in_link 0 bs
+      → shown_after arguments in_link 0 (b ∷ bs) ≡ b ∷ shown_after arguments in_link 0 bs
   unfolding with_piece
   byte_shown in_link b bs h = ap (λ p. with_piece p bs) (stands arguments in_link b bs h)
 
   left_out : (in_link : Bool) (n : ℕ) (xs : List ℕ)
-      → shown_behind arguments in_link n xs ≡ shown_behind arguments in_link 0 (drop n xs)
+      → shown_after arguments in_link n xs ≡ shown_after arguments in_link 0 (drop n xs)
   left_out in_link zero xs = refl
   left_out in_link (suc n) [] = refl
   left_out in_link (suc n) (x ∷ xs) = left_out in_link n xs
@@ -51,7 +51,7 @@ module _ (arguments : List Data) where
   -- bytes that are no marks, in front of others
   no_marks : (in_link : Bool) (xs : List ℕ) (i : ℕ) → i ≤ length xs
       → ((k : ℕ) → k < i → is_mark (get_or xs k 0) ≡ false)
-      → shown_behind arguments in_link 0 xs ≡ take i xs ++ shown_behind arguments in_link 0 (drop i xs)
+      → shown_after arguments in_link 0 xs ≡ take i xs ++ shown_after arguments in_link 0 (drop i xs)
   no_marks in_link xs zero h f = refl
   no_marks in_link [] (suc i) h f = absurd (omega arith)
   no_marks in_link (x ∷ xs) (suc i) h f =
@@ -80,26 +80,26 @@ next_mark xs i e =
 -- what is written up to it and for its piece
 pub piece_written : (arguments : List Data) (in_link : Bool) (start mid new xs rest whole : List ℕ) (i : ℕ)
     → NextMark xs i → let piece = piece_of arguments in_link (get_or (drop i xs) 0 0) (drop 1 (drop i xs)) in
-    start ++ shown_behind arguments in_link 0 xs ≡ whole → mid ≡ start ++ take i xs → new ≡ mid ++ piece.shown
-    → rest ≡ drop piece.further (drop 1 (drop i xs)) → new ++ shown_behind arguments piece.in_link 0 rest ≡ whole
+    start ++ shown_after arguments in_link 0 xs ≡ whole → mid ≡ start ++ take i xs → new ≡ mid ++ piece.shown
+    → rest ≡ drop piece.further (drop 1 (drop i xs)) → new ++ shown_after arguments piece.in_link 0 rest ≡ whole
 piece_written arguments in_link start mid new xs rest whole i n e got more is =
     let x = get_or xs i 0 in
     let here : get_or (drop i xs) 0 0 ≡ x = ap (λ l. get_or l 0 0) (drop-cons xs i 0 n.inside) in
-    let behind = drop 1 (drop i xs) in
-    let piece = piece_of arguments in_link (get_or (drop i xs) 0 0) behind in
-    let cut : drop i xs ≡ get_or (drop i xs) 0 0 ∷ behind =
+    let after = drop 1 (drop i xs) in
+    let piece = piece_of arguments in_link (get_or (drop i xs) 0 0) after in
+    let cut : drop i xs ≡ get_or (drop i xs) 0 0 ∷ after =
     drop-cons xs i 0 n.inside ∙ ap (λ l. get_or l 0 0 ∷ drop 1 l) (sym (drop-cons xs i 0 n.inside)) in
-    let left : shown_behind arguments piece.in_link piece.further behind
-    ≡ shown_behind arguments piece.in_link 0 rest =
-    left_out arguments piece.in_link piece.further behind ∙ ap (shown_behind arguments piece.in_link 0) (sym is) in
-    let split : shown_behind arguments in_link 0 xs
-    ≡ take i xs ++ (piece.shown ++ shown_behind arguments piece.in_link 0 rest) =
+    let left : shown_after arguments piece.in_link piece.further after
+    ≡ shown_after arguments piece.in_link 0 rest =
+    left_out arguments piece.in_link piece.further after ∙ ap (shown_after arguments piece.in_link 0) (sym is) in
+    let split : shown_after arguments in_link 0 xs
+    ≡ take i xs ++ (piece.shown ++ shown_after arguments piece.in_link 0 rest) =
     no_marks arguments in_link xs i (omega (arith, n.inside)) n.before
-    ∙ ap (λ l. take i xs ++ shown_behind arguments in_link 0 l) cut
+    ∙ ap (λ l. take i xs ++ shown_after arguments in_link 0 l) cut
     ∙ ap (λ l. take i xs ++ (piece.shown ++ l)) left in
-    ap (λ l. l ++ shown_behind arguments piece.in_link 0 rest) (more ∙ ap (λ l. l ++ piece.shown) got)
-    ∙ (append_assoc (start ++ take i xs) piece.shown (shown_behind arguments piece.in_link 0 rest)
-    ∙ (append_assoc start (take i xs) (piece.shown ++ shown_behind arguments piece.in_link 0 rest)
+    ap (λ l. l ++ shown_after arguments piece.in_link 0 rest) (more ∙ ap (λ l. l ++ piece.shown) got)
+    ∙ (append_assoc (start ++ take i xs) piece.shown (shown_after arguments piece.in_link 0 rest)
+    ∙ (append_assoc start (take i xs) (piece.shown ++ shown_after arguments piece.in_link 0 rest)
     ∙ (ap (λ l. start ++ l) (sym split) ∙ e)))
 
 -- ---- a text without marks
@@ -107,20 +107,20 @@ piece_written arguments in_link start mid new xs rest whole i n e got more is =
 module _ (arguments : List Data) (in_link : Bool) where
   one_plain : (x : ℕ) (xs : List ℕ) (b : Bool) → is_mark x ≡ b
       → suc (length xs) ≤ cond (not b) (1 + prefix_len (λ y. not (is_mark y)) xs) 0
-      → (length xs ≤ prefix_len (λ y. not (is_mark y)) xs → shown_behind arguments in_link 0 xs ≡ xs)
-      → shown_behind arguments in_link 0 (x ∷ xs) ≡ x ∷ xs
+      → (length xs ≤ prefix_len (λ y. not (is_mark y)) xs → shown_after arguments in_link 0 xs ≡ xs)
+      → shown_after arguments in_link 0 (x ∷ xs) ≡ x ∷ xs
   one_plain x xs true e l f = absurd (omega arith)
   one_plain x xs false e l f = byte_shown arguments in_link x xs e ∙ ap (λ b. x ∷ b) (f (omega arith))
 
   all_plain : (xs : List ℕ) → length xs ≤ prefix_len (λ x. not (is_mark x)) xs
-      → shown_behind arguments in_link 0 xs ≡ xs
+      → shown_after arguments in_link 0 xs ≡ xs
   all_plain [] h = refl
   all_plain (x ∷ xs) h = one_plain x xs (is_mark x) refl h (all_plain xs)
 
   none_found : (xs : List ℕ) (b : Bool) → nat_lt (position_or_len is_mark xs) (length xs) ≡ b
-      → None ≡ cond b (Some (position_or_len is_mark xs)) None → shown_behind arguments in_link 0 xs ≡ xs
+      → None ≡ cond b (Some (position_or_len is_mark xs)) None → shown_after arguments in_link 0 xs ≡ xs
   none_found xs true f g = absurd (cc)
   none_found xs false f g = all_plain xs (ltb-false (position_or_len is_mark xs) (length xs) f)
 
-  pub none_left : (xs : List ℕ) → None ≡ position is_mark xs → shown_behind arguments in_link 0 xs ≡ xs
+  pub none_left : (xs : List ℕ) → None ≡ position is_mark xs → shown_after arguments in_link 0 xs ≡ xs
   none_left xs e = none_found xs (nat_lt (position_or_len is_mark xs) (length xs)) refl e

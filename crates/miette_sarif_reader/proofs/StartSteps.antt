@@ -8,7 +8,7 @@ use Rattle.std.specs.Option.{ForSome}
 use Rattle.std.proofs.lemmas.List.Elements.{All-push}
 use Rattle.miette_protocol.specs.rules.Reading.{Source}
 use Rattle.miette_sarif_reader.specs.declared.tables.Table.{Table}
-use Rattle.miette_sarif_reader.specs.rules.Newlines.{line_behind, line_size}
+use Rattle.miette_sarif_reader.specs.rules.Newlines.{line_after, line_size}
 use Rattle.miette_sarif_reader.specs.views.Tables.{AreStarts, IsTable}
 
 module _ (newlines : List (List ℕ)) (bytes : List ℕ) where
@@ -19,10 +19,10 @@ module _ (newlines : List (List ℕ)) (bytes : List ℕ) where
 
   first_same : (at size : ℕ) (rest : List ℕ) → Some size ≡ line_size newlines (drop at bytes)
       → AreStarts newlines bytes (at + size) rest → (k : ℕ)
-      → slice_get (at ∷ rest) k ≡ line_behind newlines bytes at k
+      → slice_get (at ∷ rest) k ≡ line_after newlines bytes at k
   first_same at size rest is more zero = refl
   first_same at size rest is more (suc k) =
-      more.same k ∙ ap (option_and_then (λ s. line_behind newlines bytes (at + s) k)) is
+      more.same k ∙ ap (option_and_then (λ s. line_after newlines bytes (at + s) k)) is
 
   first_within : (at : ℕ) (rest : List ℕ) → at ≤ length bytes → InBytes rest → InBytes (at ∷ rest)
   first_within at rest h more zero = λ start is. let same : at ≡ start = cc in omega (arith, h, same)
@@ -38,9 +38,9 @@ module _ (newlines : List (List ℕ)) (bytes : List ℕ) where
   -- ---- the last line
 
   last_same : (at : ℕ) → None ≡ line_size newlines (drop at bytes) → (k : ℕ)
-      → slice_get (at ∷ []) k ≡ line_behind newlines bytes at k
+      → slice_get (at ∷ []) k ≡ line_after newlines bytes at k
   last_same at is zero = refl
-  last_same at is (suc k) = ap (option_and_then (λ s. line_behind newlines bytes (at + s) k)) is
+  last_same at is (suc k) = ap (option_and_then (λ s. line_after newlines bytes (at + s) k)) is
 
   nowhere : InBytes []
   nowhere k = λ start is. absurd (cc)

@@ -9,7 +9,7 @@ use Rattle.miette_cells.specs.rules.Cells.{Character, characters}
 use Rattle.miette_cells.proofs.Stepping.{characters_end, characters_step}
 use Rattle.miette_positions.specs.declared.place.PositionEncoding.{PositionEncoding}
 use Rattle.miette_positions.specs.rules.Stops.{units}
-use Rattle.miette_sarif_reader.specs.rules.Regions.{units_behind, units_on}
+use Rattle.miette_sarif_reader.specs.rules.Regions.{units_after, units_on}
 
 abbrev pub made : ℕ → ℕ → Character
 made code size = record { code = code; bytes = size }
@@ -25,18 +25,18 @@ module _ (e : PositionEncoding) (bytes : List ℕ) (at count code size : ℕ) wh
       ∙ ap (λ l. made code size ∷ characters l) (drop-drop size at bytes)
 
   pub taken : (b : Bool) → nat_lt count (units e (made code size)) ≡ b → characters (drop at bytes)
-      ≡ made code size ∷ characters (drop (at + size) bytes) → units_behind e bytes at count
-      ≡ (if b then Some at else units_behind e bytes (at + size) (count - units e (made code size)))
+      ≡ made code size ∷ characters (drop (at + size) bytes) → units_after e bytes at count
+      ≡ (if b then Some at else units_after e bytes (at + size) (count - units e (made code size)))
   taken b test first =
       ap (units_on e at count) first
-      ∙ ap (λ t. if t then Some at else units_behind e bytes (at + size) (count - units e (made code size))) test
+      ∙ ap (λ t. if t then Some at else units_after e bytes (at + size) (count - units e (made code size))) test
 
 pub ended : (e : PositionEncoding) (bytes : List ℕ) (at count : ℕ) → length bytes ≤ at
-    → units_behind e bytes at count ≡ (if count == 0 then Some at else None)
+    → units_after e bytes at count ≡ (if count == 0 then Some at else None)
 ended e bytes at count h = ap (units_on e at count) (characters_end (drop at bytes) (drop_all at bytes h))
 
 pub none_ended : (e : PositionEncoding) (bytes : List ℕ) (at count : ℕ) → length bytes ≤ at → 0 < count
-    → units_behind e bytes at count ≡ None
+    → units_after e bytes at count ≡ None
 none_ended e bytes at zero h some = absurd (omega (arith, some))
 none_ended e bytes at (suc n) h some =
     let differ : (suc n == 0) ≡ false =

@@ -2,7 +2,7 @@
 
 ghost use Rattle.std.specs.Prelude.{◌≡◌, ◌-◌, ◌==◌, ◌||◌, IfOk, length, option_map, slice_index, string_bytes};
 ghost use Rattle.serde_json.specs.View.{view};
-ghost use Rattle.miette_sarif_reader.specs.rules.Bases.{base_of, base_uri, bases_of, behind_base, file_name};
+ghost use Rattle.miette_sarif_reader.specs.rules.Bases.{after_base, base_of, base_uri, bases_of, file_name};
 ghost use Rattle.miette_sarif_reader.specs.rules.Bases.{has_scheme, in_folder, is_absolute, own_uri};
 
 use crate::uris::name_of;
@@ -36,8 +36,8 @@ fn is_absolute(uri: &[u8]) -> bool
 }
 
 /// A URI after that of its base.
-fn behind_base(alloc: Global, base: String, uri: &str) -> Result<String, AllocError>
-    ensures { IfOk result (λ full. string_bytes full ≡ behind_base (string_bytes base) uri.now) }
+fn after_base(alloc: Global, base: String, uri: &str) -> Result<String, AllocError>
+    ensures { IfOk result (λ full. string_bytes full ≡ after_base (string_bytes base) uri.now) }
 {
     if is_absolute(uri.as_bytes()) {
         return String::from_str(alloc, uri);
@@ -106,7 +106,7 @@ fn base_uri(
         return Ok(String::new(alloc));
     };
     let front = base_uri(alloc, most - 1, bases, base_of(bases, base))?;
-    let uri = behind_base(alloc, front, own_uri(base))?;
+    let uri = after_base(alloc, front, own_uri(base))?;
     in_folder(uri)
 }
 
@@ -123,6 +123,6 @@ pub(crate) fn file_name(
         ≡ file_name (option_map (λ v. view v.now) bases.entry) (view location.now)) }
 {
     let base = base_uri(alloc, MOST_BASES, bases, base_of(bases, location))?;
-    let uri = behind_base(alloc, base, own_uri(location))?;
+    let uri = after_base(alloc, base, own_uri(location))?;
     name_of(alloc, uri.as_str())
 }

@@ -3,11 +3,11 @@
 ghost use Rattle.std.specs.Prelude.{◌≡◌, ◌≤◌, IfSome, length, slice_get};
 ghost use Rattle.std.specs.Option.{ForSome};
 ghost use Rattle.miette_readers.specs.views.Values.{texts};
-ghost use Rattle.miette_sarif_reader.specs.rules.Newlines.{line_behind};
+ghost use Rattle.miette_sarif_reader.specs.rules.Newlines.{line_after};
 ghost use Rattle.miette_sarif_reader.specs.views.Tables.{AreStarts};
 
 use crate::begins::Ends;
-use crate::newlines::line_behind;
+use crate::newlines::line_after;
 
 /// A file's bytes, what ends its lines, and where they begin, where a table says it.
 #[derive(Drop)]
@@ -27,13 +27,13 @@ fn start_at(starts: &[usize], line: usize) -> Option<usize>
 
 impl<'a, 'v> FileLines<'a, 'v> {
     /// Where the line begins that stands `lines` lines after the first: by the table, else by a walk.
-    pub(crate) fn line_behind(&self, lines: usize) -> Option<usize>
-        ensures value { result ≡ line_behind (texts self.now.ends.now.newlines.items) self.now.bytes.now 0 lines }
+    pub(crate) fn line_after(&self, lines: usize) -> Option<usize>
+        ensures value { result ≡ line_after (texts self.now.ends.now.newlines.items) self.now.bytes.now 0 lines }
         ensures within { IfSome result (λ at. at ≤ length self.now.bytes.now) }
     {
         match self.starts {
             Some(starts) => start_at(starts, lines),
-            None => line_behind(self.ends, self.bytes, lines),
+            None => line_after(self.ends, self.bytes, lines),
         }
     }
 }

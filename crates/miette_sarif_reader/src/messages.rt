@@ -80,7 +80,7 @@ fn byte_at(text: &[u8], at: usize) -> u8
 }
 
 /// What stands after the first `count` bytes.
-fn behind(text: &[u8], count: usize) -> &[u8]
+fn after_bytes(text: &[u8], count: usize) -> &[u8]
     ensures { result.now ≡ drop count text.now }
 {
     if count < text.len() {
@@ -234,7 +234,7 @@ fn destination_end(text: &[u8]) -> Option<usize>
 fn destination_count(text: &[u8]) -> usize
     ensures { result ≡ destination_count text.now }
 {
-    let rest = behind(text, 1);
+    let rest = after_bytes(text, 1);
     match destination_end(rest) {
         Some(at) => at,
         None => rest.len(),
@@ -254,7 +254,7 @@ fn is_link(text: &[u8]) -> bool
     ensures { result ≡ is_link text.now }
 {
     let end = bracket_at(text);
-    byte_at(text, end) == b']' && has_destination(behind(text, end + 1))
+    byte_at(text, end) == b']' && has_destination(after_bytes(text, end + 1))
 }
 
 /// The piece that a backslash begins.

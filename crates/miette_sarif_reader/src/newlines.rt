@@ -6,7 +6,7 @@ ghost use Rattle.std.specs.Option.{option_copied};
 ghost use Rattle.serde_json.specs.View.{view};
 ghost use Rattle.miette_readers.specs.rules.Members.{items_at};
 ghost use Rattle.miette_readers.specs.views.Values.{texts, viewed};
-ghost use Rattle.miette_sarif_reader.specs.rules.Newlines.{end_size, line_behind, line_size, newlines_of, sequence_in};
+ghost use Rattle.miette_sarif_reader.specs.rules.Newlines.{end_size, line_after, line_size, newlines_of, sequence_in};
 ghost use Rattle.miette_sarif_reader.specs.rules.Newlines.{stands_in, text_size, usual_newlines};
 
 use crate::begins::{Ends, next_begin, rest_from};
@@ -143,8 +143,8 @@ pub(crate) fn line_size(ends: &Ends<'_>, bytes: &[u8]) -> Option<usize>
 }
 
 /// Where the line begins that stands `lines` lines after the first.
-pub(crate) fn line_behind(ends: &Ends<'_>, bytes: &[u8], lines: usize) -> Option<usize>
-    ensures value { result ≡ line_behind (texts ends.now.newlines.items) bytes.now 0 lines }
+pub(crate) fn line_after(ends: &Ends<'_>, bytes: &[u8], lines: usize) -> Option<usize>
+    ensures value { result ≡ line_after (texts ends.now.newlines.items) bytes.now 0 lines }
     ensures within { IfSome result (λ at. at ≤ length bytes.now) }
 {
     let mut at: usize = 0;

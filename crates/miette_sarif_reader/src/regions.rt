@@ -8,7 +8,7 @@ ghost use Rattle.miette_sarif_reader.specs.rules.Newlines.{text_size};
 ghost use Rattle.miette_sarif_reader.specs.rules.Regions.{byte_stretch, char_stretch, column_at, count_at, encoding_of};
 ghost use Rattle.miette_sarif_reader.specs.rules.Regions.{end_columns, end_line, has_begin, has_chars, has_line};
 ghost use Rattle.miette_sarif_reader.specs.rules.Regions.{line_stretch, offset_at, start_column, start_line};
-ghost use Rattle.miette_sarif_reader.specs.rules.Regions.{stretch_by_bytes, stretch_by_chars, stretch_in, units_behind};
+ghost use Rattle.miette_sarif_reader.specs.rules.Regions.{stretch_by_bytes, stretch_by_chars, stretch_in, units_after};
 
 use crate::begins::{Ends, rest_from};
 use crate::lines::FileLines;
@@ -60,7 +60,7 @@ fn column_at(
     ensures { result ≡ column_at encoding (texts ends.now.newlines.items) bytes.now start columns }
 {
     let stop = text_end(ends, bytes, start);
-    units_behind(encoding, front_to(bytes, stop), start, columns).unwrap_or(stop)
+    units_after(encoding, front_to(bytes, stop), start, columns).unwrap_or(stop)
 }
 
 /// The offset `columns` columns after the beginning of a line; lines count from 1.
@@ -75,7 +75,7 @@ fn offset_at(
     if line == 0 {
         return None;
     }
-    let start = lines.line_behind((line - 1) as usize)?;
+    let start = lines.line_after((line - 1) as usize)?;
     Some(column_at(encoding, lines.ends, lines.bytes, start, columns))
 }
 
@@ -140,14 +140,9 @@ fn units(encoding: PositionEncoding, code: char, bytes: usize) -> usize
 }
 
 /// `count` code units after an offset: inside a character its start, after the last one nowhere.
-fn units_behind(
-    encoding: PositionEncoding,
-    bytes: &[u8],
-    from: usize,
-    count: usize,
-) -> Option<usize>
+fn units_after(encoding: PositionEncoding, bytes: &[u8], from: usize, count: usize) -> Option<usize>
     requires { from ≤ length bytes.now }
-    ensures value { result ≡ units_behind encoding bytes.now from count }
+    ensures value { result ≡ units_after encoding bytes.now from count }
     ensures within { IfSome result (λ at. at ≤ length bytes.now) }
 {
     let mut at = from;
@@ -174,8 +169,8 @@ fn char_stretch(
 ) -> Option<Stretch>
     ensures { result ≡ char_stretch encoding bytes.now from count }
 {
-    let start = units_behind(encoding, bytes, 0, from)?;
-    let end = units_behind(encoding, bytes, start, count)?;
+    let start = units_after(encoding, bytes, 0, from)?;
+    let end = units_after(encoding, bytes, start, count)?;
     Some(Stretch { start, end })
 }
 

@@ -2,15 +2,15 @@
 
 ghost use Rattle.std.specs.Prelude.{◌≡◌, IfOk, string_bytes};
 ghost use Rattle.std.specs.Option.{option_copied};
-ghost use Rattle.miette_sarif_reader.specs.rules.Uris.{behind, name_of, path_of};
+ghost use Rattle.miette_sarif_reader.specs.rules.Uris.{after_front, name_of, path_of};
 
 use percent_encoding::percent_decode_str;
 use std::alloc::{AllocError, Global};
 use std::borrow::CowStr;
 
 /// What stands after a front of a text.
-fn behind<'t>(text: &'t str, front: &str) -> Option<&'t str>
-    ensures { option_copied result ≡ behind front.now text.now }
+fn after_front<'t>(text: &'t str, front: &str) -> Option<&'t str>
+    ensures { option_copied result ≡ after_front front.now text.now }
 {
     text.strip_prefix(front)
 }
@@ -19,10 +19,10 @@ fn behind<'t>(text: &'t str, front: &str) -> Option<&'t str>
 fn path_of(uri: &str) -> &str
     ensures { result.now ≡ path_of uri.now }
 {
-    if let Some(path) = behind(uri, "file://") {
+    if let Some(path) = after_front(uri, "file://") {
         return path;
     }
-    match behind(uri, "file:") {
+    match after_front(uri, "file:") {
         Some(path) => path,
         None => uri,
     }

@@ -9,7 +9,7 @@ use Rattle.memchr.specs.Find.{IsFirstByte, is_byte}
 use Rattle.miette_cells.specs.rules.Cells.{Character, characters}
 use Rattle.miette_cells.proofs.Stepping.{characters_end, characters_step}
 use Rattle.miette_source_lines.specs.rules.Lines.{LF}
-use Rattle.miette_shellcheck.specs.rules.Columns.{characters_behind, characters_on, line_behind}
+use Rattle.miette_shellcheck.specs.rules.Columns.{characters_after, characters_on, line_after}
 
 -- ---- lines
 
@@ -25,38 +25,38 @@ later b bs j h = (
   h.1,
 )
 
--- behind the first LF one line less is asked for
+-- after the first LF one line less is asked for
 first_passed : (bytes : List ℕ) (at size k : ℕ) → IsFirstByte (is_byte 10) bytes (Some size)
-    → line_behind at bytes (suc k) ≡ line_behind (at + suc size) (drop (suc size) bytes) k
+    → line_after at bytes (suc k) ≡ line_after (at + suc size) (drop (suc size) bytes) k
 first_passed [] at size k h = absurd (omega (arith, h.0.high))
-first_passed (b ∷ bs) at zero k h = ap (λ t. line_behind (at + 1) bs (if t then k else suc k)) h.1
+first_passed (b ∷ bs) at zero k h = ap (λ t. line_after (at + 1) bs (if t then k else suc k)) h.1
 first_passed (b ∷ bs) at (suc j) k h =
     let text : (b == 10) ≡ false = false_from_ne_true (b == 10) (h.0.before 0 (omega arith) (omega arith)) in
     let on : (at + 1) + suc j ≡ at + suc (suc j) = omega arith in
-    ap (λ t. line_behind (at + 1) bs (if t then k else suc k)) text
+    ap (λ t. line_after (at + 1) bs (if t then k else suc k)) text
     ∙ first_passed bs (at + 1) j k (later b bs j h)
-    ∙ ap (λ n. line_behind n (drop (suc j) bs) k) on
+    ∙ ap (λ n. line_after n (drop (suc j) bs) k) on
 
-none_passed : (bytes : List ℕ) (at k : ℕ) → IsFirstByte (is_byte 10) bytes None → line_behind at bytes (suc k) ≡ None
+none_passed : (bytes : List ℕ) (at k : ℕ) → IsFirstByte (is_byte 10) bytes None → line_after at bytes (suc k) ≡ None
 none_passed [] at k h = refl
 none_passed (b ∷ bs) at k h =
     let text : (b == 10) ≡ false = false_from_ne_true (b == 10) (h 0 (omega arith) (omega arith)) in
-    ap (λ t. line_behind (at + 1) bs (if t then k else suc k)) text
+    ap (λ t. line_after (at + 1) bs (if t then k else suc k)) text
     ∙ none_passed bs (at + 1) k (λ i low less. h (suc i) (omega arith) (omega (arith, less)))
 
 pub next_line : (bytes : List ℕ) (at left size : ℕ) → 0 < left → IsFirstByte (is_byte 10) (drop at bytes) (Some size)
-    → line_behind at (drop at bytes) left ≡ line_behind (at + (size + 1)) (drop (at + (size + 1)) bytes) (left - 1)
+    → line_after at (drop at bytes) left ≡ line_after (at + (size + 1)) (drop (at + (size + 1)) bytes) (left - 1)
 next_line bytes at zero size some h = absurd (omega (arith, some))
 next_line bytes at (suc k) size some h =
     let on : at + suc size ≡ at + (size + 1) = omega arith in
     let less : k ≡ suc k - 1 = omega arith in
     first_passed (drop at bytes) at size k h
-    ∙ ap (λ (l : List ℕ). line_behind (at + suc size) l k) (drop-drop (suc size) at bytes)
-    ∙ ap (λ n. line_behind n (drop n bytes) k) on
-    ∙ ap (line_behind (at + (size + 1)) (drop (at + (size + 1)) bytes)) less
+    ∙ ap (λ (l : List ℕ). line_after (at + suc size) l k) (drop-drop (suc size) at bytes)
+    ∙ ap (λ n. line_after n (drop n bytes) k) on
+    ∙ ap (line_after (at + (size + 1)) (drop (at + (size + 1)) bytes)) less
 
 pub no_line : (bytes : List ℕ) (at left : ℕ) → 0 < left → IsFirstByte (is_byte 10) (drop at bytes) None
-    → line_behind at (drop at bytes) left ≡ None
+    → line_after at (drop at bytes) left ≡ None
 no_line bytes at zero some h = absurd (omega (arith, some))
 no_line bytes at (suc k) some h = none_passed (drop at bytes) at k h
 
@@ -75,11 +75,11 @@ none_on : (at : ℕ) (cs : List Character) → characters_on at 0 cs ≡ at
 none_on at [] = refl
 none_on at (c ∷ cs) = refl
 
-pub none_left : (bytes : List ℕ) (at left : ℕ) → left ≡ 0 → characters_behind bytes at left ≡ at
+pub none_left : (bytes : List ℕ) (at left : ℕ) → left ≡ 0 → characters_after bytes at left ≡ at
 none_left bytes at left none =
-    ap (λ n. characters_behind bytes at n) none ∙ none_on at (characters (drop at bytes))
+    ap (λ n. characters_after bytes at n) none ∙ none_on at (characters (drop at bytes))
 
-pub ended : (bytes : List ℕ) (at left : ℕ) → length bytes ≤ at → characters_behind bytes at left ≡ at
+pub ended : (bytes : List ℕ) (at left : ℕ) → length bytes ≤ at → characters_after bytes at left ≡ at
 ended bytes at left h = ap (characters_on at left) (characters_end (drop at bytes) (drop_all at bytes h))
 
 -- whether no further character is passed
@@ -108,14 +108,14 @@ module _ (bytes : List ℕ) (at left code size : ℕ) (room : at < length bytes)
         ∙ ap (λ l. made code size ∷ characters l) (drop-drop size at bytes)
 
     taken : (b : Bool) → stops left code ≡ b
-        → characters_behind bytes at left ≡ (if b then at else characters_behind bytes (at + size) (left - 1))
+        → characters_after bytes at left ≡ (if b then at else characters_after bytes (at + size) (left - 1))
     taken b test =
         ap (characters_on at left) first_of
-        ∙ ap (λ t. if t then at else characters_behind bytes (at + size) (left - 1)) test
+        ∙ ap (λ t. if t then at else characters_after bytes (at + size) (left - 1)) test
 
-    pub line_ends : 0 < left → code ≡ LF → characters_behind bytes at left ≡ at
+    pub line_ends : 0 < left → code ≡ LF → characters_after bytes at left ≡ at
     line_ends some is = taken true (stops_there left code some is)
 
     pub next_character : 0 < left → ¬ (code ≡ LF)
-        → characters_behind bytes at left ≡ characters_behind bytes (at + size) (left - 1)
+        → characters_after bytes at left ≡ characters_after bytes (at + size) (left - 1)
     next_character some differs = taken false (goes_on left code some differs)

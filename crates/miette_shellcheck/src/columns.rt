@@ -3,7 +3,7 @@
 
 ghost use Rattle.std.specs.Prelude.{◌≡◌, ◌<◌, ◌≤◌, ◌+◌, IfSome, drop, length};
 ghost use Rattle.memchr.specs.Find.{IsFirstByte, is_byte};
-ghost use Rattle.miette_shellcheck.specs.rules.Columns.{characters_behind, line_behind, offset_at};
+ghost use Rattle.miette_shellcheck.specs.rules.Columns.{characters_after, line_after, offset_at};
 
 use memchr::memchr;
 use miette_cells::cells::first_character;
@@ -26,8 +26,8 @@ fn text_size(bytes: &[u8], at: usize) -> Option<usize>
 }
 
 /// Where the line begins that stands `lines` lines after the first.
-fn line_behind(bytes: &[u8], lines: usize) -> Option<usize>
-    ensures value { result ≡ line_behind 0 bytes.now lines }
+fn line_after(bytes: &[u8], lines: usize) -> Option<usize>
+    ensures value { result ≡ line_after 0 bytes.now lines }
     ensures within { IfSome result (λ at. at ≤ length bytes.now) }
 {
     let mut at: usize = 0;
@@ -43,9 +43,9 @@ fn line_behind(bytes: &[u8], lines: usize) -> Option<usize>
 }
 
 /// `count` characters after the beginning of a line: after the line's text its end.
-fn characters_behind(bytes: &[u8], start: usize, count: usize) -> usize
+fn characters_after(bytes: &[u8], start: usize, count: usize) -> usize
     requires { start ≤ length bytes.now }
-    ensures { result ≡ characters_behind bytes.now start count }
+    ensures { result ≡ characters_after bytes.now start count }
 {
     let mut at = start;
     let mut left = count;
@@ -71,6 +71,6 @@ pub(crate) fn offset_at(bytes: &[u8], line: u64, column: u64) -> Option<usize>
     if line == 0 || column == 0 {
         return None;
     }
-    let start = line_behind(bytes, (line - 1) as usize)?;
-    Some(characters_behind(bytes, start, (column - 1) as usize))
+    let start = line_after(bytes, (line - 1) as usize)?;
+    Some(characters_after(bytes, start, (column - 1) as usize))
 }

@@ -95,7 +95,7 @@ module _ (from : Format) (gives : Tree → List ℕ → Type 0)
       → made ≡ record { unread = verdict.unread || kind_unread kind; error = verdict.error || kind_grave kind }
       → following ≡ number + ends_in row → Progress from gives found first next old newer before later following made
   more first left next old new newer before after later number verdict made row kind text following some p is_next
-      is_shown took said with_it behind =
+      is_shown took said with_it count_is =
       let s : Shown = record { row = row; kind = kind; text = text } in
       let was : verdict ≡ verdict_of p.shown = p.is in
       let unread = ap (λ (v : Verdict). v.unread || kind_unread kind) was in
@@ -111,7 +111,7 @@ module _ (from : Format) (gives : Tree → List ℕ → Type 0)
             (Appends-trans old new newer (text_of p.shown) text p.text took);
         notes = subst (Appends before later) (sym (notes_more 1 p.shown s number counted))
             (Appends-trans before after later (notes_from 1 p.shown) (passed_on number kind row) p.notes said);
-        count = omega (arith, counted, behind, ends_more p.shown s);
+        count = omega (arith, counted, count_is, ends_more p.shown s);
         is = with_it ∙ ap₂ verdict_by
             (unread ∙ sym (any_more is_unread p.shown s (kind_unread kind) refl))
             (error ∙ sym (any_more is_error p.shown s (kind_grave kind) refl));

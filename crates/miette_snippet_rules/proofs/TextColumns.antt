@@ -177,17 +177,17 @@ far_last : (many : ℕ) (passed : List Cell) → stretch_columns many (far passe
 far_last many passed = omega arith
 
 -- the stretches of some cells, after others of a stretch that isn't near where the cell before isn't
-abbrev behind : Bool → List Cell → List Stretch → List Stretch
-behind true passed ss = ss
-behind false passed ss = onto_stretches (far passed) ss
+abbrev after_passed : Bool → List Cell → List Stretch → List Stretch
+after_passed true passed ss = ss
+after_passed false passed ss = onto_stretches (far passed) ss
 
-abbrev columns_behind : Bool → List Cell → ℕ
-columns_behind true passed = 0
-columns_behind false passed = columns_in passed
+abbrev columns_after : Bool → List Cell → ℕ
+columns_after true passed = 0
+columns_after false passed = columns_in passed
 
 columns_are : (many : ℕ) (near : Cell → Bool) (before : Bool) (passed : List Cell) (cells : List Cell)
-    → stretch_columns many (behind before passed (stretches near before cells))
-    ≡ shown_columns many near (columns_behind before passed) cells
+    → stretch_columns many (after_passed before passed (stretches near before cells))
+    ≡ shown_columns many near (columns_after before passed) cells
 columns_are many near true passed [] = omega arith
 columns_are many near false passed [] = far_last many passed
 columns_are many near true passed (c ∷ cs) =

@@ -1,26 +1,26 @@
 -- What begins a style, code by code.
 use Rattle.std.proofs.Common.{◌≡◌, ℕ, Bool, true, false, ◌||◌, List, [], ◌∷◌, ◌++◌, codes, refl, sym, ap, ◌∙◌}
 use Rattle.std.proofs.Common.{append_assoc, append-nil, Option, Some, None, is_some}
-use Rattle.miette_style.specs.rules.Codes.{behind_separators, colour_start, flag, foreground, foreground_codes}
+use Rattle.miette_style.specs.rules.Codes.{after_separators, colour_start, flag, foreground, foreground_codes}
 use Rattle.miette_style.specs.rules.Codes.{further_codes, separated_codes, style_codes}
 use Rattle.miette_style.specs.declared.style.Color.{Color}
 use Rattle.miette_style.specs.declared.style.Style.{Style}
 
-behind-more : (code : List ℕ) (xs : List (List ℕ)) → behind_separators (code ∷ xs) ≡ behind_separators (code ∷ [])
-    ++ behind_separators xs
-behind-more code xs = ap (λ ys. 59 ∷ ys ++ behind_separators xs) (sym (append-nil code))
+after-more : (code : List ℕ) (xs : List (List ℕ)) → after_separators (code ∷ xs) ≡ after_separators (code ∷ [])
+    ++ after_separators xs
+after-more code xs = ap (λ ys. 59 ∷ ys ++ after_separators xs) (sym (append-nil code))
 
 further-more : (some on : Bool) (code : List ℕ) (xs : List (List ℕ)) → further_codes some (flag on code ++ xs)
     ≡ further_codes some (flag on code) ++ further_codes (some || on) xs
-further-more true true code xs = behind-more code xs
+further-more true true code xs = after-more code xs
 further-more true false code xs = refl
-further-more false true code xs = ap (λ ys. ys ++ behind_separators xs) (sym (append-nil code))
+further-more false true code xs = ap (λ ys. ys ++ after_separators xs) (sym (append-nil code))
 further-more false false code xs = refl
 
 first-more : (color : Option Color) (xs : List (List ℕ)) → separated_codes (foreground_codes color ++ xs)
     ≡ further_codes false (foreground_codes color) ++ further_codes (is_some color) xs
 first-more None xs = refl
-first-more (Some c) xs = ap (λ ys. ys ++ behind_separators xs) (sym (append-nil (foreground c)))
+first-more (Some c) xs = ap (λ ys. ys ++ after_separators xs) (sym (append-nil (foreground c)))
 
 style-separated : (s : Style) (v1 v2 v3 v4 : Bool) → v1 ≡ is_some s.fg → v2 ≡ (v1 || s.bold) → v3 ≡ (v2 || s.dimmed)
     → v4 ≡ (v3 || s.italic) →

@@ -13,9 +13,9 @@ use Rattle.miette_readers.specs.rules.Places.{Told}
 use Rattle.miette_readers.specs.rules.Rustc.{label_rows, maybe_row}
 use Rattle.miette_tool_laws.specs.laws.GccTexts.{event_texts, location_texts, note_texts, texts_of}
 use Rattle.miette_reader_laws.specs.laws.Standing.{Stands}
-use Rattle.miette_readers.proofs.Holding.{Has, all_each, all_flat, all_more, has_behind, has_flat, has_map}
+use Rattle.miette_readers.proofs.Holding.{Has, all_each, all_flat, all_more, has_after, has_flat, has_map}
 use Rattle.miette_readers.proofs.Holding.{has_more}
-use Rattle.miette_reader_laws.proofs.Rows.{part_behind, part_self, part_within}
+use Rattle.miette_reader_laws.proofs.Rows.{part_after, part_self, part_within}
 use Rattle.miette_reader_laws.proofs.RustcTexts.{HasLabel, labels_have}
 use Rattle.miette_reader_laws.proofs.Standing.{Says, told_stands}
 
@@ -31,7 +31,7 @@ module _ (g : Ground) where
   locations_say : (text : List ℕ) (words : Option (List ℕ)) (ls : List Data) → Has (HasLabel text) ls
       → Says (locations_told g words ls) text
   locations_say text words [] h = absurd h
-  locations_say text words (l ∷ ls) (inl h) = inl (has_behind (IsPart text) (maybe_row words) (label_rows l) h)
+  locations_say text words (l ∷ ls) (inl h) = inl (has_after (IsPart text) (maybe_row words) (label_rows l) h)
   locations_say text words (l ∷ ls) (inr h) =
       inr (has_map (HasLabel text) (Tells text) (location_told g words false) (λ l h. h) ls h)
 
@@ -60,7 +60,7 @@ module _ (g : Ground) where
       let words = unwrap_or (text_at (codes "description") e) [] in
       inl (part_within text words ((codes "(" ++ decimal n) ++ (codes ") " ++ words)) h
       (part_within words (codes ") " ++ words) ((codes "(" ++ decimal n) ++ (codes ") " ++ words))
-      (part_behind words (codes ") ")) (part_behind (codes ") " ++ words) (codes "(" ++ decimal n))))
+      (part_after words (codes ") ")) (part_after (codes ") " ++ words) (codes "(" ++ decimal n))))
 
   events_say : (text : List ℕ) (n : ℕ) (es : List Data) → Has (IsEvent text) es → Says (events_told g n es) text
   events_say text n [] h = absurd h
@@ -93,11 +93,11 @@ module _ (g : Ground) where
     event_stands : (text : List ℕ) → Has (IsEvent text) events → Stands (report_by g d) text
     event_stands text h =
         stands text (has_more (Tells text) (own ++ told_events) (flat_map (note_told g) notes)
-        (has_behind (Tells text) own told_events (events_say text 1 events h)))
+        (has_after (Tells text) own told_events (events_say text 1 events h)))
 
     told_stand : (text : List ℕ) → Has (λ c. Says (note_told g c) text) notes → Stands (report_by g d) text
     told_stand text h =
-        stands text (has_behind (Tells text) (own ++ told_events) (flat_map (note_told g) notes)
+        stands text (has_after (Tells text) (own ++ told_events) (flat_map (note_told g) notes)
         (has_flat (λ c. Says (note_told g c) text) (Tells text) (note_told g) (λ c it. it) notes h))
 
     pub gcc_stand : AllByRecursion (Stands (report_by g d)) (texts_of d)

@@ -26,11 +26,11 @@ use Rattle.miette_tool_laws.specs.laws.LogTexts.{fix_texts, flow_texts, location
 use Rattle.miette_tool_laws.specs.laws.LogTexts.{step_texts_by, texts_of, thread_texts}
 use Rattle.miette_reader_laws.specs.laws.Applying.{AreFound, IsFound}
 use Rattle.miette_reader_laws.specs.laws.Standing.{Stands}
-use Rattle.miette_readers.proofs.Holding.{Has, Is, all_each, all_flat, all_made, all_more, has_behind, has_made}
+use Rattle.miette_readers.proofs.Holding.{Has, Is, all_each, all_flat, all_made, all_more, has_after, has_made}
 use Rattle.miette_readers.proofs.Holding.{has_flat, has_map, has_more, has_split}
 use Rattle.miette_reader_laws.proofs.Offers.{AreSound, all_sound, edit_is}
 use Rattle.miette_readers.proofs.RowLists.{row_stays, row_there}
-use Rattle.miette_reader_laws.proofs.Rows.{part_behind, part_self, part_within, row_joined}
+use Rattle.miette_reader_laws.proofs.Rows.{part_after, part_self, part_within, row_joined}
 use Rattle.miette_reader_laws.proofs.Standing.{IsOffered, Says, help_stands, offered_stands, told_stands}
 
 abbrev Tells : List ℕ → Told → Type 0
@@ -40,8 +40,8 @@ Tells text t = Has (IsPart text) t.rows
 
 named : (row name : List ℕ) → IsPart row (name ++ (codes ": " ++ row))
 named row name =
-    part_within row (codes ": " ++ row) (name ++ (codes ": " ++ row)) (part_behind row (codes ": "))
-    (part_behind (codes ": " ++ row) name)
+    part_within row (codes ": " ++ row) (name ++ (codes ": " ++ row)) (part_after row (codes ": "))
+    (part_after (codes ": " ++ row) name)
 
 module _ (g : Ground) where
   said_by : (text row : List ℕ) → IsPart text row → (primary own : Bool) (place : Place) (b : Bool)
@@ -85,8 +85,8 @@ module _ (g : Ground) where
 
   in_step : (text : List ℕ) (n : ℕ) → IsPart text (step_row n (Some text))
   in_step text n =
-      part_within text (32 ∷ text) (step_row n (Some text)) (part_behind text (32 ∷ []))
-      (part_behind (32 ∷ text) ((codes "(" ++ decimal n) ++ codes ")"))
+      part_within text (32 ∷ text) (step_row n (Some text)) (part_after text (32 ∷ []))
+      (part_after (32 ∷ text) ((codes "(" ++ decimal n) ++ codes ")"))
 
   abbrev IsStep : List ℕ → Data → Type 0
   IsStep text s = (n : ℕ) → Tells text (step_told g n s)
@@ -260,12 +260,12 @@ module _ (g : Ground) (r : Data) where
   related_stands : (text : List ℕ) → Has (IsSaid g text) related → Stands (result_in g r) text
   related_stands text h =
       stands text (has_more (Tells text) (told_own ++ related_told g r) told_flows
-      (has_behind (Tells text) told_own (related_told g r)
+      (has_after (Tells text) told_own (related_told g r)
       (has_map (IsSaid g text) (Tells text) (location_told g true false) (λ l it. it true false) related h)))
 
   flow_stands : (text : List ℕ) → Has (IsFlow text) flows → Stands (result_in g r) text
   flow_stands text h =
-      stands text (has_behind (Tells text) (told_own ++ related_told g r) told_flows
+      stands text (has_after (Tells text) (told_own ++ related_told g r) told_flows
       (has_flat (IsFlow text) (Tells text) (flow_told g) (λ f it. it) flows h))
 
   draft_stands : (text : List ℕ) → Has (IsProposed g.files text) drafts → Stands (result_in g r) text

@@ -159,7 +159,7 @@ module _ (found : Finding) where
       → made ≡ record { unread = verdict.unread || kind_unread kind; error = verdict.error || kind_grave kind }
       → following ≡ number + ends_in row → Passing adds_then found first next before later following made
   more adds adds_then first left next before after later number verdict made row kind fixes following some p is_next
-      is_giving add said with_it behind =
+      is_giving add said with_it count_is =
       let s = giving row kind fixes in
       let was : verdict ≡ record { unread = list_any is_unread p.all; error = false } = p.is in
       let counted : number ≡ ends_before p.all + 1 = p.count in
@@ -184,7 +184,7 @@ module _ (found : Finding) where
             (add (given p.all) p.added);
         notes = subst (Appends before later) (sym (notes_more 1 p.all s number counted))
             (Appends-trans before after later (unread_notes 1 p.all) (note_of number (kind_unread kind)) p.notes said);
-        count = omega (arith, counted, behind, ends_more p.all s);
+        count = omega (arith, counted, count_is, ends_more p.all s);
         is = with_it ∙ ap₂ (λ (a b : Bool). verdict_by a b) unread error;
       }
 

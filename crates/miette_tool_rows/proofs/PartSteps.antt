@@ -6,8 +6,8 @@ use Rattle.std.specs.Io.KnownBytes.{Consumes}
 use Rattle.std.proofs.lemmas.List.{length-append}
 use Rattle.std.proofs.lemmas.List.Sums.{fold-append}
 use Rattle.miette_tool_rows.specs.declared.parts.Open.{Open}
-use Rattle.miette_tool_rows.specs.rules.Parts.{begins_alone, begins_value, behind, closed, goes_on, is_inner, is_open}
-use Rattle.miette_tool_rows.specs.rules.Parts.{parts_from, parts_of, with_byte}
+use Rattle.miette_tool_rows.specs.rules.Parts.{after_bytes, begins_alone, begins_value, closed, goes_on, is_inner}
+use Rattle.miette_tool_rows.specs.rules.Parts.{is_open, parts_from, parts_of, with_byte}
 use Rattle.miette_tool_rows.specs.rules.Rows.{last_row, rows_from, rows_of}
 use Rattle.miette_tool_rows.specs.views.Reading.{IsNextPart, IsNextRow}
 use Rattle.miette_tool_rows.proofs.RowSteps.{last_alone, next_of, none_next}
@@ -98,10 +98,11 @@ row_more (Some xs) (Some ys) (Some zs) held row part one some is next =
     ∙ ap (λ p. parts_from p (rows_of zs)) (sym one)
 
 -- what is open after one row more
-pub behind_more : (held row part : List ℕ) (was now : Open) → part ≡ held ++ row → was ≡ behind closed held
-    → now ≡ behind was row → now ≡ behind closed part
-behind_more held row part was now is before after =
-    after ∙ ap (λ o. behind o row) before ∙ sym (fold-append with_byte closed held row) ∙ ap (behind closed) (sym is)
+pub after_more : (held row part : List ℕ) (was now : Open) → part ≡ held ++ row → was ≡ after_bytes closed held
+    → now ≡ after_bytes was row → now ≡ after_bytes closed part
+after_more held row part was now is before after =
+    after ∙ ap (λ o. after_bytes o row) before ∙ sym (fold-append with_byte closed held row)
+    ∙ ap (after_bytes closed) (sym is)
 
 some_more : (held row part : List ℕ) → part ≡ held ++ row → 0 < length row → 0 < length part
 some_more held row part one h =
@@ -126,16 +127,17 @@ held_whole (Some xs) (Some ys) (Some zs) held row part one some is same ends = (
   (λ e. absurd (not_none part (some_more held row part one some) e)),
 )
 
-pub closed_ends : (left : Option (List ℕ)) (part : List ℕ) → (begins_value part && is_open (behind closed part)) ≡ false
-    → Ends left part
+pub closed_ends : (left : Option (List ℕ)) (part : List ℕ)
+    → (begins_value part && is_open (after_bytes closed part)) ≡ false → Ends left part
 closed_ends None part none = tt
 closed_ends (Some ys) part none = ap (λ t. t && (begins_alone part || is_inner ys)) none
 
-pub never_on : (part : List ℕ) → begins_value part ≡ false → (begins_value part && is_open (behind closed part)) ≡ false
-never_on part begins = ap (λ a. a && is_open (behind closed part)) begins
+pub never_on : (part : List ℕ) → begins_value part ≡ false
+    → (begins_value part && is_open (after_bytes closed part)) ≡ false
+never_on part begins = ap (λ a. a && is_open (after_bytes closed part)) begins
 
-pub is_as : (part : List ℕ) (o : Open) (t : Bool) → o ≡ behind closed part → begins_value part ≡ true → is_open o ≡ t
-    → (begins_value part && is_open (behind closed part)) ≡ t
+pub is_as : (part : List ℕ) (o : Open) (t : Bool) → o ≡ after_bytes closed part → begins_value part ≡ true
+    → is_open o ≡ t → (begins_value part && is_open (after_bytes closed part)) ≡ t
 is_as part o t is begins opens = ap₂ (λ a b. a && b) begins (ap is_open (sym is) ∙ opens)
 
 -- what is told of a copy of the part
@@ -145,13 +147,14 @@ pub on_as : (a part : List ℕ) (left : Option (List ℕ)) (on t : Bool) → a �
 on_as a part None on t same is given = tt
 on_as a part (Some ys) on t same is given = ap (λ p. begins_alone p || is_inner ys) (sym same) ∙ given ∙ is
 
-pub open_ends : (left : Option (List ℕ)) (part : List ℕ) → (begins_value part && is_open (behind closed part)) ≡ true
+pub open_ends : (left : Option (List ℕ)) (part : List ℕ)
+    → (begins_value part && is_open (after_bytes closed part)) ≡ true
     → IfSome left (λ bytes. (begins_alone part || is_inner bytes) ≡ false) → Ends left part
 open_ends None part opens none = tt
 open_ends (Some ys) part opens none = ap₂ (λ a b. a && b) opens none
 
 pub held_more : (old mid new : Option (List ℕ)) (part : List ℕ) → RowHeld old mid part → Consumes mid new []
-    → (begins_value part && is_open (behind closed part)) ≡ true
+    → (begins_value part && is_open (after_bytes closed part)) ≡ true
     → IfSome new (λ bytes. (begins_alone part || is_inner bytes) ≡ true) → PartHeld old new part
 held_more None mid new part is same opens on = tt
 held_more (Some xs) None new part is same opens on = absurd is

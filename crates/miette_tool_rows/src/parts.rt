@@ -1,8 +1,8 @@
 //! Values that stand over several rows: where they end.
 
 ghost use Rattle.std.specs.Prelude.{◌≡◌, ◌≤◌, ◌&&◌, length};
-ghost use Rattle.miette_tool_rows.specs.rules.Parts.{begins_alone, begins_value, behind, beside_text, closed, ends_in};
-ghost use Rattle.miette_tool_rows.specs.rules.Parts.{in_text, is_inner, is_open, with_byte};
+ghost use Rattle.miette_tool_rows.specs.rules.Parts.{after_bytes, begins_alone, begins_value, beside_text, closed};
+ghost use Rattle.miette_tool_rows.specs.rules.Parts.{ends_in, in_text, is_inner, is_open, with_byte};
 ghost use Rattle.miette_tool_rows.specs.rules.Rows.{begins_with, is_closing, is_mark, is_opening, is_space, leads_in};
 
 /// What is open after some bytes of JSON.
@@ -84,8 +84,8 @@ impl Open {
     }
 
     /// After further bytes.
-    pub(crate) fn behind(self, bytes: &[u8]) -> Open
-        ensures { result ≡ behind self bytes.now }
+    pub(crate) fn after_bytes(self, bytes: &[u8]) -> Open
+        ensures { result ≡ after_bytes self bytes.now }
     {
         let mut state = self;
         for byte in bytes {

@@ -178,7 +178,7 @@ impl<R: Read> RowReader<R> {
             if !begins_value(part.as_slice()) {
                 return Ok(());
             }
-            state = state.behind(row.as_slice());
+            state = state.after_bytes(row.as_slice());
             if !state.is_open() {
                 return Ok(());
             }

@@ -34,21 +34,21 @@ not_past : (t u : Tree) (k : ℕ) → drop k (spine t) ≡ spine u → k < lengt
 not_past t u k e = omega (arith, length-drop k (spine t), ap length (e ∙ spine_parts u))
 
 -- the messages after the first k, from their first on
-behind : (t u : Tree) (k : ℕ) → drop k (spine t) ≡ spine u → get_or (spine t) k [] ∷ drop (k + 1) (spine t)
+spine_after : (t u : Tree) (k : ℕ) → drop k (spine t) ≡ spine u → get_or (spine t) k [] ∷ drop (k + 1) (spine t)
     ≡ (head u).message ∷ spine_below (cause_of u)
-behind t u k e = sym (drop_more (spine t) k [] (not_past t u k e)) ∙ (e ∙ spine_parts u)
+spine_after t u k e = sym (drop_more (spine t) k [] (not_past t u k e)) ∙ (e ∙ spine_parts u)
 
 -- one report further down, what is left is one message shorter
 pub further : (t u n : Tree) (k : ℕ) → drop k (spine t) ≡ spine u → spine n ≡ spine_below (cause_of u)
     → drop (k + 1) (spine t) ≡ spine n
-further t u n k e f = ap (drop 1) (behind t u k e) ∙ sym f
+further t u n k e f = ap (drop 1) (spine_after t u k e) ∙ sym f
 
 -- the message of the n-th report is the last of the first n
 pub last_of : (t u : Tree) (n : ℕ) → 0 < n → drop (n - 1) (spine t) ≡ spine u → take n (spine t)
     ≡ take (n - 1) (spine t) ++ (head u).message ∷ []
 last_of t u n h e =
     let one : n ≡ n - 1 + 1 = omega arith in
-    let first : get_or (spine t) (n - 1) [] ≡ (head u).message = ap (λ l. get_or l 0 []) (behind t u (n - 1) e) in
+    let first : get_or (spine t) (n - 1) [] ≡ (head u).message = ap (λ l. get_or l 0 []) (spine_after t u (n - 1) e) in
     ap (λ k. take k (spine t)) one ∙ (take_more (spine t) (n - 1) [] (not_past t u (n - 1) e)
     ∙ ap (λ y. take (n - 1) (spine t) ++ y ∷ []) first)
 
@@ -115,8 +115,8 @@ counted_left xs ts n k count =
     ∙ sym (length-append (take n xs) (map string_bytes ts)))
 
 -- one message fewer
-pub fewer_behind : (xs ys : List (List ℕ)) (m : List ℕ) → xs ≡ m ∷ ys → length ys < length xs
-fewer_behind xs ys m e = omega (arith, ap length e)
+pub fewer_after : (xs ys : List (List ℕ)) (m : List ℕ) → xs ≡ m ∷ ys → length ys < length xs
+fewer_after xs ys m e = omega (arith, ap length e)
 
 pub fewer_before : (xs ys : List (List ℕ)) (m : List ℕ) → xs ≡ ys ++ m ∷ [] → length ys < length xs
 fewer_before xs ys m e = omega (arith, ap length e, length-append ys (m ∷ []))

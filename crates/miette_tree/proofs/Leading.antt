@@ -5,7 +5,7 @@ use Rattle.std.specs.Fmt.{HasWritten, IsPlainFormatter, WritesOnOk}
 use Rattle.std.specs.declared.fmt.Error.{Error}
 use Rattle.std.specs.declared.fmt.Formatter.{Formatter}
 use Rattle.std.proofs.Output.{has_written_append}
-use Rattle.miette_tree.specs.rules.Display.{behind_colons}
+use Rattle.miette_tree.specs.rules.Display.{after_colons}
 use Rattle.miette_tree.specs.rules.Tree.{Tree, tree, head, cause_of, causes_of, chain_of}
 
 module _ {W : Type 0} (took : W → List ℕ → W → Type 0) where
@@ -32,6 +32,6 @@ module _ {W : Type 0} (took : W → List ℕ → W → Type 0) where
       let (here, on) = so_far plain in on h (wrote here ok)
 
 -- the first of a chain, and those after it
-pub chain_led : (t : Tree) → behind_colons (chain_of t)
-    ≡ (58 ∷ 32 ∷ (head t).message) ++ behind_colons (causes_of (cause_of t))
+pub chain_led : (t : Tree) → after_colons (chain_of t)
+    ≡ (58 ∷ 32 ∷ (head t).message) ++ after_colons (causes_of (cause_of t))
 chain_led (tree m s c r) = refl

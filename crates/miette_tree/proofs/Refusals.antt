@@ -5,20 +5,20 @@ use Rattle.miette_basics.proofs.Cases.{by_cases}
 use Rattle.miette_fixes.specs.declared.error.FixError.{FixError}
 use Rattle.miette_fixes.specs.declared.error.FixError.TheVariants.{OutOfBounds, Memory}
 use Rattle.miette_fixes.specs.rules.Applying.{refusal}
-use Rattle.miette_fixes.specs.rules.Edits.{Replacement, ends_behind}
+use Rattle.miette_fixes.specs.rules.Edits.{Replacement, ends_after}
 
 never_both : {X : Type 0} (o : Option X) (x : X) → o ≡ None → o ≡ Some x → ⊥
 never_both o x e f = cc
 
 -- none of edits that can be applied ends past the end
 pub applied_inside : (n : ℕ) (edits : List Replacement) → refusal n edits ≡ None
-    → list_any (ends_behind n) edits ≡ false
+    → list_any (ends_after n) edits ≡ false
 applied_inside n edits e =
-    by_cases {C = list_any (ends_behind n) edits ≡ false} (list_any (ends_behind n) edits)
+    by_cases {C = list_any (ends_after n) edits ≡ false} (list_any (ends_after n) edits)
     (λ t. absurd (never_both (refusal n edits) OutOfBounds e (rw t refl)))
     (λ f. f)
 
--- edits that are refused for a place are refused for no want of memory
+-- edits that are refused for a place aren't refused for memory
 pub refused_so : (n : ℕ) (edits : List Replacement) (e : FixError) → (e ≢ Memory → refusal n edits ≡ Some e)
     → e ≡ OutOfBounds → refusal n edits ≡ Some OutOfBounds
 refused_so n edits e h is = h (λ m. (let no : OutOfBounds ≡ Memory = sym is ∙ m in cc)) ∙ ap Some is

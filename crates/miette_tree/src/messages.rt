@@ -2,7 +2,7 @@
 
 ghost use Rattle.std.specs.Prelude.{◌∷◌, map, string_bytes};
 ghost use Rattle.std.specs.Fmt.{WritesOnOk};
-ghost use Rattle.miette_tree.specs.rules.Display.{behind_colons};
+ghost use Rattle.miette_tree.specs.rules.Display.{after_colons};
 ghost use Rattle.miette_tree.specs.rules.Tree.{cause_of, causes_of};
 ghost use Rattle.miette_tree.specs.views.Report.{tree_of};
 
@@ -18,7 +18,7 @@ pub(crate) fn write_causes<D: Diagnostic, S: SourceCode, W: fmt::Write>(
     report: &Report<D, S>,
 ) -> fmt::Result
     ensures { WritesOnOk W.write_str_gives f.old result
-        (behind_colons (causes_of (cause_of (tree_of D.meaning S.source report.now)))) f.new }
+        (after_colons (causes_of (cause_of (tree_of D.meaning S.source report.now)))) f.new }
 {
     let mut at = report;
     while let Cause::Diagnostic(next) = at.cause() {
@@ -38,7 +38,7 @@ fn write_after_colon<W: fmt::Write>(f: &mut fmt::Formatter<W>, text: &str) -> fm
 
 /// Writes texts, each with `: ` in front.
 fn write_each_after_colon<W: fmt::Write>(f: &mut fmt::Formatter<W>, texts: &[String]) -> fmt::Result
-    ensures { WritesOnOk W.write_str_gives f.old result (behind_colons (map string_bytes texts.now)) f.new }
+    ensures { WritesOnOk W.write_str_gives f.old result (after_colons (map string_bytes texts.now)) f.new }
 {
     for text in texts {
         write_after_colon(f, text.as_str())?;

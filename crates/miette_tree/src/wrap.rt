@@ -21,7 +21,7 @@ pub trait WrapErr<T, D: Diagnostic, S: SourceCode>: Sized {
     ghost value: { Self → Option T };
 
     /// What a text stands in front of, where the value is missing: the report of the error, or nothing.
-    ghost stands_behind: { Self → Option (Report D S) → Type 0 };
+    ghost stands_after: { Self → Option (Report D S) → Type 0 };
 
     /// A message in front that is made only where it is needed, by at most one call.
     fn wrap_err_with<F>(self, alloc: Global, make: F) -> Result<T, Report<D, S>>
@@ -30,7 +30,7 @@ pub trait WrapErr<T, D: Diagnostic, S: SourceCode>: Sized {
         Report<D, S>: UsualBoxes,
         requires { IsNone (value self) → F.IsAlwaysCallable make }
         ensures value { IfSome (value self) (λ it. result ≡ Ok it) }
-        ensures missing { IsNone (value self) → IsErrAnd result (λ r. (below : _) × stands_behind self below
+        ensures missing { IsNone (value self) → IsErrAnd result (λ r. (below : _) × stands_after self below
             × ((made : _) × F.post make made × TellsMade D.meaning S.source made below r)) };
 
     /// As `wrap_err_with`.
@@ -40,7 +40,7 @@ pub trait WrapErr<T, D: Diagnostic, S: SourceCode>: Sized {
         Report<D, S>: UsualBoxes,
         requires { IsNone (value self) → F.IsAlwaysCallable make }
         ensures value { IfSome (value self) (λ it. result ≡ Ok it) }
-        ensures missing { IsNone (value self) → IsErrAnd result (λ r. (below : _) × stands_behind self below
+        ensures missing { IsNone (value self) → IsErrAnd result (λ r. (below : _) × stands_after self below
             × ((made : _) × F.post make made × TellsMade D.meaning S.source made below r)) };
 
     /// A message in front.
@@ -49,7 +49,7 @@ pub trait WrapErr<T, D: Diagnostic, S: SourceCode>: Sized {
         Report<D, S>: UsualBoxes,
         ensures value { IfSome (value self) (λ it. result ≡ Ok it) }
         ensures missing { IsNone (value self) →
-            IsErrAnd result (λ r. (below : _) × stands_behind self below × Tells D.meaning S.source text.now below r) }
+            IsErrAnd result (λ r. (below : _) × stands_after self below × Tells D.meaning S.source text.now below r) }
     {
         self.wrap_err_with(alloc, || String::from_str(alloc, text))
     }
@@ -60,7 +60,7 @@ pub trait WrapErr<T, D: Diagnostic, S: SourceCode>: Sized {
         Report<D, S>: UsualBoxes,
         ensures value { IfSome (value self) (λ it. result ≡ Ok it) }
         ensures missing { IsNone (value self) →
-            IsErrAnd result (λ r. (below : _) × stands_behind self below × Tells D.meaning S.source text.now below r) }
+            IsErrAnd result (λ r. (below : _) × stands_after self below × Tells D.meaning S.source text.now below r) }
     {
         self.wrap_err(alloc, text)
     }
@@ -122,7 +122,7 @@ where
 impl<T, D: Diagnostic, S: SourceCode> WrapErr<T, D, S> for Option<T> {
     ghost value = { λ option. option };
 
-    ghost stands_behind = { λ _ below. below ≡ None };
+    ghost stands_after = { λ _ below. below ≡ None };
 
     fn wrap_err_with<F>(self, _alloc: Global, make: F) -> Result<T, Report<D, S>>
     where
@@ -147,7 +147,7 @@ impl<T, D: Diagnostic, S: SourceCode> WrapErr<T, D, S> for Option<T> {
 impl<T, D: Diagnostic, S: SourceCode, E: Into<Report<D, S>>> WrapErr<T, D, S> for Result<T, E> {
     ghost value = { result_ok };
 
-    ghost stands_behind = { λ outcome below. IfErr outcome
+    ghost stands_after = { λ outcome below. IfErr outcome
         (λ error. (report : _) × E.converts error report × (below ≡ Some report)) };
 
     fn wrap_err_with<F>(self, alloc: Global, make_message: F) -> Result<T, Report<D, S>>

@@ -17,12 +17,12 @@ use Rattle.miette_line_breaks.specs.declared.characters.Character.{Character}
 use Rattle.miette_line_breaks.specs.declared.state.State.{State}
 use Rattle.miette_line_breaks.specs.rules.Characters.{character_of}
 use Rattle.miette_line_breaks.specs.rules.Classes.{is_hebrew}
-use Rattle.miette_line_breaks.specs.steps.States.{break_in, state_behind, state_of}
+use Rattle.miette_line_breaks.specs.steps.States.{break_in, state_after, state_of}
 use Rattle.miette_line_breaks.proofs.AsciiClasses.{ascii-property, same_class}
 use Rattle.miette_line_breaks.proofs.States.{break-is, state-step}
 use Rattle.miette_runs.specs.rules.Cells.{Cell}
 use Rattle.miette_wrap_rules.specs.declared.options.WordSeparator.TheVariants.{AsciiSpace, UnicodeBreakProperties}
-use Rattle.miette_word_laws.specs.laws.PlainWords.{is_plain, is_plain_text, is_point, plain_behind}
+use Rattle.miette_word_laws.specs.laws.PlainWords.{is_plain, is_plain_text, is_point, plain_after}
 use Rattle.miette_wrap_rules.specs.rules.Wrapping.{ends_word, is_hyphen, is_space, pieces, starts_word, word_of, words}
 use Rattle.miette_wrapping.specs.steps.Ends.{codes_of}
 
@@ -138,13 +138,13 @@ no-hebrew false Point = refl
 abbrev next : Kind → Kind → Kind
 next k m = if is_gap m then k else m
 
-behind-kind : (k m : Kind) (sp : Bool) → state_behind (at k sp) (char_of m) ≡ at (next k m) (is_gap m)
-behind-kind k Gap sp = ap (at_with k true) (no-hebrew sp k)
-behind-kind k Letter sp = ap (at_with Letter false) (no-hebrew sp k)
-behind-kind k Digit sp = ap (at_with Digit false) (no-hebrew sp k)
-behind-kind k Quote sp = ap (at_with Quote false) (no-hebrew sp k)
-behind-kind k Dash sp = ap (at_with Dash false) (no-hebrew sp k)
-behind-kind k Point sp = ap (at_with Point false) (no-hebrew sp k)
+after-kind : (k m : Kind) (sp : Bool) → state_after (at k sp) (char_of m) ≡ at (next k m) (is_gap m)
+after-kind k Gap sp = ap (at_with k true) (no-hebrew sp k)
+after-kind k Letter sp = ap (at_with Letter false) (no-hebrew sp k)
+after-kind k Digit sp = ap (at_with Digit false) (no-hebrew sp k)
+after-kind k Quote sp = ap (at_with Quote false) (no-hebrew sp k)
+after-kind k Dash sp = ap (at_with Dash false) (no-hebrew sp k)
+after-kind k Point sp = ap (at_with Point false) (no-hebrew sp k)
 
 -- ---- each pair of them, after each character before
 
@@ -186,8 +186,8 @@ begins-same k m n h = same_from_beq _ _
 
 -- ---- the words of a line
 
-usual_behind : (b c : ℕ) → (is_plain c || (is_point c && not (is_space b))) ≡ true → is_usual c ≡ true
-usual_behind b c h = grind (arith, nat_tests)
+usual_after : (b c : ℕ) → (is_plain c || (is_point c && not (is_space b))) ≡ true → is_usual c ≡ true
+usual_after b c h = grind (arith, nat_tests)
 
 plain-point : (c : ℕ) → is_plain c ≡ true → is_point c ≡ false
 plain-point c h = grind (arith, nat_tests)
@@ -210,7 +210,7 @@ starts-same : (k : Kind) (b c : ℕ) (before : List ℕ) → is_usual b ≡ true
     starts_word UnicodeBreakProperties (b ∷ before) c ≡ starts_word AsciiSpace (b ∷ before) c
 starts-same k b c before u h e =
     let s = as_kind b u in
-    let t = as_kind c (usual_behind b c h) in
+    let t = as_kind c (usual_after b c h) in
     let m = kind_of b in
     let n = kind_of c in
     let apart : (is_gap m && is_stop n) ≡ false = ap₂ (λ x y. x && y) (sym s.gap) (sym t.point) ∙ no_point b c h in
@@ -220,24 +220,24 @@ starts-same k b c before u h e =
     ∙ ap₂ (λ x y. x && not y) (sym s.gap) (sym t.gap)
 
 pieces-same : (k : Kind) (sp : Bool) (last : ℕ) (before : List ℕ) (cs : List Cell) → state_of before ≡ at k sp →
-    plain_behind last (codes_of cs) ≡ true → pieces UnicodeBreakProperties before cs ≡ pieces AsciiSpace before cs
+    plain_after last (codes_of cs) ≡ true → pieces UnicodeBreakProperties before cs ≡ pieces AsciiSpace before cs
 pieces-same k sp last before [] e h = refl
 pieces-same k sp last before (c ∷ cs) e h =
     let x = c.code in
-    let p = and_parts (is_plain x || (is_point x && not (is_space last))) (plain_behind x (codes_of cs)) h in
-    let u = usual_behind last x p.0 in
+    let p = and_parts (is_plain x || (is_point x && not (is_space last))) (plain_after x (codes_of cs)) h in
+    let u = usual_after last x p.0 in
     let f : state_of (x ∷ before) ≡ at (next k (kind_of x)) (is_gap (kind_of x)) =
-    state-step x before ∙ ap₂ state_behind e (as_kind x u).class ∙ behind-kind k (kind_of x) sp in
+    state-step x before ∙ ap₂ state_after e (as_kind x u).class ∙ after-kind k (kind_of x) sp in
     ap₂ (λ (b : Bool) ps. if b then (c ∷ []) ∷ ps else onto c ps) (ends-same k x before cs u p.1 f)
     (pieces-same (next k (kind_of x)) (is_gap (kind_of x)) x (x ∷ before) cs f p.1)
   where
     ends-same : (k : Kind) (x : ℕ) (before : List ℕ) (cs : List Cell) → is_usual x ≡ true →
-        plain_behind x (codes_of cs) ≡ true → state_of (x ∷ before) ≡ at (next k (kind_of x)) (is_gap (kind_of x)) →
+        plain_after x (codes_of cs) ≡ true → state_of (x ∷ before) ≡ at (next k (kind_of x)) (is_gap (kind_of x)) →
         ends_word UnicodeBreakProperties (x ∷ before) cs ≡ ends_word AsciiSpace (x ∷ before) cs
     ends-same k x before [] u h f = refl
     ends-same k x before (d ∷ ds) u h f =
         let p = and_parts (is_plain d.code || (is_point d.code && not (is_space x)))
-        (plain_behind d.code (codes_of ds)) h in
+        (plain_after d.code (codes_of ds)) h in
         starts-same k x d.code before u p.0 f
 
 pub words-same : (cs : List Cell) → is_plain_text (codes_of cs) ≡ true →

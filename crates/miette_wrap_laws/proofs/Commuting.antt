@@ -13,7 +13,7 @@ use Rattle.miette_wrap_rules.specs.rules.Wrapping.{ends_word, in_front, pieces, 
 use Rattle.miette_wrap_rules.specs.rules.Wrapping.{is_alphanumeric, begins_alphanumeric, hyphen_parts}
 use Rattle.miette_wrap_rules.specs.rules.Wrapping.{broken_parts, with_spaces, first_room, further_room, cuts_of}
 use Rattle.miette_wrap_rules.specs.rules.Wrapping.{hyphenated_parts, narrow_parts, parts, cut_words, word_cells}
-use Rattle.miette_wrap_rules.specs.rules.Wrapping.{rows_behind}
+use Rattle.miette_wrap_rules.specs.rules.Wrapping.{rows_after}
 use Rattle.miette_wrap_rules.specs.rules.Wrapping.{rows, only_spaces, trimmed_row, row_tokens, with_rest}
 use Rattle.miette_wrap_rules.specs.rules.Wrapping.{text_line_rows}
 use Rattle.miette_wrap_rules.specs.rules.Wrapping.{text_rows, line_feed, joined_rows, filled_text, all_white}
@@ -270,32 +270,32 @@ word_cells-strip w = sym (map-append strip w.letters w.spaces)
 wide-strip : (w : Word) → columns (word_cells (strip_word w)) ≡ columns (word_cells w)
 wide-strip w = ap columns (word_cells-strip w) ∙ columns-strip (word_cells w)
 
-rows_behind-strip : (used room further : ℕ) (ws : List Word) → rows_behind used room further (map strip_word ws)
-    ≡ map (map strip_word) (rows_behind used room further ws)
-rows_behind-strip used room further [] = refl
-rows_behind-strip used room further (w ∷ ws) =
+rows_after-strip : (used room further : ℕ) (ws : List Word) → rows_after used room further (map strip_word ws)
+    ≡ map (map strip_word) (rows_after used room further ws)
+rows_after-strip used room further [] = refl
+rows_after-strip used room further (w ∷ ws) =
     ap₂ (λ m n. if nat_lt room (used + m) then [] ∷ onto (strip_word w)
-    (rows_behind n further further (map strip_word ws))
-    else onto (strip_word w) (rows_behind (used + n) room further (map strip_word ws))) (columns-strip w.letters)
+    (rows_after n further further (map strip_word ws))
+    else onto (strip_word w) (rows_after (used + n) room further (map strip_word ws))) (columns-strip w.letters)
     (wide-strip w)
     ∙ elim (nat_lt room (used + columns w.letters)) as (λ b.
-    (if b then [] ∷ onto (strip_word w) (rows_behind (columns (word_cells w)) further further (map strip_word ws))
-    else onto (strip_word w) (rows_behind (used + columns (word_cells w)) room further (map strip_word ws)))
-    ≡ map (map strip_word) (if b then [] ∷ onto w (rows_behind (columns (word_cells w)) further further ws)
-    else onto w (rows_behind (used + columns (word_cells w)) room further ws))) [
-      | true ↦ ap (λ rs. [] ∷ onto (strip_word w) rs) (rows_behind-strip (columns (word_cells w)) further further ws)
-          ∙ ap (λ rs. [] ∷ rs) (onto-map strip_word w (rows_behind (columns (word_cells w)) further further ws))
-      | false ↦ ap (onto (strip_word w)) (rows_behind-strip (used + columns (word_cells w)) room further ws)
-          ∙ onto-map strip_word w (rows_behind (used + columns (word_cells w)) room further ws)
+    (if b then [] ∷ onto (strip_word w) (rows_after (columns (word_cells w)) further further (map strip_word ws))
+    else onto (strip_word w) (rows_after (used + columns (word_cells w)) room further (map strip_word ws)))
+    ≡ map (map strip_word) (if b then [] ∷ onto w (rows_after (columns (word_cells w)) further further ws)
+    else onto w (rows_after (used + columns (word_cells w)) room further ws))) [
+      | true ↦ ap (λ rs. [] ∷ onto (strip_word w) rs) (rows_after-strip (columns (word_cells w)) further further ws)
+          ∙ ap (λ rs. [] ∷ rs) (onto-map strip_word w (rows_after (columns (word_cells w)) further further ws))
+      | false ↦ ap (onto (strip_word w)) (rows_after-strip (used + columns (word_cells w)) room further ws)
+          ∙ onto-map strip_word w (rows_after (used + columns (word_cells w)) room further ws)
     ]
 
 pub rows-strip : (room further : ℕ) (ws : List Word) → rows room further (map strip_word ws)
     ≡ map (map strip_word) (rows room further ws)
 rows-strip room further [] = refl
 rows-strip room further (w ∷ ws) =
-    ap (λ n. onto (strip_word w) (rows_behind n room further (map strip_word ws))) (wide-strip w)
-    ∙ ap (onto (strip_word w)) (rows_behind-strip (columns (word_cells w)) room further ws)
-    ∙ onto-map strip_word w (rows_behind (columns (word_cells w)) room further ws)
+    ap (λ n. onto (strip_word w) (rows_after n room further (map strip_word ws))) (wide-strip w)
+    ∙ ap (onto (strip_word w)) (rows_after-strip (columns (word_cells w)) room further ws)
+    ∙ onto-map strip_word w (rows_after (columns (word_cells w)) room further ws)
 
 -- ---- what rows print
 

@@ -4,17 +4,17 @@ use Rattle.std.proofs.Common.{if◌then◌else◌}
 use Rattle.std.proofs.lemmas.Bool.Decides.{nat_tests}
 use Rattle.std.proofs.lemmas.Bool.{and_parts}
 use Rattle.miette_runs.specs.rules.Sequences.{Token, Character, Sequence, tokens, spell, erase, is_line_feed}
-use Rattle.miette_wrap_rules.specs.laws.Tame.{State, Free, Escaped, Opened, Waiting, Broken, step, state_behind, IsTame}
+use Rattle.miette_wrap_rules.specs.laws.Tame.{State, Free, Escaped, Opened, Waiting, Broken, step, state_after, IsTame}
 use Rattle.miette_runs.specs.rules.Cutting.{cut_front, only_feeds, cut_end, without_leading, without_trailing}
 use Rattle.miette_wrap_laws.proofs.ErasedTokens.{erased}
 use Rattle.miette_wrap_laws.proofs.Parsing.{broken_stays, tokens-spell, erase-spell}
 use Rattle.miette_wrap_laws.proofs.Erasing.{tokens-erase}
 
-cut_front-run : (ts : List Token) → state_behind Free ts ≡ Free → state_behind Free (cut_front ts) ≡ Free
+cut_front-run : (ts : List Token) → state_after Free ts ≡ Free → state_after Free (cut_front ts) ≡ Free
 cut_front-run [] h = h
 cut_front-run (Character c ∷ ts) h = elim (is_line_feed c) as
-    (λ b. is_line_feed c ≡ b → state_behind Free (if b then cut_front ts else Character c ∷ ts) ≡ Free) [
-      | true ↦ λ e. cut_front-run ts (ap (λ x. state_behind (step Free (Character x)) ts) (sym (eqb-true c 10 e)) ∙ h)
+    (λ b. is_line_feed c ≡ b → state_after Free (if b then cut_front ts else Character c ∷ ts) ≡ Free) [
+      | true ↦ λ e. cut_front-run ts (ap (λ x. state_after (step Free (Character x)) ts) (sym (eqb-true c 10 e)) ∙ h)
       | false ↦ λ e. h
     ] refl
 cut_front-run (Sequence s ∷ ts) h = grind (arith, nat_tests, broken_stays ts, cut_front-run ts)
@@ -30,12 +30,12 @@ cut_front-erased (Character c ∷ ts) = elim (is_line_feed c) as
 cut_front-erased (Sequence s ∷ ts) = grind (arith, nat_tests, cut_front-erased ts)
 
 -- what waits still waits after line feeds and colours
-feeds_wait : (ts : List Token) → only_feeds ts ≡ true → state_behind Waiting ts ≡ Waiting
+feeds_wait : (ts : List Token) → only_feeds ts ≡ true → state_after Waiting ts ≡ Waiting
 feeds_wait [] h = refl
 feeds_wait (Character c ∷ ts) h = grind (arith, nat_tests, feeds_wait ts)
 feeds_wait (Sequence s ∷ ts) h = grind (arith, nat_tests, feeds_wait ts)
 
-feed_free : (s : State) (ts : List Token) → only_feeds ts ≡ true → state_behind (step s (Character 10)) ts ≡ Free
+feed_free : (s : State) (ts : List Token) → only_feeds ts ≡ true → state_after (step s (Character 10)) ts ≡ Free
     → step s (Character 10) ≡ s
 feed_free Free ts o h = refl
 feed_free Escaped ts o h = cc (feeds_wait ts o, h)
@@ -43,18 +43,18 @@ feed_free Opened ts o h = cc (feeds_wait ts o, h)
 feed_free Waiting ts o h = refl
 feed_free Broken ts o h = refl
 
-cut_end-run : (s : State) (ts : List Token) → state_behind s ts ≡ Free → state_behind s (cut_end ts) ≡ Free
+cut_end-run : (s : State) (ts : List Token) → state_after s ts ≡ Free → state_after s (cut_end ts) ≡ Free
 cut_end-run s [] h = h
 cut_end-run s (Sequence q ∷ ts) h = cut_end-run (step s (Sequence q)) ts h
 cut_end-run s (Character c ∷ ts) h =
     let rest = cut_end-run (step s (Character c)) ts h in
     elim (is_line_feed c && only_feeds ts) as (λ b. (is_line_feed c && only_feeds ts) ≡ b
-    → state_behind s (if b then cut_end ts else Character c ∷ cut_end ts) ≡ Free) [
+    → state_after s (if b then cut_end ts else Character c ∷ cut_end ts) ≡ Free) [
       | true ↦ λ e.
           let p = and_parts (is_line_feed c) (only_feeds ts) e in
           let d : c ≡ 10 = eqb-true c 10 p.0 in
-          ap (λ t. state_behind t (cut_end ts)) (sym (ap (λ x. step s (Character x)) d
-          ∙ feed_free s ts p.1 (ap (λ x. state_behind (step s (Character x)) ts) (sym d) ∙ h))) ∙ rest
+          ap (λ t. state_after t (cut_end ts)) (sym (ap (λ x. step s (Character x)) d
+          ∙ feed_free s ts p.1 (ap (λ x. state_after (step s (Character x)) ts) (sym d) ∙ h))) ∙ rest
       | false ↦ λ e. rest
     ] refl
 
@@ -77,11 +77,11 @@ cut_end-erased (Sequence s ∷ ts) = grind (arith, nat_tests, cut_end-erased ts)
 
 pub leading-tame : (text : List ℕ) → IsTame text → IsTame (without_leading text)
 leading-tame text h = let k = cut_front-run (tokens text) h in
-    ap (state_behind Free) (tokens-spell Free (cut_front (tokens text)) k) ∙ k
+    ap (state_after Free) (tokens-spell Free (cut_front (tokens text)) k) ∙ k
 
 pub trailing-tame : (text : List ℕ) → IsTame text → IsTame (without_trailing text)
 trailing-tame text h = let k = cut_end-run Free (tokens text) h in
-    ap (state_behind Free) (tokens-spell Free (cut_end (tokens text)) k) ∙ k
+    ap (state_after Free) (tokens-spell Free (cut_end (tokens text)) k) ∙ k
 
 pub leading-erase : (text : List ℕ) → IsTame text → erase (without_leading text) ≡ without_leading (erase text)
 leading-erase text h =

@@ -6,7 +6,7 @@ use Rattle.std.proofs.Common.{eqb-true}
 use Rattle.std.proofs.lemmas.Bool.{and_parts}
 use Rattle.std.proofs.lemmas.Bool.Decides.{nat_tests}
 use Rattle.std.proofs.lemmas.Str.{encode_ascii, inside_one, length-encode, len_utf8_bounds}
-use Rattle.miette_runs.specs.rules.Sequences.{erase, erase_behind, is_parameter, one_more, colour_end_len}
+use Rattle.miette_runs.specs.rules.Sequences.{erase, erase_after, is_parameter, one_more, colour_end_len}
 use Rattle.miette_runs.specs.rules.Sequences.{after_colour_escape_len}
 use Rattle.miette_style.specs.rules.Escapes.{is_escape}
 use Rattle.miette_wrap_laws.proofs.Parsing.{erase_plain}
@@ -129,13 +129,13 @@ after_ascii (c ∷ cs) k h =
 -- ---- erasing
 
 abbrev erase_by : ℕ → ℕ → List ℕ → List ℕ
-erase_by n c cs = elim n as (λ _. List ℕ) [ zero ↦ c ∷ erase_behind 0 cs | suc k ↦ erase_behind k cs ]
+erase_by n c cs = elim n as (λ _. List ℕ) [ zero ↦ c ∷ erase_after 0 cs | suc k ↦ erase_after k cs ]
 
-encode_erased : (k : ℕ) (cs : List ℕ) → Ascii k cs → erase_behind k (encode_utf8_all cs)
-    ≡ encode_utf8_all (erase_behind k cs)
+encode_erased : (k : ℕ) (cs : List ℕ) → Ascii k cs → erase_after k (encode_utf8_all cs)
+    ≡ encode_utf8_all (erase_after k cs)
 encode_erased zero [] h = refl
 encode_erased (suc k) [] h = refl
-encode_erased (suc k) (c ∷ cs) h = ap (λ xs. erase_behind (suc k) (xs ++ encode_utf8_all cs)) (encode_ascii c h.0)
+encode_erased (suc k) (c ∷ cs) h = ap (λ xs. erase_after (suc k) (xs ++ encode_utf8_all cs)) (encode_ascii c h.0)
     ∙ encode_erased k cs h.1
 encode_erased zero (c ∷ cs) h = elim (low_or_high c) [
   | inl a ↦
@@ -149,12 +149,12 @@ encode_erased zero (c ∷ cs) h = elim (low_or_high c) [
       (encode_utf8_all cs) ≡ encode_utf8_all (erase_by (if v then one_more (after_colour_escape_len cs) else 0) c
       cs)) [
         | false ↦ ap (λ xs. c ∷ xs) (encode_erased zero cs tt)
-            ∙ ap (λ xs. xs ++ encode_utf8_all (erase_behind 0 cs)) (sym (encode_ascii c b))
+            ∙ ap (λ xs. xs ++ encode_utf8_all (erase_after 0 cs)) (sym (encode_ascii c b))
         | true ↦ elim (one_more (after_colour_escape_len cs)) as
             (λ n. one_more (after_colour_escape_len cs) ≡ n → erase_by n c (encode_utf8_all cs)
             ≡ encode_utf8_all (erase_by n c cs)) [
               | zero ↦ λ e. ap (λ xs. c ∷ xs) (encode_erased zero cs tt)
-                  ∙ ap (λ xs. xs ++ encode_utf8_all (erase_behind 0 cs)) (sym (encode_ascii c b))
+                  ∙ ap (λ xs. xs ++ encode_utf8_all (erase_after 0 cs)) (sym (encode_ascii c b))
               | suc k ↦ λ e. encode_erased k cs (after_ascii cs k e)
             ] refl
       ]

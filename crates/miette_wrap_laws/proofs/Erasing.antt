@@ -2,7 +2,7 @@
 use Rattle.std.proofs.Common.{◌≡◌, ℕ, List, [], ◌∷◌, ◌++◌, sym, ap, ap₂, ◌∙◌, arith}
 use Rattle.std.proofs.lemmas.Bool.Decides.{nat_tests}
 use Rattle.miette_runs.specs.rules.Sequences.{Token, Character, Sequence, tokens, spell, erase}
-use Rattle.miette_wrap_rules.specs.laws.Tame.{State, Free, Escaped, Opened, Waiting, Broken, step, state_behind}
+use Rattle.miette_wrap_rules.specs.laws.Tame.{State, Free, Escaped, Opened, Waiting, Broken, step, state_after}
 use Rattle.miette_wrap_rules.specs.laws.Tame.{AreTame}
 use Rattle.miette_wrap_rules.specs.laws.Tame.{IsTame, AllTame}
 use Rattle.miette_wrap_rules.specs.rules.ColouredTexts.{plain_plan}
@@ -19,7 +19,7 @@ use Rattle.miette_runs.proofs.Tokens.{spell-tokens}
 
 -- ---- deleting colours from a tame text
 
-erased-run : (s : State) (ts : List Token) → state_behind s ts ≡ Free → state_behind s (erased ts) ≡ Free
+erased-run : (s : State) (ts : List Token) → state_after s ts ≡ Free → state_after s (erased ts) ≡ Free
 erased-run s [] h = h
 erased-run s (Character c ∷ ts) h = erased-run (step s (Character c)) ts h
 erased-run Free (Sequence q ∷ ts) h = grind (arith, nat_tests, broken_stays ts, erased-run Free ts)
@@ -38,7 +38,7 @@ tokens-erase text h = ap tokens (erase-tame text h) ∙ tokens-spell Free (erase
 -- ---- joining
 
 tame-append : (us vs : List Token) → AreTame us → AreTame vs → AreTame (us ++ vs)
-tame-append us vs h k = run-append Free us vs ∙ ap (λ s. state_behind s vs) h ∙ k
+tame-append us vs h k = run-append Free us vs ∙ ap (λ s. state_after s vs) h ∙ k
 
 pub tokens-append : (x y : List ℕ) → IsTame x → IsTame y → tokens (x ++ y) ≡ tokens x ++ tokens y
 tokens-append x y h k =
@@ -48,7 +48,7 @@ tokens-append x y h k =
 
 -- Tame texts end to end are tame.
 pub append-tame : (x y : List ℕ) → IsTame x → IsTame y → IsTame (x ++ y)
-append-tame x y h k = ap (state_behind Free) (tokens-append x y h k) ∙ tame-append (tokens x) (tokens y) h k
+append-tame x y h k = ap (state_after Free) (tokens-append x y h k) ∙ tame-append (tokens x) (tokens y) h k
 
 pub erase-append : (x y : List ℕ) → IsTame x → IsTame y → erase (x ++ y) ≡ erase x ++ erase y
 erase-append x y h k =
@@ -66,7 +66,7 @@ read-tame p text h = wrapped_tokens-tame (map_indents tokens p) (tokens text) h.
 
 -- What is wrapped from tame parts is tame.
 pub wrapped-tame : (p : Plan (List ℕ)) (text : List ℕ) → AllTame p text → IsTame (wrapped_text p text)
-wrapped-tame p text h = ap (state_behind Free) (tokens-spell Free (wrapped_tokens (map_indents tokens p) (tokens text))
+wrapped-tame p text h = ap (state_after Free) (tokens-spell Free (wrapped_tokens (map_indents tokens p) (tokens text))
     (read-tame p text h)) ∙ read-tame p text h
 
 -- Deleting colours commutes with wrapping.

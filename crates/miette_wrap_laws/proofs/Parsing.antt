@@ -3,12 +3,12 @@ use Rattle.std.proofs.Common.{◌≡◌, ℕ, zero, suc, ◌<◌, true, false, �
 use Rattle.std.proofs.Common.{◌∙◌, arith, eqb-true, inl, inr, if◌then◌else◌}
 use Rattle.std.proofs.lemmas.Bool.{and_parts, or_cases}
 use Rattle.std.proofs.lemmas.Bool.Decides.{nat_tests}
-use Rattle.miette_runs.specs.rules.Sequences.{Token, Character, Sequence, tokens, spell, erase, erase_behind}
+use Rattle.miette_runs.specs.rules.Sequences.{Token, Character, Sequence, tokens, spell, erase, erase_after}
 use Rattle.miette_runs.specs.rules.Sequences.{command_len, colour_end_len, sequence_len, after_escape_len, colour_len}
 use Rattle.miette_runs.specs.rules.Sequences.{after_colour_escape_len}
 use Rattle.miette_style.specs.rules.Escapes.{is_escape}
-use Rattle.miette_wrap_rules.specs.laws.Tame.{State, Free, Escaped, Opened, Waiting, Broken, step, state_behind}
-use Rattle.miette_runs.specs.rules.Colours.{is_colour, is_colour_end, is_link, is_link_behind, is_link_end}
+use Rattle.miette_wrap_rules.specs.laws.Tame.{State, Free, Escaped, Opened, Waiting, Broken, step, state_after}
+use Rattle.miette_runs.specs.rules.Colours.{is_colour, is_colour_end, is_link, is_link_after, is_link_end}
 use Rattle.miette_runs.specs.rules.Colours.{is_backslash}
 use Rattle.miette_wrap_laws.proofs.ErasedTokens.{erased}
 use Rattle.miette_runs.proofs.Tokens.{one_more_pos, colour_end_some, nil_of, colour-sequence, tokens_sequence}
@@ -68,7 +68,7 @@ link-sequence (c ∷ d ∷ s) r h = grind (
   one_more_pos (command_len (s ++ r)),
 )
 
-erase_skip : (s r : List ℕ) → erase_behind (length s) (s ++ r) ≡ erase_behind 0 r
+erase_skip : (s r : List ℕ) → erase_after (length s) (s ++ r) ≡ erase_after 0 r
 erase_skip [] [] = refl
 erase_skip [] (c ∷ r) = refl
 erase_skip (c ∷ s) r = erase_skip s r
@@ -76,12 +76,12 @@ erase_skip (c ∷ s) r = erase_skip s r
 pub erase_colour : (s r : List ℕ) → 0 < length s → colour_len (s ++ r) ≡ length s → erase (s ++ r) ≡ erase r
 erase_colour [] r p h = absurd (omega arith)
 erase_colour (c ∷ s) r p h =
-    ap (λ (n : ℕ). elim n as (λ _. List ℕ) [ zero ↦ c ∷ erase_behind 0 (s ++ r) | suc k ↦ erase_behind k (s ++ r) ]) h
+    ap (λ (n : ℕ). elim n as (λ _. List ℕ) [ zero ↦ c ∷ erase_after 0 (s ++ r) | suc k ↦ erase_after k (s ++ r) ]) h
     ∙ erase_skip s r
 
 pub erase_character : (c : ℕ) (r : List ℕ) → colour_len (c ∷ r) ≡ 0 → erase (c ∷ r) ≡ c ∷ erase r
 erase_character c r h =
-    ap (λ (n : ℕ). elim n as (λ _. List ℕ) [ zero ↦ c ∷ erase_behind 0 r | suc k ↦ erase_behind k r ]) h
+    ap (λ (n : ℕ). elim n as (λ _. List ℕ) [ zero ↦ c ∷ erase_after 0 r | suc k ↦ erase_after k r ]) h
 
 -- ---- characters that begin nothing
 
@@ -114,7 +114,7 @@ pub erase_link : (s r : List ℕ) → is_link s ≡ true → erase (s ++ r) ≡ 
 erase_link [] r h = cc
 erase_link (c ∷ []) r h = grind (arith, nat_tests)
 erase_link (c ∷ d ∷ s) r h =
-    let p = and_parts (is_escape c) (is_link_behind (d ∷ s)) h in
+    let p = and_parts (is_escape c) (is_link_after (d ∷ s)) h in
     let q = and_parts (d == 93) (is_link_end s) p.1 in
     let c_is : c ≡ 27 = eqb-true _ _ p.0 in
     let d_is : d ≡ 93 = eqb-true _ _ q.0 in
@@ -123,28 +123,28 @@ erase_link (c ∷ d ∷ s) r h =
 
 -- ---- tame texts
 
-pub broken_stays : (ts : List Token) → state_behind Broken ts ≡ Broken
+pub broken_stays : (ts : List Token) → state_after Broken ts ≡ Broken
 broken_stays [] = refl
 broken_stays (Character c ∷ ts) = broken_stays ts
 broken_stays (Sequence s ∷ ts) = broken_stays ts
 
 -- what is after an `ESC ]` that isn't finished on its line
-opened_command : (ts : List Token) → state_behind Opened ts ≡ Free → command_len (spell ts) ≡ 0
+opened_command : (ts : List Token) → state_after Opened ts ≡ Free → command_len (spell ts) ≡ 0
 opened_command [] h = refl
 opened_command (Sequence s ∷ ts) h = cc (broken_stays ts)
 opened_command (Character c ∷ ts) h = grind (arith, nat_tests, broken_stays ts, opened_command ts)
 
-escaped_sequence : (ts : List Token) → state_behind Escaped ts ≡ Free → after_escape_len (spell ts) ≡ 0
+escaped_sequence : (ts : List Token) → state_after Escaped ts ≡ Free → after_escape_len (spell ts) ≡ 0
 escaped_sequence [] h = refl
 escaped_sequence (Sequence s ∷ ts) h = cc (broken_stays ts)
 escaped_sequence (Character c ∷ ts) h = grind (arith, nat_tests, broken_stays ts, opened_command ts)
 
-escaped_colour : (ts : List Token) → state_behind Escaped ts ≡ Free → after_colour_escape_len (spell ts) ≡ 0
+escaped_colour : (ts : List Token) → state_after Escaped ts ≡ Free → after_colour_escape_len (spell ts) ≡ 0
 escaped_colour [] h = refl
 escaped_colour (Sequence s ∷ ts) h = cc (broken_stays ts)
 escaped_colour (Character c ∷ ts) h = grind (arith, nat_tests, broken_stays ts)
 
-character_sequence : (s : State) (c : ℕ) (ts : List Token) → state_behind (step s (Character c)) ts ≡ Free
+character_sequence : (s : State) (c : ℕ) (ts : List Token) → state_after (step s (Character c)) ts ≡ Free
     → sequence_len (c ∷ spell ts) ≡ 0
 character_sequence Free c ts h = grind (arith, nat_tests, escaped_sequence ts)
 character_sequence Escaped c ts h = grind (arith, nat_tests, broken_stays ts)
@@ -152,7 +152,7 @@ character_sequence Opened c ts h = grind (arith, nat_tests, broken_stays ts)
 character_sequence Waiting c ts h = grind (arith, nat_tests, escaped_sequence ts)
 character_sequence Broken c ts h = cc (broken_stays ts)
 
-character_colour : (s : State) (c : ℕ) (ts : List Token) → state_behind (step s (Character c)) ts ≡ Free
+character_colour : (s : State) (c : ℕ) (ts : List Token) → state_after (step s (Character c)) ts ≡ Free
     → colour_len (c ∷ spell ts) ≡ 0
 character_colour Free c ts h = grind (arith, nat_tests, escaped_colour ts)
 character_colour Escaped c ts h = grind (arith, nat_tests, broken_stays ts)
@@ -169,7 +169,7 @@ link_some [] h = cc
 link_some (c ∷ s) h = omega arith
 
 -- a sequence is a colour or a link's
-sequence_allowed : (s : State) (q : List ℕ) (ts : List Token) → state_behind (step s (Sequence q)) ts ≡ Free
+sequence_allowed : (s : State) (q : List ℕ) (ts : List Token) → state_after (step s (Sequence q)) ts ≡ Free
     → (is_colour q || is_link q) ≡ true
 sequence_allowed Free q ts h = grind (arith, nat_tests, broken_stays ts)
 sequence_allowed Escaped q ts h = cc (broken_stays ts, h)
@@ -185,7 +185,7 @@ allowed_sequence q r h = elim (or_cases (is_colour q) (is_link q) h)
     [ inl a ↦ colour-sequence q r a | inr a ↦ link-sequence q r a ]
 
 -- The tokens of what such tokens spell are those tokens.
-pub tokens-spell : (s : State) (ts : List Token) → state_behind s ts ≡ Free → tokens (spell ts) ≡ ts
+pub tokens-spell : (s : State) (ts : List Token) → state_after s ts ≡ Free → tokens (spell ts) ≡ ts
 tokens-spell s [] h = refl
 tokens-spell s (Character c ∷ ts) h =
     tokens_character c (spell ts) (character_sequence s c ts h)
@@ -196,7 +196,7 @@ tokens-spell s (Sequence q ∷ ts) h =
     ∙ ap (λ us. Sequence q ∷ us) (tokens-spell (step s (Sequence q)) ts h)
 
 -- Colours can be deleted token by token.
-pub erase-spell : (s : State) (ts : List Token) → state_behind s ts ≡ Free → erase (spell ts) ≡ spell (erased ts)
+pub erase-spell : (s : State) (ts : List Token) → state_after s ts ≡ Free → erase (spell ts) ≡ spell (erased ts)
 erase-spell s [] h = refl
 erase-spell s (Character c ∷ ts) h =
     erase_character c (spell ts) (character_colour s c ts h)

@@ -5,7 +5,7 @@ use Rattle.std.proofs.lemmas.Bool.{and_parts}
 use Rattle.std.proofs.lemmas.Bool.Decides.{nat_tests}
 use Rattle.miette_runs.specs.rules.Sequences.{Token, Character, Sequence, tokens, spell, erase, is_line_feed, is_bell}
 use Rattle.miette_style.specs.rules.Escapes.{is_escape}
-use Rattle.miette_wrap_rules.specs.laws.Tame.{Free, Opened, Waiting, Broken, step, state_behind, AreTame, IsTame}
+use Rattle.miette_wrap_rules.specs.laws.Tame.{Free, Opened, Waiting, Broken, step, state_after, AreTame, IsTame}
 use Rattle.miette_runs.specs.rules.Colours.{is_colour, is_link, is_link_end}
 use Rattle.miette_style.specs.rules.Escapes.{no_escape}
 use Rattle.miette_style.specs.rules.Styles.{plain}
@@ -22,8 +22,8 @@ use Rattle.miette_runs.proofs.Growing.{spell-characters}
 
 -- a text that is spelled by tame tokens
 spelled-tame : (text : List ℕ) (ts : List Token) → AreTame ts → spell ts ≡ text → IsTame text
-spelled-tame text ts h e = ap (λ x. state_behind Free (tokens x)) (sym e)
-    ∙ ap (state_behind Free) (tokens-spell Free ts h) ∙ h
+spelled-tame text ts h e = ap (λ x. state_after Free (tokens x)) (sym e)
+    ∙ ap (state_after Free) (tokens-spell Free ts h) ∙ h
 
 spelled-erase : (text : List ℕ) (ts : List Token) → AreTame ts → spell ts ≡ text → erase text ≡ spell (erased ts)
 spelled-erase text ts h e = ap erase (sym e) ∙ erase-spell Free ts h
@@ -34,7 +34,7 @@ erased-characters : (cs : List ℕ) → erased (map Character cs) ≡ map Charac
 erased-characters [] = refl
 erased-characters (c ∷ cs) = ap (λ xs. Character c ∷ xs) (erased-characters cs)
 
-plain-run : (cs : List ℕ) → no_escape cs ≡ true → state_behind Free (map Character cs) ≡ Free
+plain-run : (cs : List ℕ) → no_escape cs ≡ true → state_after Free (map Character cs) ≡ Free
 plain-run [] h = refl
 plain-run (c ∷ cs) h = grind (arith, nat_tests, plain-run cs)
 
@@ -56,16 +56,16 @@ terminator = 27 ∷ 92 ∷ []
 abbrev Finish : List ℕ → Type 0
 Finish b = ((p : List ℕ × List ℕ) × (b ≡ p.0 ++ 7 ∷ p.1) × (is_link_end (p.0 ++ 7 ∷ []) ≡ true)
     × (no_escape p.1 ≡ true))
-    ⊎ ((state_behind Opened (map Character b ++ map Character terminator) ≡ Free)
+    ⊎ ((state_after Opened (map Character b ++ map Character terminator) ≡ Free)
     ⊎ (is_link_end (b ++ terminator) ≡ true))
 
-plain-closed : (b : List ℕ) → no_escape b ≡ true → state_behind Free (map Character b ++ map Character terminator)
+plain-closed : (b : List ℕ) → no_escape b ≡ true → state_after Free (map Character b ++ map Character terminator)
     ≡ Free
 plain-closed b h = run-append Free (map Character b) (map Character terminator)
-    ∙ ap (λ s. state_behind s (map Character terminator)) (plain-run b h)
+    ∙ ap (λ s. state_after s (map Character terminator)) (plain-run b h)
 
 -- after a line feed, what is to be seen comes
-waiting-run : (b : List ℕ) → no_escape b ≡ true → state_behind Waiting (map Character b ++ map Character terminator)
+waiting-run : (b : List ℕ) → no_escape b ≡ true → state_after Waiting (map Character b ++ map Character terminator)
     ≡ Free
 waiting-run [] h = refl
 waiting-run (c ∷ b) h = grind (arith, nat_tests, waiting-run b, plain-closed b)
@@ -75,7 +75,7 @@ link_end-more : (c : ℕ) (cs : List ℕ) → is_bell c ≡ false → is_escape 
 link_end-more c cs a b d h = grind (arith, nat_tests)
 
 opened-more : (c : ℕ) (ts : List Token) → is_bell c ≡ false → is_escape c ≡ false → is_line_feed c ≡ false
-    → state_behind Opened ts ≡ Free → state_behind Opened (Character c ∷ ts) ≡ Free
+    → state_after Opened ts ≡ Free → state_after Opened (Character c ∷ ts) ≡ Free
 opened-more c ts a b d h = grind (arith, nat_tests)
 
 finish : (b : List ℕ) → no_escape b ≡ true → Finish b
@@ -86,7 +86,7 @@ finish (c ∷ b) h =
     elim (is_bell c) as (λ v. is_bell c ≡ v → Finish (c ∷ b)) [
       | true ↦ λ v. inl (([], b), ap (λ x. x ∷ b) (eqb-true c 7 v), refl, p.1)
       | false ↦ λ v. elim (is_line_feed c) as (λ w. is_line_feed c ≡ w → Finish (c ∷ b)) [
-        | true ↦ λ w. inr (inl (ap (λ x. state_behind (step Opened (Character x))
+        | true ↦ λ w. inr (inl (ap (λ x. state_after (step Opened (Character x))
             (map Character b ++ map Character terminator)) (eqb-true c 10 w) ∙ waiting-run b p.1))
         | false ↦ λ w. elim (finish b p.1) [
           | inl f ↦ inl ((c ∷ f.0.0, f.0.1), ap (λ xs. c ∷ xs) f.1, link_end-more c (f.0.0 ++ 7 ∷ []) v e w f.2, f.3)
@@ -113,9 +113,9 @@ erased-both : (x y : List ℕ) → erased (map Character x ++ map Character y) �
 erased-both [] y = erased-characters y
 erased-both (c ∷ x) y = ap (λ xs. Character c ∷ xs) (erased-both x y)
 
-link-run : (s : List ℕ) (ts : List Token) → is_link_end s ≡ true → state_behind Free ts ≡ Free
-    → state_behind Free (Sequence (27 ∷ 93 ∷ s) ∷ ts) ≡ Free
-link-run s ts h k = ap (λ (b : Bool). state_behind (if b then Free else Broken) ts) h ∙ k
+link-run : (s : List ℕ) (ts : List Token) → is_link_end s ≡ true → state_after Free ts ≡ Free
+    → state_after Free (Sequence (27 ∷ 93 ∷ s) ∷ ts) ≡ Free
+link-run s ts h k = ap (λ (b : Bool). state_after (if b then Free else Broken) ts) h ∙ k
 
 uncoloured_link : (b : List ℕ) → no_escape b ≡ true → Uncoloured (27 ∷ 93 ∷ b ++ terminator)
 uncoloured_link b h = elim (finish b h) [
@@ -152,9 +152,9 @@ link-erase url h = let u = uncoloured_link (56 ∷ 59 ∷ 59 ∷ url) h in spell
 
 -- ---- colours
 
-colour-run : (q : List ℕ) (ts : List Token) → is_colour q ≡ true → state_behind Free (Sequence q ∷ ts)
-    ≡ state_behind Free ts
-colour-run q ts h = ap (λ (b : Bool). state_behind (if b || is_link q then Free else Broken) ts) h
+colour-run : (q : List ℕ) (ts : List Token) → is_colour q ≡ true → state_after Free (Sequence q ∷ ts)
+    ≡ state_after Free ts
+colour-run q ts h = ap (λ (b : Bool). state_after (if b || is_link q then Free else Broken) ts) h
 
 colour-erased : (q : List ℕ) (ts : List Token) → is_colour q ≡ true → erased (Sequence q ∷ ts) ≡ erased ts
 colour-erased q ts h = ap (λ (b : Bool). if b then erased ts else Sequence q ∷ erased ts) h

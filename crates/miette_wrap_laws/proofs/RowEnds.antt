@@ -4,7 +4,7 @@ use Rattle.std.proofs.Common.{◌∙◌, if◌then◌else◌}
 use Rattle.std.proofs.lemmas.Bool.{true≢false, false≢true, and_right, not_from_false}
 use Rattle.std.specs.Cmp.{second_so}
 use Rattle.miette_runs.specs.rules.Sequences.{Token, Character, Sequence}
-use Rattle.miette_wrap_rules.specs.rules.Wrapping.{Word, columns, word_cells, is_space, only_spaces, rows, rows_behind}
+use Rattle.miette_wrap_rules.specs.rules.Wrapping.{Word, columns, word_cells, is_space, only_spaces, rows, rows_after}
 use Rattle.miette_wrap_rules.specs.rules.Wrapping.{trimmed_row}
 use Rattle.miette_wrap_rules.specs.laws.FilledRows.{all_words, sequences_of, is_letter, ends_with_letter, IsTrimmed}
 use Rattle.miette_basics.specs.rules.Lists.{onto}
@@ -15,22 +15,22 @@ words-onto : (w : Word) (rs : List (List Word)) → all_words (onto w rs) ≡ w 
 words-onto w [] = refl
 words-onto w (r ∷ rs) = refl
 
-words-behind : (used room further : ℕ) (ws : List Word) → all_words (rows_behind used room further ws) ≡ ws
-words-behind used room further [] = refl
-words-behind used room further (w ∷ ws) =
+words-after : (used room further : ℕ) (ws : List Word) → all_words (rows_after used room further ws) ≡ ws
+words-after used room further [] = refl
+words-after used room further (w ∷ ws) =
     elim (nat_lt room (used + columns w.letters)) as (λ b. all_words
-    (if b then [] ∷ onto w (rows_behind (columns (word_cells w)) further further ws)
-    else onto w (rows_behind (used + columns (word_cells w)) room further ws)) ≡ w ∷ ws) [
-      | true ↦ words-onto w (rows_behind (columns (word_cells w)) further further ws)
-          ∙ ap (λ us. w ∷ us) (words-behind (columns (word_cells w)) further further ws)
-      | false ↦ words-onto w (rows_behind (used + columns (word_cells w)) room further ws)
-          ∙ ap (λ us. w ∷ us) (words-behind (used + columns (word_cells w)) room further ws)
+    (if b then [] ∷ onto w (rows_after (columns (word_cells w)) further further ws)
+    else onto w (rows_after (used + columns (word_cells w)) room further ws)) ≡ w ∷ ws) [
+      | true ↦ words-onto w (rows_after (columns (word_cells w)) further further ws)
+          ∙ ap (λ us. w ∷ us) (words-after (columns (word_cells w)) further further ws)
+      | false ↦ words-onto w (rows_after (used + columns (word_cells w)) room further ws)
+          ∙ ap (λ us. w ∷ us) (words-after (used + columns (word_cells w)) room further ws)
     ]
 
 pub rows-hold : (room further : ℕ) (ws : List Word) → all_words (rows room further ws) ≡ ws
 rows-hold room further [] = refl
-rows-hold room further (w ∷ ws) = words-onto w (rows_behind (columns (word_cells w)) room further ws)
-    ∙ ap (λ us. w ∷ us) (words-behind (columns (word_cells w)) room further ws)
+rows-hold room further (w ∷ ws) = words-onto w (rows_after (columns (word_cells w)) room further ws)
+    ∙ ap (λ us. w ∷ us) (words-after (columns (word_cells w)) room further ws)
 
 -- ---- spaces
 
@@ -99,15 +99,15 @@ not_only (Character c) (u ∷ us) dropped h = and_right (is_space c) (only_space
     (not_only u us dropped h)
 not_only (Sequence s) (u ∷ us) dropped h = not_only u us dropped h
 
-ends-behind : (t : Token) (kept : List Token) → ends_with_letter (t ∷ kept) ≡ true → ends_with_letter kept ≡ true
-ends-behind t [] h = refl
-ends-behind t (u ∷ us) h = h
+ends-after : (t : Token) (kept : List Token) → ends_with_letter (t ∷ kept) ≡ true → ends_with_letter kept ≡ true
+ends-after t [] h = refl
+ends-after t (u ∷ us) h = h
 
-trimmed-behind : (kept dropped : List Token) → ends_with_letter kept ≡ true → only_spaces dropped ≡ true
+trimmed-after : (kept dropped : List Token) → ends_with_letter kept ≡ true → only_spaces dropped ≡ true
     → trimmed_row (kept ++ dropped) ≡ kept ++ sequences_of dropped
-trimmed-behind [] dropped h k = spaces-dropped dropped k
-trimmed-behind (t ∷ ts) dropped h k = token-kept t (ts ++ dropped) (not_only t ts dropped h)
-    ∙ ap (λ us. t ∷ us) (trimmed-behind ts dropped (ends-behind t ts h) k)
+trimmed-after [] dropped h k = spaces-dropped dropped k
+trimmed-after (t ∷ ts) dropped h k = token-kept t (ts ++ dropped) (not_only t ts dropped h)
+    ∙ ap (λ us. t ∷ us) (trimmed-after ts dropped (ends-after t ts h) k)
 
 pub only_trimmed : (row found : List Token) → IsTrimmed row found → found ≡ trimmed_row row
-only_trimmed row found r = r.printed ∙ sym (ap trimmed_row r.whole ∙ trimmed-behind r.kept r.dropped r.letter r.spaces)
+only_trimmed row found r = r.printed ∙ sym (ap trimmed_row r.whole ∙ trimmed-after r.kept r.dropped r.letter r.spaces)

@@ -6,7 +6,7 @@ use Rattle.std.proofs.lemmas.Bool.Decides.{nat_tests}
 use Rattle.std.proofs.lemmas.List.Concat.{flat_map-append}
 use Rattle.miette_runs.specs.rules.Sequences.{Token, Character, Sequence, is_line_feed}
 use Rattle.miette_style.specs.rules.Escapes.{is_escape}
-use Rattle.miette_wrap_rules.specs.laws.Tame.{State, Free, Escaped, Opened, Waiting, Broken, step, state_behind}
+use Rattle.miette_wrap_rules.specs.laws.Tame.{State, Free, Escaped, Opened, Waiting, Broken, step, state_after}
 use Rattle.miette_wrap_rules.specs.laws.Tame.{AreTame}
 use Rattle.miette_runs.specs.rules.Colours.{is_colour, is_link}
 use Rattle.miette_basics.specs.rules.Lists.{is_nil}
@@ -14,7 +14,7 @@ use Rattle.miette_wrap_rules.specs.rules.Wrapping.{TextLine, Word, Cuts, Plan, o
 use Rattle.miette_wrap_rules.specs.rules.Wrapping.{no_characters}
 use Rattle.miette_wrap_rules.specs.rules.Wrapping.{text_lines, cell_tokens, columns, is_space, words, pieces}
 use Rattle.miette_wrap_rules.specs.rules.Wrapping.{first_room, further_room, cuts_of}
-use Rattle.miette_wrap_rules.specs.rules.Wrapping.{cut_words, word_cells, rows_behind, rows, only_spaces}
+use Rattle.miette_wrap_rules.specs.rules.Wrapping.{cut_words, word_cells, rows_after, rows, only_spaces}
 use Rattle.miette_wrap_rules.specs.rules.Wrapping.{trimmed_row, row_tokens, with_rest, text_line_rows, text_rows}
 use Rattle.miette_wrap_rules.specs.rules.Wrapping.{line_feed}
 use Rattle.miette_wrap_rules.specs.rules.Wrapping.{joined_rows, filled_text, all_white, text_line_tokens, indented_row}
@@ -100,7 +100,7 @@ freer-step Opened _ k h = cc
 freer-step Broken Broken k h = (freer_self (step Broken k)).1
 freer-step Broken _ k h = cc
 
-pub freer-run : (s t : State) (ts : List Token) → freer s t ≡ true → freer (state_behind s ts) (state_behind t ts)
+pub freer-run : (s t : State) (ts : List Token) → freer s t ≡ true → freer (state_after s ts) (state_after t ts)
     ≡ true
 freer-run s t [] h = h
 freer-run s t (k ∷ ts) h = freer-run (step s k) (step t k) ts (freer-step s t k h)
@@ -123,11 +123,11 @@ alive_freer Broken Opened h a = cc
 alive_freer Broken Waiting h a = cc
 alive_freer Broken Broken h a = cc
 
-pub run-append : (s : State) (us vs : List Token) → state_behind s (us ++ vs) ≡ state_behind (state_behind s us) vs
+pub run-append : (s : State) (us vs : List Token) → state_after s (us ++ vs) ≡ state_after (state_after s us) vs
 run-append s [] vs = refl
 run-append s (u ∷ us) vs = run-append (step s u) us vs
 
-alive_before : (s : State) (ts : List Token) → alive (state_behind s ts) ≡ true → alive s ≡ true
+alive_before : (s : State) (ts : List Token) → alive (state_after s ts) ≡ true → alive s ≡ true
 alive_before Free ts h = refl
 alive_before Escaped ts h = refl
 alive_before Opened ts h = refl
@@ -166,18 +166,18 @@ space_stays Opened c h a = grind (arith, nat_tests)
 space_stays Waiting c h a = grind (arith, nat_tests)
 space_stays Broken c h a = refl
 
-pub run-trimmed : (s : State) (ts : List Token) → alive (state_behind s ts) ≡ true → state_behind s (trimmed_row ts)
-    ≡ state_behind s ts
+pub run-trimmed : (s : State) (ts : List Token) → alive (state_after s ts) ≡ true → state_after s (trimmed_row ts)
+    ≡ state_after s ts
 run-trimmed s [] h = refl
 run-trimmed s (Sequence q ∷ ts) h = run-trimmed (step s (Sequence q)) ts h
 run-trimmed s (Character c ∷ ts) h =
     let rest = run-trimmed (step s (Character c)) ts h in
-    elim (is_space c) as (λ b. is_space c ≡ b → state_behind s
+    elim (is_space c) as (λ b. is_space c ≡ b → state_after s
     (if b && only_spaces ts then trimmed_row ts else Character c ∷ trimmed_row ts)
-    ≡ state_behind (step s (Character c)) ts) [
-      | true ↦ λ e. elim (only_spaces ts) as (λ b. state_behind s
-          (if b then trimmed_row ts else Character c ∷ trimmed_row ts) ≡ state_behind (step s (Character c)) ts) [
-            | true ↦ ap (λ t. state_behind t (trimmed_row ts)) (sym
+    ≡ state_after (step s (Character c)) ts) [
+      | true ↦ λ e. elim (only_spaces ts) as (λ b. state_after s
+          (if b then trimmed_row ts else Character c ∷ trimmed_row ts) ≡ state_after (step s (Character c)) ts) [
+            | true ↦ ap (λ t. state_after t (trimmed_row ts)) (sym
                 (space_stays s c e (alive_before (step s (Character c)) ts h))) ∙ rest
             | false ↦ rest
           ]
@@ -185,31 +185,31 @@ run-trimmed s (Character c ∷ ts) h =
     ] refl
 
 -- From waiting a text comes to where it comes from free, or it waits still.
-waits : (ts : List Token) → (state_behind Waiting ts ≡ state_behind Free ts)
-    ⊎ ((state_behind Free ts ≡ Free) × (state_behind Waiting ts ≡ Waiting))
+waits : (ts : List Token) → (state_after Waiting ts ≡ state_after Free ts)
+    ⊎ ((state_after Free ts ≡ Free) × (state_after Waiting ts ≡ Waiting))
 waits [] = inr (refl, refl)
 waits (Sequence q ∷ ts) = elim (is_colour q || is_link q) as
-    (λ b. (state_behind (if b then Waiting else Broken) ts ≡ state_behind (if b then Free else Broken) ts)
-    ⊎ ((state_behind (if b then Free else Broken) ts ≡ Free)
-    × (state_behind (if b then Waiting else Broken) ts ≡ Waiting))) [
+    (λ b. (state_after (if b then Waiting else Broken) ts ≡ state_after (if b then Free else Broken) ts)
+    ⊎ ((state_after (if b then Free else Broken) ts ≡ Free)
+    × (state_after (if b then Waiting else Broken) ts ≡ Waiting))) [
       | true ↦ waits ts
       | false ↦ inl refl
     ]
 waits (Character c ∷ ts) = elim (is_escape c) as (λ b.
-    (state_behind (if b then Escaped else if is_space c || is_line_feed c then Waiting else Free) ts
-    ≡ state_behind (if b then Escaped else Free) ts) ⊎ ((state_behind (if b then Escaped else Free) ts ≡ Free)
-    × (state_behind (if b then Escaped else if is_space c || is_line_feed c then Waiting else Free) ts ≡ Waiting))) [
+    (state_after (if b then Escaped else if is_space c || is_line_feed c then Waiting else Free) ts
+    ≡ state_after (if b then Escaped else Free) ts) ⊎ ((state_after (if b then Escaped else Free) ts ≡ Free)
+    × (state_after (if b then Escaped else if is_space c || is_line_feed c then Waiting else Free) ts ≡ Waiting))) [
       | true ↦ inl refl
       | false ↦ elim (is_space c || is_line_feed c) as (λ b.
-          (state_behind (if b then Waiting else Free) ts ≡ state_behind Free ts)
-          ⊎ ((state_behind Free ts ≡ Free) × (state_behind (if b then Waiting else Free) ts ≡ Waiting))) [
+          (state_after (if b then Waiting else Free) ts ≡ state_after Free ts)
+          ⊎ ((state_after Free ts ≡ Free) × (state_after (if b then Waiting else Free) ts ≡ Waiting))) [
             | true ↦ waits ts
             | false ↦ inl refl
           ]
     ]
 
 -- An indent leaves what was allowed.
-indent_freer : (w : State) (indent : List Token) → settled w ≡ true → AreTame indent → freer (state_behind w indent) w
+indent_freer : (w : State) (indent : List Token) → settled w ≡ true → AreTame indent → freer (state_after w indent) w
     ≡ true
 indent_freer Free indent a h = ap (λ s. freer s Free) h
 indent_freer Waiting indent a h = elim (waits indent) [
@@ -235,9 +235,9 @@ alive_settled Broken a = cc
 abbrev pub Ends : (State → Type 0) → State → List (List Token) → Type 0
 Ends Q s [] = ⊥
 Ends Q s (r ∷ rs) = elim rs [
-  | [] ↦ Q (state_behind s r)
-  | x ∷ xs ↦ (alive (state_behind s r) ≡ true) × ((Ends Q (state_behind s r) rs)
-      ⊎ (Ends Q (step (state_behind s r) line_feed) rs))
+  | [] ↦ Q (state_after s r)
+  | x ∷ xs ↦ (alive (state_after s r) ≡ true) × ((Ends Q (state_after s r) rs)
+      ⊎ (Ends Q (step (state_after s r) line_feed) rs))
 ]
 
 abbrev pub IsFree : State → Type 0
@@ -255,33 +255,33 @@ Ends-append s e (r ∷ []) (u ∷ us) a h k = (
 Ends-append s e (r ∷ q ∷ rs) us a h k = (
   h.0,
   elim h.1 [
-    | inl f ↦ inl (Ends-append (state_behind s r) e (q ∷ rs) us a f k)
-    | inr f ↦ inr (Ends-append (step (state_behind s r) line_feed) e (q ∷ rs) us a f k)
+    | inl f ↦ inl (Ends-append (state_after s r) e (q ∷ rs) us a f k)
+    | inr f ↦ inr (Ends-append (step (state_after s r) line_feed) e (q ∷ rs) us a f k)
   ],
 )
 
 joined-run : (indent further : List Token) → AreTame indent → AreTame further → (w s : State) → settled w ≡ true
-    → freer w s ≡ true → (rs : List (List Token)) → Ends IsFree s rs → state_behind w (joined_rows indent further rs)
+    → freer w s ≡ true → (rs : List (List Token)) → Ends IsFree s rs → state_after w (joined_rows indent further rs)
     ≡ Free
 joined-run indent further a b w s c f [] h = absurd h
 joined-run indent further a b w s c f (r ∷ []) h =
     run-append w indent r
-    ∙ free_freer (state_behind (state_behind w indent) r)
-    (let P : State → Type 0 = λ t. freer (state_behind (state_behind w indent) r) t ≡ true in
-    subst P h (freer-run (state_behind w indent) s r (freer_trans (state_behind w indent) w s
+    ∙ free_freer (state_after (state_after w indent) r)
+    (let P : State → Type 0 = λ t. freer (state_after (state_after w indent) r) t ≡ true in
+    subst P h (freer-run (state_after w indent) s r (freer_trans (state_after w indent) w s
     (indent_freer w indent c a) f)))
 joined-run indent further a b w s c f (r ∷ q ∷ rs) h =
-    let v = state_behind (state_behind w indent) r in
-    let g : freer v (state_behind s r) ≡ true = freer-run (state_behind w indent) s r
-    (freer_trans (state_behind w indent) w s (indent_freer w indent c a) f) in
-    let d : settled (step v line_feed) ≡ true = feed_settles v (alive_freer v (state_behind s r) g h.0) in
+    let v = state_after (state_after w indent) r in
+    let g : freer v (state_after s r) ≡ true = freer-run (state_after w indent) s r
+    (freer_trans (state_after w indent) w s (indent_freer w indent c a) f) in
+    let d : settled (step v line_feed) ≡ true = feed_settles v (alive_freer v (state_after s r) g h.0) in
     run-append w (indent ++ r) (line_feed ∷ joined_rows further further (q ∷ rs))
-    ∙ ap (λ t. state_behind (step t line_feed) (joined_rows further further (q ∷ rs))) (run-append w indent r)
+    ∙ ap (λ t. state_after (step t line_feed) (joined_rows further further (q ∷ rs))) (run-append w indent r)
     ∙ elim h.1 [
-      | inl e ↦ joined-run further further b b (step v line_feed) (state_behind s r) d
-          (feed_freer v (state_behind s r) g h.0) (q ∷ rs) e
-      | inr e ↦ joined-run further further b b (step v line_feed) (step (state_behind s r) line_feed) d
-          (freer-step v (state_behind s r) line_feed g) (q ∷ rs) e
+      | inl e ↦ joined-run further further b b (step v line_feed) (state_after s r) d
+          (feed_freer v (state_after s r) g h.0) (q ∷ rs) e
+      | inr e ↦ joined-run further further b b (step v line_feed) (step (state_after s r) line_feed) d
+          (freer-step v (state_after s r) line_feed g) (q ∷ rs) e
     ]
 
 -- ---- pieces
@@ -290,9 +290,9 @@ joined-run indent further a b w s c f (r ∷ q ∷ rs) h =
 abbrev pub Passes : State → List TextLine → Type 0
 Passes s [] = ⊥
 Passes s (p ∷ ps) = elim ps [
-  | [] ↦ state_behind s (text_line_tokens p) ≡ Free
-  | q ∷ qs ↦ (alive (state_behind s (text_line_tokens p)) ≡ true)
-      × Passes (step (state_behind s (text_line_tokens p)) line_feed) ps
+  | [] ↦ state_after s (text_line_tokens p) ≡ Free
+  | q ∷ qs ↦ (alive (state_after s (text_line_tokens p)) ≡ true)
+      × Passes (step (state_after s (text_line_tokens p)) line_feed) ps
 ]
 
 piece_tokens-tag : (q : List ℕ) (p : TextLine) → text_line_tokens (with_tag q p) ≡ Sequence q ∷ text_line_tokens p
@@ -307,11 +307,11 @@ Passes-first : (s : State) (k : Token) (f : TextLine → TextLine)
     → ((p : TextLine) → text_line_tokens (f p) ≡ k ∷ text_line_tokens p) → (ps : List TextLine) → Passes (step s k) ps
     → Passes s (on_first f ps)
 Passes-first s k f e [] h = h
-Passes-first s k f e (p ∷ []) h = ap (state_behind s) (e p) ∙ h
+Passes-first s k f e (p ∷ []) h = ap (state_after s) (e p) ∙ h
 Passes-first s k f e (p ∷ q ∷ ps) h = (
-  ap (λ us. alive (state_behind s us)) (e p) ∙ h.0,
+  ap (λ us. alive (state_after s us)) (e p) ∙ h.0,
   let P : List Token → Type 0 =
-      λ us. Passes (step (state_behind s us) line_feed) (q ∷ ps) in subst P (sym (e p)) h.1,
+      λ us. Passes (step (state_after s us) line_feed) (q ∷ ps) in subst P (sym (e p)) h.1,
 )
 
 Passes-feed : (s : State) (ps : List TextLine) → alive s ≡ true → Passes (step s line_feed) ps
@@ -319,7 +319,7 @@ Passes-feed : (s : State) (ps : List TextLine) → alive s ≡ true → Passes (
 Passes-feed s [] a h = absurd h
 Passes-feed s (p ∷ ps) a h = (a, h)
 
-pub pieces-pass : (s : State) (ts : List Token) → state_behind s ts ≡ Free → Passes s (text_lines ts)
+pub pieces-pass : (s : State) (ts : List Token) → state_after s ts ≡ Free → Passes s (text_lines ts)
 pieces-pass s [] h = h
 pieces-pass s (Sequence q ∷ ts) h = Passes-first s (Sequence q) (with_tag q) (piece_tokens-tag q) (text_lines ts)
     (pieces-pass (step s (Sequence q)) ts h)
@@ -327,7 +327,7 @@ pieces-pass s (Character c ∷ ts) h =
     elim (is_line_feed c) as (λ b. is_line_feed c ≡ b → Passes s
     (if b then no_characters ∷ text_lines ts else on_first (with_code c) (text_lines ts))) [
       | true ↦ λ e.
-          let a : alive s ≡ true = alive_before s (Character c ∷ ts) (alive_free (state_behind s (Character c ∷ ts)) h)
+          let a : alive s ≡ true = alive_before s (Character c ∷ ts) (alive_free (state_after s (Character c ∷ ts)) h)
           in
           let P : ℕ → Type 0 = λ x. Passes (step s (Character x)) (text_lines ts) in
           Passes-feed s (text_lines ts) a (subst P (eqb-true c 10 e) (pieces-pass (step s (Character c)) ts h))
@@ -337,7 +337,7 @@ pieces-pass s (Character c ∷ ts) h =
 
 rows_some : (room further : ℕ) (ws : List Word) → is_nil (rows room further ws) ≡ false
 rows_some room further [] = refl
-rows_some room further (w ∷ ws) = onto_some w (rows_behind (columns (word_cells w)) room further ws)
+rows_some room further (w ∷ ws) = onto_some w (rows_after (columns (word_cells w)) room further ws)
 
 -- what a row's words are before the last spaces are dropped
 abbrev raw : List Word → List Token
@@ -347,33 +347,33 @@ raw-append : (us vs : List Word) → raw (us ++ vs) ≡ raw us ++ raw vs
 raw-append us vs = ap (flat_map cell_tokens) (flat_map-append word_cells us vs)
     ∙ flat_map-append cell_tokens (flat_map word_cells us) (flat_map word_cells vs)
 
-alive-append : (s : State) (us vs : List Token) → alive (state_behind s (us ++ vs)) ≡ true → alive (state_behind s us)
+alive-append : (s : State) (us vs : List Token) → alive (state_after s (us ++ vs)) ≡ true → alive (state_after s us)
     ≡ true
-alive-append s us vs h = alive_before (state_behind s us) vs (sym (ap alive (run-append s us vs)) ∙ h)
+alive-append s us vs h = alive_before (state_after s us) vs (sym (ap alive (run-append s us vs)) ∙ h)
 
 -- Rows cut from a run.
 rows-ends : (s e : State) (rest : List (List ℕ)) (rs : List (List Word)) → is_nil rs ≡ false → alive e ≡ true →
-    state_behind s (raw (flat rs) ++ map Sequence rest) ≡ e → Ends (λ t. t ≡ e) s (with_rest rest (map row_tokens rs))
+    state_after s (raw (flat rs) ++ map Sequence rest) ≡ e → Ends (λ t. t ≡ e) s (with_rest rest (map row_tokens rs))
 rows-ends s e rest [] n a h = cc
 rows-ends s e rest (r ∷ []) n a h =
-    let g : state_behind s (raw r ++ map Sequence rest) ≡ e =
-    ap (λ ws. state_behind s (raw ws ++ map Sequence rest)) (sym (append-nil r)) ∙ h in
-    let b : alive (state_behind s (raw r)) ≡ true = alive-append s (raw r) (map Sequence rest) (ap alive g ∙ a) in
+    let g : state_after s (raw r ++ map Sequence rest) ≡ e =
+    ap (λ ws. state_after s (raw ws ++ map Sequence rest)) (sym (append-nil r)) ∙ h in
+    let b : alive (state_after s (raw r)) ≡ true = alive-append s (raw r) (map Sequence rest) (ap alive g ∙ a) in
     run-append s (trimmed_row (raw r)) (map Sequence rest)
-    ∙ ap (λ t. state_behind t (map Sequence rest)) (run-trimmed s (raw r) b)
+    ∙ ap (λ t. state_after t (map Sequence rest)) (run-trimmed s (raw r) b)
     ∙ sym (run-append s (raw r) (map Sequence rest))
     ∙ g
 rows-ends s e rest (r ∷ q ∷ rs) n a h =
     let split : raw (r ++ flat (q ∷ rs)) ++ map Sequence rest ≡ raw r ++ (raw (flat (q ∷ rs)) ++ map Sequence rest) =
     ap (λ ts. ts ++ map Sequence rest) (raw-append r (flat (q ∷ rs)))
     ∙ append_assoc (raw r) (raw (flat (q ∷ rs))) (map Sequence rest) in
-    let g : state_behind (state_behind s (raw r)) (raw (flat (q ∷ rs)) ++ map Sequence rest) ≡ e =
-    sym (run-append s (raw r) (raw (flat (q ∷ rs)) ++ map Sequence rest)) ∙ ap (state_behind s) (sym split) ∙ h in
-    let b : alive (state_behind s (raw r)) ≡ true = alive_before (state_behind s (raw r))
+    let g : state_after (state_after s (raw r)) (raw (flat (q ∷ rs)) ++ map Sequence rest) ≡ e =
+    sym (run-append s (raw r) (raw (flat (q ∷ rs)) ++ map Sequence rest)) ∙ ap (state_after s) (sym split) ∙ h in
+    let b : alive (state_after s (raw r)) ≡ true = alive_before (state_after s (raw r))
     (raw (flat (q ∷ rs)) ++ map Sequence rest) (ap alive g ∙ a) in
-    let t : state_behind s (trimmed_row (raw r)) ≡ state_behind s (raw r) = run-trimmed s (raw r) b in
-    let f = rows-ends (state_behind s (raw r)) e rest (q ∷ rs) refl a g in
-    elim rs as (λ xs. Ends (λ t. t ≡ e) (state_behind s (raw r)) (with_rest rest (map row_tokens (q ∷ xs)))
+    let t : state_after s (trimmed_row (raw r)) ≡ state_after s (raw r) = run-trimmed s (raw r) b in
+    let f = rows-ends (state_after s (raw r)) e rest (q ∷ rs) refl a g in
+    elim rs as (λ xs. Ends (λ t. t ≡ e) (state_after s (raw r)) (with_rest rest (map row_tokens (q ∷ xs)))
     → Ends (λ t. t ≡ e) s (with_rest rest (map row_tokens (r ∷ q ∷ xs)))) [
       | [] ↦ λ f. (
         ap alive t ∙ b,
@@ -399,11 +399,11 @@ cells-raw cuts room further p =
     ∙ ap (λ cs. flat_map cell_tokens cs ++ map Sequence p.rest) (cut_words-flat cuts p.cells)
 
 piece_rows-ends : (cuts : Cuts) (room further : ℕ) (s : State) (p : TextLine)
-    → alive (state_behind s (text_line_tokens p)) ≡ true → Ends (λ t. t ≡ state_behind s (text_line_tokens p)) s
+    → alive (state_after s (text_line_tokens p)) ≡ true → Ends (λ t. t ≡ state_after s (text_line_tokens p)) s
     (text_line_rows cuts room further p)
-piece_rows-ends cuts room further s p a = rows-ends s (state_behind s (text_line_tokens p)) p.rest
+piece_rows-ends cuts room further s p a = rows-ends s (state_after s (text_line_tokens p)) p.rest
     (rows room further (cut_words cuts p.cells)) (rows_some room further (cut_words cuts p.cells)) a
-    (ap (state_behind s) (cells-raw cuts room further p))
+    (ap (state_after s) (cells-raw cuts room further p))
 
 -- the rows of a piece, and of those below it
 text_rows-ends : (cuts : Cuts) (room further : ℕ) (s : State) (ps : List TextLine) → Passes s ps
@@ -413,12 +413,12 @@ text_rows-ends cuts room further s (p ∷ []) h =
     let P : List (List Token) → Type 0 = Ends IsFree s in
     let Q : State → Type 0 = λ e. Ends (λ t. t ≡ e) s (text_line_rows cuts room further p) in
     subst P (sym (append-nil (text_line_rows cuts room further p)))
-    (subst Q h (piece_rows-ends cuts room further s p (alive_free (state_behind s (text_line_tokens p)) h)))
+    (subst Q h (piece_rows-ends cuts room further s p (alive_free (state_after s (text_line_tokens p)) h)))
 text_rows-ends cuts room further s (p ∷ q ∷ ps) h =
-    Ends-append s (state_behind s (text_line_tokens p)) (text_line_rows cuts room further p)
+    Ends-append s (state_after s (text_line_tokens p)) (text_line_rows cuts room further p)
     (text_line_rows cuts further further q ++ text_rows cuts further further ps) h.0
     (piece_rows-ends cuts room further s p h.0)
-    (text_rows-ends cuts further further (step (state_behind s (text_line_tokens p)) line_feed) (q ∷ ps) h.1)
+    (text_rows-ends cuts further further (step (state_after s (text_line_tokens p)) line_feed) (q ∷ ps) h.1)
 
 filled-tame : (p : Plan (List Token)) (ts : List Token) → AreTame p.first → AreTame p.further → AreTame ts
     → AreTame (filled_text p ts)
@@ -429,42 +429,42 @@ filled-tame p ts a b h = joined-run p.first p.further a b Free Free refl refl
 -- ---- without wrapping
 
 if-trimmed : (w : State) (b : Bool) (indent : List Token) → settled w ≡ true → AreTame indent
-    → freer (state_behind w (if b then trimmed_row indent else indent)) w ≡ true
+    → freer (state_after w (if b then trimmed_row indent else indent)) w ≡ true
 if-trimmed w true indent c h =
     let f = indent_freer w indent c h in
-    ap (λ s. freer s w) (run-trimmed w indent (alive_freer (state_behind w indent) w f (alive_settled w c))) ∙ f
+    ap (λ s. freer s w) (run-trimmed w indent (alive_freer (state_after w indent) w f (alive_settled w c))) ∙ f
 if-trimmed w false indent c h = indent_freer w indent c h
 
 indented-freer : (w s : State) (indent : List Token) (p : TextLine) → settled w ≡ true → freer w s ≡ true
-    → AreTame indent → freer (state_behind w (indented_row indent p)) (state_behind s (text_line_tokens p)) ≡ true
+    → AreTame indent → freer (state_after w (indented_row indent p)) (state_after s (text_line_tokens p)) ≡ true
 indented-freer w s indent p c f h =
     let i = if all_white p.cells then trimmed_row indent else indent in
-    ap (λ t. freer t (state_behind s (text_line_tokens p))) (run-append w i (text_line_tokens p))
-    ∙ freer-run (state_behind w i) s (text_line_tokens p)
-    (freer_trans (state_behind w i) w s (if-trimmed w (all_white p.cells) indent c h) f)
+    ap (λ t. freer t (state_after s (text_line_tokens p))) (run-append w i (text_line_tokens p))
+    ∙ freer-run (state_after w i) s (text_line_tokens p)
+    (freer_trans (state_after w i) w s (if-trimmed w (all_white p.cells) indent c h) f)
 
 last-freer : (w s : State) (indent : List Token) (p : TextLine) → settled w ≡ true → freer w s ≡ true → AreTame indent
-    → freer (state_behind w (last_indented indent p)) (state_behind s (text_line_tokens p)) ≡ true
+    → freer (state_after w (last_indented indent p)) (state_after s (text_line_tokens p)) ≡ true
 last-freer w s indent p c f h = elim p.cells as (λ cs. freer
-    (state_behind w (last_indented indent (record { cells = cs; rest = p.rest })))
-    (state_behind s (text_line_tokens (record { cells = cs; rest = p.rest }))) ≡ true) [
+    (state_after w (last_indented indent (record { cells = cs; rest = p.rest })))
+    (state_after s (text_line_tokens (record { cells = cs; rest = p.rest }))) ≡ true) [
       | [] ↦ freer-run w s (map Sequence p.rest) f
       | x ∷ cs ↦ indented-freer w s indent (record { cells = x ∷ cs; rest = p.rest }) c f h
     ]
 
 whole-run : (indent further : List Token) → AreTame indent → AreTame further → (w s : State) → settled w ≡ true
-    → freer w s ≡ true → (ps : List TextLine) → Passes s ps → state_behind w (whole_lines indent further ps) ≡ Free
+    → freer w s ≡ true → (ps : List TextLine) → Passes s ps → state_after w (whole_lines indent further ps) ≡ Free
 whole-run indent further a b w s c f [] h = absurd h
 whole-run indent further a b w s c f (p ∷ []) h =
-    free_freer (state_behind w (last_indented indent p)) (let P : State → Type 0 =
-    λ t. freer (state_behind w (last_indented indent p)) t ≡ true in subst P h (last-freer w s indent p c f a))
+    free_freer (state_after w (last_indented indent p)) (let P : State → Type 0 =
+    λ t. freer (state_after w (last_indented indent p)) t ≡ true in subst P h (last-freer w s indent p c f a))
 whole-run indent further a b w s c f (p ∷ q ∷ ps) h =
-    let v = state_behind w (indented_row indent p) in
-    let g : freer v (state_behind s (text_line_tokens p)) ≡ true = indented-freer w s indent p c f a in
+    let v = state_after w (indented_row indent p) in
+    let g : freer v (state_after s (text_line_tokens p)) ≡ true = indented-freer w s indent p c f a in
     run-append w (indented_row indent p) (line_feed ∷ whole_lines further further (q ∷ ps))
-    ∙ whole-run further further b b (step v line_feed) (step (state_behind s (text_line_tokens p)) line_feed)
-    (feed_settles v (alive_freer v (state_behind s (text_line_tokens p)) g h.0))
-    (freer-step v (state_behind s (text_line_tokens p)) line_feed g) (q ∷ ps) h.1
+    ∙ whole-run further further b b (step v line_feed) (step (state_after s (text_line_tokens p)) line_feed)
+    (feed_settles v (alive_freer v (state_after s (text_line_tokens p)) g h.0))
+    (freer-step v (state_after s (text_line_tokens p)) line_feed g) (q ∷ ps) h.1
 
 whole-tame : (p : Plan (List Token)) (ts : List Token) → AreTame p.first → AreTame p.further → AreTame ts
     → AreTame (whole_lines p.first p.further (text_lines ts))

@@ -3,11 +3,11 @@ use Rattle.std.proofs.Common.{◌≡◌, ℕ, zero, suc, Bool, true, false, not,
 use Rattle.std.proofs.Common.{◌∙◌, subst, arith, eqb-true, if◌then◌else◌}
 use Rattle.std.proofs.lemmas.Bool.{and_parts}
 use Rattle.std.proofs.lemmas.Bool.Decides.{nat_tests}
-use Rattle.miette_runs.specs.rules.Sequences.{Token, Character, Sequence, tokens_behind, erase, erase_behind}
+use Rattle.miette_runs.specs.rules.Sequences.{Token, Character, Sequence, tokens_after, erase, erase_after}
 use Rattle.miette_runs.specs.rules.Sequences.{is_parameter, one_more, control_len, colour_end_len, sequence_len}
 use Rattle.miette_runs.specs.rules.Sequences.{after_escape_len, colour_len, after_colour_escape_len}
 use Rattle.miette_style.specs.rules.Escapes.{is_escape}
-use Rattle.miette_wrap_rules.specs.laws.Tame.{Free, Escaped, Broken, state_behind, IsTame}
+use Rattle.miette_wrap_rules.specs.laws.Tame.{Free, Escaped, Broken, state_after, IsTame}
 use Rattle.miette_runs.specs.rules.Colours.{is_colour, is_colour_end, is_link}
 use Rattle.miette_style.specs.rules.Escapes.{no_escape}
 
@@ -73,8 +73,8 @@ colour_begins c (d ∷ cs) k a h =
 -- the tokens after k codes, one step on
 abbrev tokens_by : ℕ → ℕ → List ℕ → List Token
 tokens_by n c cs = elim n as (λ _. List Token) [
-  | zero ↦ Character c ∷ tokens_behind 0 cs
-  | suc k ↦ Sequence (take (suc k) (c ∷ cs)) ∷ tokens_behind k cs
+  | zero ↦ Character c ∷ tokens_after 0 cs
+  | suc k ↦ Sequence (take (suc k) (c ∷ cs)) ∷ tokens_after k cs
 ]
 
 plain_begins : (c : ℕ) (cs : List ℕ) → is_escape c ≡ false → (sequence_len (c ∷ cs) ≡ 0) × (colour_len (c ∷ cs) ≡ 0)
@@ -83,36 +83,36 @@ plain_begins c cs h = (
   ap (λ (b : Bool). if b then one_more (after_colour_escape_len cs) else 0) h,
 )
 
-only_colours : (k : ℕ) (cs : List ℕ) → no_escape (erase_behind k cs) ≡ true → state_behind Free (tokens_behind k cs)
+only_colours : (k : ℕ) (cs : List ℕ) → no_escape (erase_after k cs) ≡ true → state_after Free (tokens_after k cs)
     ≡ Free
 only_colours k [] h = refl
 only_colours (suc k) (c ∷ cs) h = only_colours k cs h
 only_colours zero (c ∷ cs) h =
-    elim (is_escape c) as (λ b. is_escape c ≡ b → state_behind Free (tokens_by (sequence_len (c ∷ cs)) c cs) ≡ Free) [
+    elim (is_escape c) as (λ b. is_escape c ≡ b → state_after Free (tokens_by (sequence_len (c ∷ cs)) c cs) ≡ Free) [
       | false ↦ λ e.
           let p = plain_begins c cs e in
-          let g : no_escape (c ∷ erase_behind 0 cs) ≡ true =
+          let g : no_escape (c ∷ erase_after 0 cs) ≡ true =
           ap (λ (n : ℕ). no_escape (elim n as (λ _. List ℕ)
-          [ zero ↦ c ∷ erase_behind 0 cs | suc k ↦ erase_behind k cs ])) (sym p.1) ∙ h in
-          ap (λ n. state_behind Free (tokens_by n c cs)) p.0
-          ∙ ap (λ (b : Bool). state_behind (if b then Escaped else Free) (tokens_behind 0 cs)) e
-          ∙ only_colours 0 cs (and_parts (not (is_escape c)) (no_escape (erase_behind 0 cs)) g).1
+          [ zero ↦ c ∷ erase_after 0 cs | suc k ↦ erase_after k cs ])) (sym p.1) ∙ h in
+          ap (λ n. state_after Free (tokens_by n c cs)) p.0
+          ∙ ap (λ (b : Bool). state_after (if b then Escaped else Free) (tokens_after 0 cs)) e
+          ∙ only_colours 0 cs (and_parts (not (is_escape c)) (no_escape (erase_after 0 cs)) g).1
       | true ↦ λ e.
           let u : colour_len (c ∷ cs) ≡ one_more (after_colour_escape_len cs) =
           ap (λ (b : Bool). if b then one_more (after_colour_escape_len cs) else 0) e in
           elim (one_more (after_colour_escape_len cs)) as (λ n. one_more (after_colour_escape_len cs) ≡ n
-          → no_escape (elim n as (λ _. List ℕ) [ zero ↦ c ∷ erase_behind 0 cs | suc k ↦ erase_behind k cs ]) ≡ true
-          → state_behind Free (tokens_by (sequence_len (c ∷ cs)) c cs) ≡ Free) [
-            | zero ↦ λ n g. absurd (let x = (and_parts (not (is_escape c)) (no_escape (erase_behind 0 cs)) g).0 in
+          → no_escape (elim n as (λ _. List ℕ) [ zero ↦ c ∷ erase_after 0 cs | suc k ↦ erase_after k cs ]) ≡ true
+          → state_after Free (tokens_by (sequence_len (c ∷ cs)) c cs) ≡ Free) [
+            | zero ↦ λ n g. absurd (let x = (and_parts (not (is_escape c)) (no_escape (erase_after 0 cs)) g).0 in
                 grind (arith, nat_tests, x))
             | suc k ↦ λ n g.
                 let b = colour_begins c cs k e n in
-                ap (λ n. state_behind Free (tokens_by n c cs)) b.sequence
-                ∙ ap (λ (v : Bool). state_behind (if v || is_link (c ∷ take k cs) then Free else Broken)
-                (tokens_behind k cs)) b.colour
+                ap (λ n. state_after Free (tokens_by n c cs)) b.sequence
+                ∙ ap (λ (v : Bool). state_after (if v || is_link (c ∷ take k cs) then Free else Broken)
+                (tokens_after k cs)) b.colour
                 ∙ only_colours k cs g
           ] refl (ap (λ (n : ℕ). no_escape (elim n as (λ _. List ℕ)
-          [ zero ↦ c ∷ erase_behind 0 cs | suc k ↦ erase_behind k cs ])) (sym u) ∙ h)
+          [ zero ↦ c ∷ erase_after 0 cs | suc k ↦ erase_after k cs ])) (sym u) ∙ h)
     ] refl
 
 -- Where no escape is left without the colours, the text is tame.

@@ -6,17 +6,17 @@ use Rattle.std.proofs.lemmas.Bool.Decides.{nat_tests}
 use Rattle.std.proofs.lemmas.List.{drop_all, drop-take, drop_more, length-map, length-take, take-take}
 use Rattle.std.specs.Option.{is_some}
 use Rattle.miette_line_breaks.specs.declared.state.State.{State}
-use Rattle.miette_line_breaks.specs.views.Places.{behind, found_before}
+use Rattle.miette_line_breaks.specs.views.Places.{after_code, found_before}
 use Rattle.miette_runs.specs.rules.Cells.{Cell}
 use Rattle.miette_runs.specs.steps.Cells.{code_columns, plain_cell, plain_cells}
 use Rattle.miette_wrapping.specs.declared.wrap.breaks.Broken.{Broken}
 use Rattle.miette_wrap_rules.specs.rules.Wrapping.{Cuts, Word, is_hyphen, parts}
-use Rattle.miette_wrapping.specs.steps.Ends.{IsPart, bare_len, code_behind, codes_of, part_len}
-use Rattle.miette_wrapping.specs.views.Breaks.{is_done, left_in, never, parts_behind, piece_len, rest_in, state_at}
+use Rattle.miette_wrapping.specs.steps.Ends.{IsPart, bare_len, code_after, codes_of, part_len}
+use Rattle.miette_wrapping.specs.views.Breaks.{is_done, left_in, never, parts_after, piece_len, rest_in, state_at}
 use Rattle.miette_wrapping.specs.views.Breaks.{words_in}
-use Rattle.miette_wrapping.proofs.BreakWords.{bare-columns, behind-taken, first-words, part-some, parted, word-last}
+use Rattle.miette_wrapping.proofs.BreakWords.{after-taken, bare-columns, first-words, part-some, parted, word-last}
 use Rattle.miette_wrapping.proofs.BreakWords.{word-more}
-use Rattle.miette_wrapping.proofs.FirstRow.{behind-last, take-codes}
+use Rattle.miette_wrapping.proofs.FirstRow.{after-last, take-codes}
 use Rattle.miette_wrapping.proofs.InterleavedCells.{bare-codes}
 use Rattle.miette_wrapping.proofs.Parting.{drop-codes}
 use Rattle.miette_wrapping.proofs.Passing.{state-more}
@@ -24,10 +24,10 @@ use Rattle.miette_wrapping.proofs.Passing.{state-more}
 -- ---- the loop over the codes of a word
 
 pub piece-goes : (s t : State) (joined next : Bool) (i c : ℕ) (cs : List ℕ) → drop i cs ≡ c ∷ drop (i + 1) cs →
-    (not joined && is_some (found_before s c)) ≡ false → t ≡ behind s c → next ≡ is_hyphen c →
+    (not joined && is_some (found_before s c)) ≡ false → t ≡ after_code s c → next ≡ is_hyphen c →
     i + piece_len s joined (drop i cs) ≡ (i + 1) + piece_len t next (drop (i + 1) cs)
 piece-goes s t joined next i c cs d e f g =
-    let more = piece_len (behind s c) (is_hyphen c) (drop (i + 1) cs) in
+    let more = piece_len (after_code s c) (is_hyphen c) (drop (i + 1) cs) in
     ap (λ xs. i + piece_len s joined xs) d
     ∙ ap (λ (v : Bool). i + (if v then 0 else suc more)) e
     ∙ (let z : i + suc more ≡ (i + 1) + more = omega arith in z)
@@ -35,54 +35,54 @@ piece-goes s t joined next i c cs d e f g =
 
 -- after `i` printable codes: what is left of the word, whose first code begins no word after a hyphen
 pub record Walked (start s : State) (i : ℕ) (cs : List ℕ) : Type 0 where
-  pub len : piece_len start true cs ≡ i + piece_len s (is_hyphen (code_behind 0 i cs)) (drop i cs)
+  pub len : piece_len start true cs ≡ i + piece_len s (is_hyphen (code_after 0 i cs)) (drop i cs)
   pub state : s ≡ state_at start i cs
 
 state-suc : (s : State) (i c : ℕ) (cs : List ℕ) → drop i cs ≡ c ∷ drop (suc i) cs → state_at s (suc i) cs
-    ≡ behind (state_at s i cs) c
+    ≡ after_code (state_at s i cs) c
 state-suc s zero c [] h = absurd (cc)
-state-suc s zero c (x ∷ xs) h = ap (behind s) (ap (λ (l : List ℕ). get_or l 0 x) h)
+state-suc s zero c (x ∷ xs) h = ap (after_code s) (ap (λ (l : List ℕ). get_or l 0 x) h)
 state-suc s (suc i) c [] h = absurd (cc)
-state-suc s (suc i) c (x ∷ xs) h = state-suc (behind s x) i c xs h
+state-suc s (suc i) c (x ∷ xs) h = state-suc (after_code s x) i c xs h
 
 pub state-goes : (s t : State) (i c : ℕ) (cs : List ℕ) → drop i cs ≡ c ∷ drop (i + 1) cs →
-    t ≡ behind (state_at s i cs) c → t ≡ state_at s (i + 1) cs
+    t ≡ after_code (state_at s i cs) c → t ≡ state_at s (i + 1) cs
 state-goes s t i c cs d e =
     let k : i + 1 ≡ suc i = omega arith in
     e ∙ sym (state-suc s i c cs (d ∙ ap (λ j. c ∷ drop j cs) k)) ∙ ap (λ j. state_at s j cs) (sym k)
 
 -- ---- the same for printable ones
 
-pub walked-first : (start s : State) (c : ℕ) (cs : List ℕ) → s ≡ behind start c → Walked start s 1 (c ∷ cs)
+pub walked-first : (start s : State) (c : ℕ) (cs : List ℕ) → s ≡ after_code start c → Walked start s 1 (c ∷ cs)
 walked-first start s c cs e = record {
-  len = (let more = piece_len (behind start c) (is_hyphen c) cs in
+  len = (let more = piece_len (after_code start c) (is_hyphen c) cs in
       let z : suc more ≡ 1 + more = omega arith in z)
       ∙ ap (λ t. 1 + piece_len t (is_hyphen c) cs) (sym e);
   state = e;
 }
 
-behind-next : (i c : ℕ) (cs : List ℕ) → c ≡ get_or cs i c → i < length cs → c ≡ code_behind 0 (i + 1) cs
-behind-next i c cs e l = e ∙ ap (λ j. get_or cs j c) (omega arith)
-    ∙ behind-last 0 (i + 1) c cs (omega arith) (omega (arith, l))
+after-next : (i c : ℕ) (cs : List ℕ) → c ≡ get_or cs i c → i < length cs → c ≡ code_after 0 (i + 1) cs
+after-next i c cs e l = e ∙ ap (λ j. get_or cs j c) (omega arith)
+    ∙ after-last 0 (i + 1) c cs (omega arith) (omega (arith, l))
 
 pub walked-next : (start s t : State) (i c : ℕ) (cs : List ℕ) → Walked start s i cs → c ≡ get_or cs i c →
-    i < length cs → (not (is_hyphen (code_behind 0 i cs)) && is_some (found_before s c)) ≡ false → t ≡ behind s c →
+    i < length cs → (not (is_hyphen (code_after 0 i cs)) && is_some (found_before s c)) ≡ false → t ≡ after_code s c →
     Walked start t (i + 1) cs
 walked-next start s t i c cs w e l f g =
     let d : drop i cs ≡ c ∷ drop (i + 1) cs = drop_more cs i c l ∙ ap (λ x. x ∷ drop (i + 1) cs) (sym e) in record {
-      len = w.len ∙ piece-goes s t (is_hyphen (code_behind 0 i cs)) (is_hyphen (code_behind 0 (i + 1) cs)) i c cs d f g
-          (ap is_hyphen (sym (behind-next i c cs e l)));
-      state = state-goes start t i c cs d (g ∙ ap (λ s. behind s c) w.state);
+      len = w.len ∙ piece-goes s t (is_hyphen (code_after 0 i cs)) (is_hyphen (code_after 0 (i + 1) cs)) i c cs d f g
+          (ap is_hyphen (sym (after-next i c cs e l)));
+      state = state-goes start t i c cs d (g ∙ ap (λ s. after_code s c) w.state);
     }
 
 -- a word begins here
 pub walked-over : (start s : State) (i c : ℕ) (cs : List ℕ) → Walked start s i cs → c ≡ get_or cs i c →
-    i < length cs → (not (is_hyphen (code_behind 0 i cs)) && is_some (found_before s c)) ≡ true →
+    i < length cs → (not (is_hyphen (code_after 0 i cs)) && is_some (found_before s c)) ≡ true →
     i ≡ piece_len start true cs
 walked-over start s i c cs w e l f =
     let d : drop i cs ≡ c ∷ drop (i + 1) cs = drop_more cs i c l ∙ ap (λ x. x ∷ drop (i + 1) cs) (sym e) in
-    let joined = is_hyphen (code_behind 0 i cs) in
-    let more = piece_len (behind s c) (is_hyphen c) (drop (i + 1) cs) in
+    let joined = is_hyphen (code_after 0 i cs) in
+    let more = piece_len (after_code s c) (is_hyphen c) (drop (i + 1) cs) in
     let none : piece_len s joined (drop i cs) ≡ 0 =
     ap (piece_len s joined) d ∙ ap (λ (v : Bool). if v then 0 else suc more) f in
     omega (arith, w.len, none)
@@ -91,16 +91,16 @@ walked-over start s i c cs w e l f =
 pub walked-all : (start s : State) (i : ℕ) (cs : List ℕ) → Walked start s i cs → length cs ≤ i →
     i ≡ piece_len start true cs
 walked-all start s i cs w l =
-    let joined = is_hyphen (code_behind 0 i cs) in
+    let joined = is_hyphen (code_after 0 i cs) in
     let none : piece_len s joined (drop i cs) ≡ 0 = ap (piece_len s joined) (drop_all i cs l) in
     omega (arith, w.len, none)
 
 -- the others are walked by the rules
 pub walked-rest : (start s t : State) (i n : ℕ) (joined : Bool) (cs : List ℕ) → Walked start s i cs →
-    joined ≡ is_hyphen (code_behind 0 i cs) → n ≡ piece_len s joined (drop i cs) → t ≡ state_at s n (drop i cs) →
+    joined ≡ is_hyphen (code_after 0 i cs) → n ≡ piece_len s joined (drop i cs) → t ≡ state_at s n (drop i cs) →
     (i + n ≡ piece_len start true cs) × (t ≡ state_at start (i + n) cs)
 walked-rest start s t i n joined cs w e f g =
-    let same : n ≡ piece_len s (is_hyphen (code_behind 0 i cs)) (drop i cs) =
+    let same : n ≡ piece_len s (is_hyphen (code_after 0 i cs)) (drop i cs) =
     f ∙ ap (λ j. piece_len s j (drop i cs)) e in (
       omega (arith, w.len, same),
       g ∙ ap (λ u. state_at u n (drop i cs)) w.state ∙ sym (state-more start i n (i + n) cs refl),
@@ -118,7 +118,7 @@ abbrev rest_word : Broken → List Cell → Word
 rest_word it cells = record { letters = take it.letters cells; spaces = take it.spaces (drop it.letters cells) }
 
 abbrev rest_words : Broken → Cuts → List Cell → List Word
-rest_words it cuts cells = parts_behind cuts it.before (rest_word it cells)
+rest_words it cuts cells = parts_after cuts it.before (rest_word it cells)
     (words_in it.state (drop (it.letters + it.spaces) cells))
 
 left-rest : (it : Broken) (cuts : Cuts) (cells : List Cell) → 0 < length cells → is_done it ≡ false →
@@ -186,7 +186,7 @@ shortened it n b = record { before = b; letters = it.letters - n; spaces = it.sp
 
 pub more-part : (cuts : Cuts) (it : Broken) (n b : ℕ) (codes : List ℕ) → is_done it ≡ false →
     it.letters + it.spaces ≤ length codes → n ≡ part_len never cuts it.before 0 (take it.letters codes) →
-    n < it.letters → b ≡ code_behind it.before n codes →
+    n < it.letters → b ≡ code_after it.before n codes →
     IsPart (left_in it cuts) (left_in (shortened it n b) cuts) codes n 0
 more-part cuts it n b codes d h e f g = λ cells q.
     let k : length cells ≡ length codes = cells-some cells codes q in
@@ -202,8 +202,8 @@ more-part cuts it n b codes d h e f g = λ cells q.
     let e3 : drop (it.letters + it.spaces) cells ≡ drop (left + it.spaces) rest =
     ap (λ i. drop i cells) (omega arith) ∙ sym (drop-drop (left + it.spaces) n cells) in
     let same : codes_of letters ≡ take it.letters codes = take-codes it.letters cells ∙ ap (take it.letters) q in
-    let last : code_behind it.before n (codes_of letters) ≡ b = ap (code_behind it.before n) same
-    ∙ behind-taken it.before n it.letters codes (omega arith) ∙ sym g in
+    let last : code_after it.before n (codes_of letters) ≡ b = ap (code_after it.before n) same
+    ∙ after-taken it.before n it.letters codes (omega arith) ∙ sym g in
     let more : 0 < length (drop n letters) = omega
     (arith, length-drop {A = Cell} n letters, length-take {A = Cell} it.letters cells) in
     let rest_some : 0 < length rest = omega (arith, length-drop {A = Cell} n cells) in
@@ -212,10 +212,10 @@ more-part cuts it n b codes d h e f g = λ cells q.
     left-rest it cuts cells (omega arith) d
     ∙ word-more cuts it.before n letters spaces ws (e ∙ ap (part_len never cuts it.before 0) (sym same)) more
     ∙ ap₂ (λ us c. record { letters = us; spaces = [] }
-    ∷ parts_behind cuts c (record { letters = drop n letters; spaces = spaces }) ws)
+    ∷ parts_after cuts c (record { letters = drop n letters; spaces = spaces }) ws)
     (take-take n it.letters cells (omega arith)) last
-    ∙ ap (λ us. part ∷ parts_behind cuts b (record { letters = us; spaces = spaces }) ws) e1
-    ∙ ap₂ (λ us vs. part ∷ parts_behind cuts b
+    ∙ ap (λ us. part ∷ parts_after cuts b (record { letters = us; spaces = spaces }) ws) e1
+    ∙ ap₂ (λ us vs. part ∷ parts_after cuts b
     (record { letters = take left rest; spaces = take it.spaces us }) (words_in it.state vs)) e2 e3
     ∙ ap (λ us. part ∷ us) (sym (left-rest it' cuts rest rest_some (not-done it' not_yet)))
     ∙ ap (λ i. part ∷ left_in it' cuts (drop i cells)) (omega arith)
@@ -239,9 +239,9 @@ first-left cuts s t k b cells codes q l e some h f g =
     let e1 : drop b (take k cells) ≡ take (k - b) (drop b cells) =
     ap (λ j. drop b (take j cells)) i ∙ drop-take b (k - b) cells in
     left-rest it cuts cells (omega arith) (not-done it (omega arith))
-    ∙ ap₂ (λ us vs. parts_behind cuts 0 (record { letters = us; spaces = vs })
+    ∙ ap₂ (λ us vs. parts_after cuts 0 (record { letters = us; spaces = vs })
     (words_in t (drop (b + (k - b)) cells))) (sym (take-take b k cells h)) (sym e1)
-    ∙ ap₂ (λ s j. parts_behind cuts 0 (parted b (take k cells)) (words_in s (drop j cells)))
+    ∙ ap₂ (λ s j. parts_after cuts 0 (parted b (take k cells)) (words_in s (drop j cells)))
     (f ∙ ap (state_at s k) (sym q)) (sym i)
     ∙ first-words cuts s k b cells (omega arith) (e ∙ ap (piece_len s true) (sym q)) b1
 

@@ -7,7 +7,7 @@ use Rattle.std.proofs.lemmas.List.Sums.{sum_by-cons}
 use Rattle.std.specs.Option.{is_some}
 use Rattle.miette_basics.specs.rules.Lists.{is_nil, onto}
 use Rattle.miette_line_breaks.specs.declared.state.State.{State}
-use Rattle.miette_line_breaks.specs.views.Places.{behind, found_before, state_of}
+use Rattle.miette_line_breaks.specs.views.Places.{after_code, found_before, state_of}
 use Rattle.miette_line_breaks.proofs.States.{break-is, state-step}
 use Rattle.miette_runs.specs.rules.Cells.{Cell, width}
 use Rattle.miette_runs.specs.steps.Cells.{code_columns}
@@ -15,8 +15,8 @@ use Rattle.miette_wrap_rules.specs.declared.options.WordSeparator.TheVariants.{U
 use Rattle.miette_wrap_rules.specs.rules.Wrapping.{Cuts, Word, ends_word, in_front, is_alphanumeric, is_hyphen}
 use Rattle.miette_wrap_rules.specs.rules.Wrapping.{is_space}
 use Rattle.miette_wrap_rules.specs.rules.Wrapping.{parts, pieces, with_spaces, word_of, words}
-use Rattle.miette_wrapping.specs.steps.Ends.{all_spaces, bare_len, begins_word, code_behind, codes_of, part_len}
-use Rattle.miette_wrapping.specs.views.Breaks.{ends_in, never, parts_behind, piece_len, pieces_in, state_at, words_in}
+use Rattle.miette_wrapping.specs.steps.Ends.{all_spaces, bare_len, begins_word, code_after, codes_of, part_len}
+use Rattle.miette_wrapping.specs.views.Breaks.{ends_in, never, parts_after, piece_len, pieces_in, state_at, words_in}
 use Rattle.miette_wrapping.proofs.FirstRow.{space-width}
 use Rattle.miette_wrapping.proofs.Parting.{EndsWords, first-part, letter_parts, letters, more_parts, never_wide, one_or}
 use Rattle.miette_wrapping.proofs.Parting.{parts-some, with_spaces-more, word-parts}
@@ -32,7 +32,7 @@ pub pieces-in : (before : List ℕ) (cs : List Cell) → pieces UnicodeBreakProp
     ≡ pieces_in (state_of before) cs
 pieces-in before [] = refl
 pieces-in before (c ∷ cs) =
-    let e : state_of (c.code ∷ before) ≡ behind (state_of before) c.code = state-step c.code before in
+    let e : state_of (c.code ∷ before) ≡ after_code (state_of before) c.code = state-step c.code before in
     ap₂ (λ (b : Bool) ps. if b then (c ∷ []) ∷ ps else onto c ps)
     (ends-in c.code before cs ∙ ap (λ s. ends_in s c.code cs) e)
     (pieces-in (c.code ∷ before) cs ∙ ap (λ s. pieces_in s cs) e)
@@ -42,13 +42,13 @@ words-in cs = ap (map word_of) (pieces-in [] cs)
 
 -- how many cells go on with the piece of a cell
 abbrev next_len : State → Cell → List Cell → ℕ
-next_len s c cs = piece_len (behind s c.code) (is_hyphen c.code) (codes_of cs)
+next_len s c cs = piece_len (after_code s c.code) (is_hyphen c.code) (codes_of cs)
 
 pieces-first : (s : State) (c : Cell) (cs : List Cell) → pieces_in s (c ∷ cs) ≡ (c ∷ take (next_len s c cs) cs)
-    ∷ pieces_in (state_at (behind s c.code) (next_len s c cs) (codes_of cs)) (drop (next_len s c cs) cs)
+    ∷ pieces_in (state_at (after_code s c.code) (next_len s c cs) (codes_of cs)) (drop (next_len s c cs) cs)
 pieces-first s c [] = refl
 pieces-first s c (d ∷ ds) =
-    let t = behind s c.code in
+    let t = after_code s c.code in
     let n = next_len t d ds in
     elim (not (is_hyphen c.code) && is_some (found_before t d.code)) as (λ v.
     (if v then (c ∷ []) ∷ pieces_in t (d ∷ ds) else onto c (pieces_in t (d ∷ ds)))
@@ -119,15 +119,15 @@ bare-columns cs = spaces-columns (drop (bare_len cs) cs) (dropped-spaces cs)
 
 pub first-words : (cuts : Cuts) (s : State) (k b : ℕ) (cells : List Cell) → 0 < length cells →
     k ≡ piece_len s true (codes_of cells) → b ≡ bare_len (take k cells) →
-    parts_behind cuts 0 (parted b (take k cells))
+    parts_after cuts 0 (parted b (take k cells))
     (words_in (state_at s k (codes_of cells)) (drop k cells)) ≡ flat_map (parts cuts) (words_in s cells)
 first-words cuts s k b [] l e f = absurd (omega arith)
 first-words cuts s k b (c ∷ cs) l e f =
     let all = c ∷ cs in
     let n = next_len s c cs in
-    ap₂ (λ i j. parts_behind cuts 0 (parted j (take i all))
+    ap₂ (λ i j. parts_after cuts 0 (parted j (take i all))
     (words_in (state_at s i (codes_of all)) (drop i all))) e (f ∙ ap (λ i. bare_len (take i all)) e)
-    ∙ ap (λ w. parts_behind cuts 0 w (words_in (state_at s (suc n) (codes_of all)) (drop (suc n) all)))
+    ∙ ap (λ w. parts_after cuts 0 w (words_in (state_at s (suc n) (codes_of all)) (drop (suc n) all)))
     (sym (word-bare (take (suc n) all)))
     ∙ ap (λ ps. flat_map (parts cuts) (map word_of ps)) (sym (pieces-first s c cs))
 
@@ -145,12 +145,12 @@ letters-never [] = refl
 letters-never (c ∷ cs) = ap (λ us. c ∷ us) (letters-never cs)
 
 pub part-parts : (cuts : Cuts) (before n : ℕ) (cs : List Cell) → n ≡ part_len never cuts before 0 (codes_of cs) →
-    letter_parts cuts before 0 cs ≡ take n cs ∷ more_parts cuts (code_behind before n (codes_of cs)) (drop n cs)
+    letter_parts cuts before 0 cs ≡ take n cs ∷ more_parts cuts (code_after before n (codes_of cs)) (drop n cs)
 part-parts cuts before n cs e =
     ap (letter_parts cuts before 0) (sym (letters-never cs))
     ∙ first-part never never_ends cuts before 0 cs
-    ∙ ap (λ k. take k cs ∷ more_parts cuts (code_behind before k (codes_of cs)) (letters never (drop k cs))) (sym e)
-    ∙ ap (λ us. take n cs ∷ more_parts cuts (code_behind before n (codes_of cs)) us) (letters-never (drop n cs))
+    ∙ ap (λ k. take k cs ∷ more_parts cuts (code_after before k (codes_of cs)) (letters never (drop k cs))) (sym e)
+    ∙ ap (λ us. take n cs ∷ more_parts cuts (code_after before n (codes_of cs)) us) (letters-never (drop n cs))
 
 more-some : (cuts : Cuts) (before : ℕ) (spaces p cs : List Cell) → 0 < length cs →
     with_spaces spaces (p ∷ more_parts cuts before cs)
@@ -162,11 +162,11 @@ more-some cuts before spaces p (c ∷ cs) l =
 -- a part that is not the last
 pub word-more : (cuts : Cuts) (before n : ℕ) (cs spaces : List Cell) (ws : List Word) →
     n ≡ part_len never cuts before 0 (codes_of cs) → 0 < length (drop n cs) →
-    parts_behind cuts before (record { letters = cs; spaces = spaces }) ws
-    ≡ record { letters = take n cs; spaces = [] } ∷ parts_behind cuts (code_behind before n (codes_of cs))
+    parts_after cuts before (record { letters = cs; spaces = spaces }) ws
+    ≡ record { letters = take n cs; spaces = [] } ∷ parts_after cuts (code_after before n (codes_of cs))
     (record { letters = drop n cs; spaces = spaces }) ws
 word-more cuts before n cs spaces ws e l =
-    let after = code_behind before n (codes_of cs) in
+    let after = code_after before n (codes_of cs) in
     let more = flat_map (parts cuts) ws in
     ap (λ ps. with_spaces spaces ps ++ more) (word-parts cuts before cs ∙ part-parts cuts before n cs e)
     ∙ ap (λ us. us ++ more) (more-some cuts after spaces (take n cs) (drop n cs) l)
@@ -182,10 +182,10 @@ none-left (c ∷ cs) (suc n) h = let r = none-left cs n (omega arith) in (r.0, a
 -- the last part
 pub word-last : (cuts : Cuts) (before n : ℕ) (cs spaces : List Cell) (ws : List Word) →
     n ≡ part_len never cuts before 0 (codes_of cs) → length cs ≤ n →
-    parts_behind cuts before (record { letters = cs; spaces = spaces }) ws
+    parts_after cuts before (record { letters = cs; spaces = spaces }) ws
     ≡ record { letters = cs; spaces = spaces } ∷ flat_map (parts cuts) ws
 word-last cuts before n cs spaces ws e l =
-    let after = code_behind before n (codes_of cs) in
+    let after = code_after before n (codes_of cs) in
     let more = flat_map (parts cuts) ws in
     let r = none-left cs n l in
     ap (λ ps. with_spaces spaces ps ++ more) (word-parts cuts before cs ∙ part-parts cuts before n cs e)
@@ -203,8 +203,8 @@ part-some cuts before (c ∷ cs) l =
     let o : 0 < (if test then 1 else suc next) = one_or test next in
     omega arith
 
-pub behind-taken : (a n l : ℕ) (cs : List ℕ) → n ≤ l → code_behind a n (take l cs) ≡ code_behind a n cs
-behind-taken a zero l cs h = refl
-behind-taken a (suc n) zero cs h = absurd (omega arith)
-behind-taken a (suc n) (suc l) [] h = refl
-behind-taken a (suc n) (suc l) (c ∷ cs) h = behind-taken c n l cs (omega arith)
+pub after-taken : (a n l : ℕ) (cs : List ℕ) → n ≤ l → code_after a n (take l cs) ≡ code_after a n cs
+after-taken a zero l cs h = refl
+after-taken a (suc n) zero cs h = absurd (omega arith)
+after-taken a (suc n) (suc l) [] h = refl
+after-taken a (suc n) (suc l) (c ∷ cs) h = after-taken c n l cs (omega arith)

@@ -7,7 +7,7 @@ use Rattle.std.proofs.Math.Bool.{and-false}
 use Rattle.miette_style.specs.rules.Escapes.{is_escape}
 use Rattle.miette_runs.specs.rules.Sequences.{Token, Character, Sequence, after_escape_len, begins, begins_terminator}
 use Rattle.miette_runs.specs.rules.Sequences.{command_len, control_len, is_bell, is_final, is_line_feed, one_more}
-use Rattle.miette_runs.specs.rules.Sequences.{sequence_len, spell, tokens, tokens_behind}
+use Rattle.miette_runs.specs.rules.Sequences.{sequence_len, spell, tokens, tokens_after}
 use Rattle.miette_runs.specs.rules.Colours.{is_colour}
 use Rattle.miette_runs.specs.rules.Cutting.{cut_end, cut_front, only_feeds, without_leading, without_trailing}
 use Rattle.miette_runs.proofs.Appending.{spell-append}
@@ -91,26 +91,26 @@ sequence-within (c ∷ x) =
 -- the first token of a text, by the length of the sequence at its front
 abbrev pub first_token : ℕ → List ℕ → ℕ → List Token
 first_token c cs n = elim n as (λ _. List Token) [
-  | zero ↦ Character c ∷ tokens_behind 0 cs
-  | suc k ↦ Sequence (take (suc k) (c ∷ cs)) ∷ tokens_behind k cs
+  | zero ↦ Character c ∷ tokens_after 0 cs
+  | suc k ↦ Sequence (take (suc k) (c ∷ cs)) ∷ tokens_after k cs
 ]
 
-behind-fed : (k : ℕ) (x y : List ℕ) → k ≤ length x → tokens_behind k (x ++ 10 ∷ y) ≡ tokens_behind k x ++ Character 10
+skipped-fed : (k : ℕ) (x y : List ℕ) → k ≤ length x → tokens_after k (x ++ 10 ∷ y) ≡ tokens_after k x ++ Character 10
     ∷ tokens y
-behind-fed zero [] y h = tokens_character 10 y refl
-behind-fed (suc k) [] y h = absurd (omega (arith, h))
-behind-fed (suc k) (c ∷ x) y h = behind-fed k x y (omega (arith, h))
-behind-fed zero (c ∷ x) y h =
+skipped-fed zero [] y h = tokens_character 10 y refl
+skipped-fed (suc k) [] y h = absurd (omega (arith, h))
+skipped-fed (suc k) (c ∷ x) y h = skipped-fed k x y (omega (arith, h))
+skipped-fed zero (c ∷ x) y h =
     ap (first_token c (x ++ 10 ∷ y)) (sequence-fed (c ∷ x) y)
     ∙ elim (sequence_len (c ∷ x)) as (λ n. n ≤ length (c ∷ x) → first_token c (x ++ 10 ∷ y) n ≡ first_token c x n
     ++ Character 10 ∷ tokens y) [
-      | zero ↦ λ l. ap (λ ts. Character c ∷ ts) (behind-fed 0 x y (omega arith))
+      | zero ↦ λ l. ap (λ ts. Character c ∷ ts) (skipped-fed 0 x y (omega arith))
       | suc k ↦ λ l. ap₂ (λ s ts. Sequence s ∷ ts) (take-append-le (suc k) (c ∷ x) (10 ∷ y) l)
-          (behind-fed k x y (omega (arith, l)))
+          (skipped-fed k x y (omega (arith, l)))
     ] (sequence-within (c ∷ x))
 
 pub tokens-fed : (x y : List ℕ) → tokens (x ++ 10 ∷ y) ≡ tokens x ++ Character 10 ∷ tokens y
-tokens-fed x y = behind-fed 0 x y (omega arith)
+tokens-fed x y = skipped-fed 0 x y (omega arith)
 
 -- ---- lines
 
@@ -163,21 +163,21 @@ leading-kept x y h =
     ∙ spell-append (cut_front (tokens x)) (Character 10 ∷ tokens y)
     ∙ ap (λ t. without_leading x ++ 10 ∷ t) (spell-tokens y)
 
-feeds-behind : (us vs : List Token) → only_feeds vs ≡ false → only_feeds (us ++ vs) ≡ false
-feeds-behind [] vs h = h
-feeds-behind (Character c ∷ us) vs h = ap (λ b. is_line_feed c && b) (feeds-behind us vs h) ∙ and-false (is_line_feed c)
-feeds-behind (Sequence s ∷ us) vs h = ap (λ b. is_colour s && b) (feeds-behind us vs h) ∙ and-false (is_colour s)
+feeds-after : (us vs : List Token) → only_feeds vs ≡ false → only_feeds (us ++ vs) ≡ false
+feeds-after [] vs h = h
+feeds-after (Character c ∷ us) vs h = ap (λ b. is_line_feed c && b) (feeds-after us vs h) ∙ and-false (is_line_feed c)
+feeds-after (Sequence s ∷ us) vs h = ap (λ b. is_colour s && b) (feeds-after us vs h) ∙ and-false (is_colour s)
 
 -- where something is seen after a line feed
-pub seen-behind : (x y : List ℕ) → only_feeds (tokens y) ≡ false → only_feeds (tokens (x ++ 10 ∷ y)) ≡ false
-seen-behind x y h = ap only_feeds (tokens-fed x y) ∙ feeds-behind (tokens x) (Character 10 ∷ tokens y) h
+pub seen-after : (x y : List ℕ) → only_feeds (tokens y) ≡ false → only_feeds (tokens (x ++ 10 ∷ y)) ≡ false
+seen-after x y h = ap only_feeds (tokens-fed x y) ∙ feeds-after (tokens x) (Character 10 ∷ tokens y) h
 
 end-seen : (us vs : List Token) → only_feeds vs ≡ false → cut_end (us ++ vs) ≡ us ++ cut_end vs
 end-seen [] vs h = refl
 end-seen (Sequence s ∷ us) vs h = ap (λ ts. Sequence s ∷ ts) (end-seen us vs h)
 end-seen (Character c ∷ us) vs h =
     ap (λ (b : Bool). if is_line_feed c && b then cut_end (us ++ vs) else Character c ∷ cut_end (us ++ vs))
-    (feeds-behind us vs h)
+    (feeds-after us vs h)
     ∙ ap (λ (b : Bool). if b then cut_end (us ++ vs) else Character c ∷ cut_end (us ++ vs)) (and-false (is_line_feed c))
     ∙ ap (λ ts. Character c ∷ ts) (end-seen us vs h)
 

@@ -36,36 +36,36 @@ row-here s n k cs all =
     spell-trimmed (cells_at s (codes_of_row s n cs) (tags_from k all))
     ∙ ap₂ (λ us vs. shown (cells_at s us vs)) (drop-take s n cs) (take_rest all k)
 
-pub first-here : (left behind : List Cell → List Word) (room n : ℕ) (xs ys : List ℕ) → xs ≡ ys
-    → IsFirstRow left behind room xs n → IsFirstRow left behind room ys n
-first-here left behind room n xs ys is f = λ cells further e. f cells further (e ∙ sym is)
+pub first-here : (left after : List Cell → List Word) (room n : ℕ) (xs ys : List ℕ) → xs ≡ ys
+    → IsFirstRow left after room xs n → IsFirstRow left after room ys n
+first-here left after room n xs ys is f = λ cells further e. f cells further (e ∙ sym is)
 
-pub last-row : (left behind : List Cell → List Word) (further : List ℕ) (room room' s n k : ℕ) (cs : List ℕ)
-    (all : List Tag) (o o1 : List ℕ) → IsFirstRow left behind room (drop s cs) n → length cs ≤ s + n
+pub last-row : (left after : List Cell → List Word) (further : List ℕ) (room room' s n k : ℕ) (cs : List ℕ)
+    (all : List Tag) (o o1 : List ℕ) → IsFirstRow left after room (drop s cs) n → length cs ≤ s + n
     → o1 ≡ o ++ row_text s (codes_of_row s n cs) (tags_from k all) →
     o1 ≡ o ++ rows_text left further room room' s (drop s cs) (drop k all)
-last-row left behind further room room' s n k cs all o o1 f l h =
-    h ∙ ap (λ us. o ++ us) (row-here s n k cs all ∙ sym (last-printed left behind further room room' n s (drop s cs)
+last-row left after further room room' s n k cs all o o1 f l h =
+    h ∙ ap (λ us. o ++ us) (row-here s n k cs all ∙ sym (last-printed left after further room room' n s (drop s cs)
     (drop k all) f (omega (arith, length-drop {A = ℕ} s cs))))
 
-pub next-row : (left behind : List Cell → List Word) (further : List ℕ) (room room' s n k m : ℕ) (cs : List ℕ)
-    (all : List Tag) (o o1 o2 : List ℕ) → IsFirstRow left behind room (drop s cs) n → s + n < length cs
+pub next-row : (left after : List Cell → List Word) (further : List ℕ) (room room' s n k m : ℕ) (cs : List ℕ)
+    (all : List Tag) (o o1 o2 : List ℕ) → IsFirstRow left after room (drop s cs) n → s + n < length cs
     → o1 ≡ o ++ row_text s (codes_of_row s n cs) (tags_from k all) → drop (k + m) all
     ≡ left_at s (take n (drop s cs)) (drop k all) → o2 ≡ o1 ++ 10 ∷ further →
-    o2 ++ rows_text behind further room' room' (s + n) (drop (s + n) cs) (drop (k + m) all)
+    o2 ++ rows_text after further room' room' (s + n) (drop (s + n) cs) (drop (k + m) all)
     ≡ o ++ rows_text left further room room' s (drop s cs) (drop k all)
-next-row left behind further room room' s n k m cs all o o1 o2 f l h said b =
+next-row left after further room room' s n k m cs all o o1 o2 f l h said b =
     let xs = drop s cs in
     let ms = drop k all in
     let row = shown (cells_at s (take n xs) ms) in
-    let next = rows_text behind further room' room' (s + n) (drop (s + n) cs) (drop (k + m) all) in
+    let next = rows_text after further room' room' (s + n) (drop (s + n) cs) (drop (k + m) all) in
     let less : n < length xs = omega (arith, length-drop {A = ℕ} s cs) in
     ap (λ us. us ++ next) (b ∙ ap (λ us. us ++ 10 ∷ further) (h ∙ ap (λ us. o ++ us) (row-here s n k cs all)))
     ∙ append_assoc (o ++ row) (10 ∷ further) next
     ∙ append_assoc o row ((10 ∷ further) ++ next)
     ∙ ap (λ us. o ++ us)
-    (sym (row-printed left behind further room room' n s xs ms f less
-    ∙ ap₂ (λ us vs. row ++ ((10 ∷ further) ++ rows_text behind further room' room' (s + n) us vs))
+    (sym (row-printed left after further room room' n s xs ms f less
+    ∙ ap₂ (λ us vs. row ++ ((10 ∷ further) ++ rows_text after further room' room' (s + n) us vs))
     (drop-drop n s cs) (sym said)))
 
 -- ---- a line

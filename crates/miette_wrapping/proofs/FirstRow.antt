@@ -9,8 +9,8 @@ use Rattle.std.proofs.lemmas.List.Sums.{sum_by-cons}
 use Rattle.unicode_width.specs.Width.{char_width}
 use Rattle.miette_wrap_rules.specs.rules.Wrapping.{Cuts, Word, columns, rows, is_space}
 use Rattle.miette_runs.specs.rules.Cells.{Cell, width}
-use Rattle.miette_wrapping.specs.steps.Ends.{codes_of, row_cells, gap_len, code_behind, rows_left, IsPart}
-use Rattle.miette_wrapping.specs.steps.Ends.{part_len, words_behind}
+use Rattle.miette_wrapping.specs.steps.Ends.{codes_of, row_cells, gap_len, code_after, rows_left, IsPart}
+use Rattle.miette_wrapping.specs.steps.Ends.{part_len, words_after}
 use Rattle.miette_runs.specs.steps.Cells.{code_columns}
 use Rattle.miette_wrapping.proofs.Packing.{pack, pack-rows}
 use Rattle.miette_wrapping.proofs.Parting.{drop-codes, part-some, words-next}
@@ -56,12 +56,12 @@ left-some cells codes end e l = omega (
   ap length e,
 )
 
-next-part : (left behind : List Cell → List Word) (end n m : ℕ) (cells : List Cell) (codes : List ℕ) →
-    codes_of cells ≡ codes → IsPart left behind (drop end codes) n m →
-    left (drop end cells) ≡ part_of n m (drop end cells) ∷ behind (drop (end + (n + m)) cells)
-next-part left behind end n m cells codes e part =
+next-part : (left after : List Cell → List Word) (end n m : ℕ) (cells : List Cell) (codes : List ℕ) →
+    codes_of cells ≡ codes → IsPart left after (drop end codes) n m →
+    left (drop end cells) ≡ part_of n m (drop end cells) ∷ after (drop (end + (n + m)) cells)
+next-part left after end n m cells codes e part =
     part (drop end cells) (left-codes cells codes end e)
-    ∙ ap (λ us. part_of n m (drop end cells) ∷ behind us) (drop-drop (n + m) end cells)
+    ∙ ap (λ us. part_of n m (drop end cells) ∷ after us) (drop-drop (n + m) end cells)
 
 letters-columns : (end n : ℕ) (cells : List Cell) (codes : List ℕ) → codes_of cells ≡ codes
     → columns (take n (drop end cells)) ≡ code_columns (take n (drop end codes))
@@ -77,19 +77,19 @@ spaces-columns end n m cells codes e q =
     ∙ q
 
 -- what is said of the codes from a place on
-pub part-here : (left behind : List Cell → List Word) (s n m : ℕ) (cs rest : List ℕ) → rest ≡ drop s cs →
-    IsPart left behind rest n m → IsPart left behind (drop s cs) n m
-part-here left behind s n m cs rest is part = λ cells e. part cells (e ∙ sym is)
+pub part-here : (left after : List Cell → List Word) (s n m : ℕ) (cs rest : List ℕ) → rest ≡ drop s cs →
+    IsPart left after rest n m → IsPart left after (drop s cs) n m
+part-here left after s n m cs rest is part = λ cells e. part cells (e ∙ sym is)
 
 -- The part at the front, where words end at spaces.
 pub spaced-part : (cuts : Cuts) (before n m last : ℕ) (codes : List ℕ) → 0 < length codes → n
-    ≡ part_len is_space cuts before 0 codes → m ≡ gap_len (drop n codes) → last ≡ code_behind before (n + m) codes →
-    IsPart (words_behind cuts before) (words_behind cuts last) codes n m
+    ≡ part_len is_space cuts before 0 codes → m ≡ gap_len (drop n codes) → last ≡ code_after before (n + m) codes →
+    IsPart (words_after cuts before) (words_after cuts last) codes n m
 spaced-part cuts before n m last codes l p q f = λ cells e.
     words-next cuts before n m cells (omega (arith, length-map cells (λ (c : Cell). c.code), ap length e))
     (p ∙ ap (part_len is_space cuts before 0) (sym e)) (q ∙ ap (λ xs. gap_len (drop n xs)) (sym e))
-    ∙ ap (λ b. part_of n m cells ∷ words_behind cuts b (drop (n + m) cells))
-    (ap (code_behind before (n + m)) e ∙ sym f)
+    ∙ ap (λ b. part_of n m cells ∷ words_after cuts b (drop (n + m) cells))
+    (ap (code_after before (n + m)) e ∙ sym f)
 
 pub spaced-some : (cuts : Cuts) (before n m : ℕ) (codes : List ℕ) → 0 < length codes → n
     ≡ part_len is_space cuts before 0 codes → m ≡ gap_len (drop n codes) → 0 < n + m
@@ -105,14 +105,14 @@ abbrev packed : (List Cell → List Word) → ℕ → ℕ → ℕ → ℕ → Li
 packed left room further end used cells = pack (nat_lt 0 end) (take end cells) used room further
     (left (drop end cells))
 
-pub row-fits : (left behind : List Cell → List Word) (room further end n m used wide sums : ℕ) (cells : List Cell)
-    (codes : List ℕ) → codes_of cells ≡ codes → IsPart left behind (drop end codes) n m →
+pub row-fits : (left after : List Cell → List Word) (room further end n m used wide sums : ℕ) (cells : List Cell)
+    (codes : List ℕ) → codes_of cells ≡ codes → IsPart left after (drop end codes) n m →
     code_columns (take m (drop n (drop end codes))) ≡ m → wide ≡ used + code_columns (take n (drop end codes)) →
     (nat_lt 0 end && nat_lt room wide) ≡ false → sums ≡ wide + m → 0 < n + m →
-    packed left room further end used cells ≡ packed behind room further ((end + n) + m) sums cells
-row-fits left behind room further end n m used wide sums cells codes e part q w t g some =
+    packed left room further end used cells ≡ packed after room further ((end + n) + m) sums cells
+row-fits left after room further end n m used wide sums cells codes e part q w t g some =
     let rest = drop end cells in
-    let ws = behind (drop (end + (n + m)) cells) in
+    let ws = after (drop (end + (n + m)) cells) in
     let lc : columns (take n rest) ≡ code_columns (take n (drop end codes)) = letters-columns end n cells codes e in
     let sc : columns (take m (drop n rest)) ≡ m = spaces-columns end n m cells codes e q in
     let wc : wide ≡ used + columns (take n rest) = w ∙ ap (λ k. used + k) (sym lc) in
@@ -121,16 +121,16 @@ row-fits left behind room further end n m used wide sums cells codes e part q w 
     ap₂ (λ us vs. us ++ take m vs) (sym (take-add end n cells)) (drop-drop n end cells)
     ∙ sym (take-add (end + n) m cells) in
     let total : used + (columns (take n rest) + columns (take m (drop n rest))) ≡ wide + m = omega arith in
-    ap (pack (nat_lt 0 end) (take end cells) used room further) (next-part left behind end n m cells codes e part)
+    ap (pack (nat_lt 0 end) (take end cells) used room further) (next-part left after end n m cells codes e part)
     ∙ ap (λ (v : Bool). if v then take end cells ∷ pack true (take n rest ++ take m (drop n rest))
     (columns (take n rest) + columns (take m (drop n rest))) further further ws
     else pack true (take end cells ++ take n rest ++ take m (drop n rest))
     (used + (columns (take n rest) + columns (take m (drop n rest)))) room further ws)
     (ap (λ k. nat_lt 0 end && nat_lt room k) (sym wc) ∙ t)
     ∙ ap₂ (λ us k. pack true us k room further ws) row total
-    ∙ ap₂ (λ v k. pack v (take ((end + n) + m) cells) (wide + m) room further (behind (drop k cells))) (sym yes)
+    ∙ ap₂ (λ v k. pack v (take ((end + n) + m) cells) (wide + m) room further (after (drop k cells))) (sym yes)
     (omega arith)
-    ∙ ap (λ k. packed behind room further ((end + n) + m) k cells) (sym g)
+    ∙ ap (λ k. packed after room further ((end + n) + m) k cells) (sym g)
 
 rows-begin : (left : List Cell → List Word) (further : ℕ) (cells : List Cell) (w : Word) (ws : List Word) → 0
     < length cells → left cells ≡ w ∷ ws →
@@ -143,17 +143,17 @@ rows-begin left further (c ∷ cs) w ws l e =
     ∙ ap (pack false [] 0 further further) (sym e)
     ∙ pack-rows further further (left (c ∷ cs))
 
-pub row-ends : (first left behind : List Cell → List Word) (room further end n m used wide : ℕ) (cells : List Cell)
-    (codes : List ℕ) → codes_of cells ≡ codes → end < length codes → IsPart left behind (drop end codes) n m →
+pub row-ends : (first left after : List Cell → List Word) (room further end n m used wide : ℕ) (cells : List Cell)
+    (codes : List ℕ) → codes_of cells ≡ codes → end < length codes → IsPart left after (drop end codes) n m →
     wide ≡ used + code_columns (take n (drop end codes)) → (nat_lt 0 end && nat_lt room wide) ≡ true →
     pack false [] 0 room further (first cells) ≡ packed left room further end used cells →
     map row_cells (rows room further (first cells)) ≡ take end cells ∷ rows_left left further (drop end cells)
-row-ends first left behind room further end n m used wide cells codes e l part w t i =
+row-ends first left after room further end n m used wide cells codes e l part w t i =
     let rest = drop end cells in
-    let ws = behind (drop (end + (n + m)) cells) in
+    let ws = after (drop (end + (n + m)) cells) in
     let lc : columns (take n rest) ≡ code_columns (take n (drop end codes)) = letters-columns end n cells codes e in
     let wc : wide ≡ used + columns (take n rest) = w ∙ ap (λ k. used + k) (sym lc) in
-    let next = next-part left behind end n m cells codes e part in
+    let next = next-part left after end n m cells codes e part in
     sym (pack-rows room further (first cells))
     ∙ i
     ∙ ap (pack (nat_lt 0 end) (take end cells) used room further) next
@@ -185,11 +185,11 @@ row-whole first left room further end used cells codes h e l i =
 
 -- ---- the code before
 
-pub behind-at : (a n d : ℕ) (cs : List ℕ) → n < length cs → get_or cs n d ≡ code_behind a (suc n) cs
-behind-at a n d [] l = absurd (omega arith)
-behind-at a zero d (c ∷ cs) l = refl
-behind-at a (suc n) d (c ∷ cs) l = behind-at c n d cs (omega arith)
+pub after-at : (a n d : ℕ) (cs : List ℕ) → n < length cs → get_or cs n d ≡ code_after a (suc n) cs
+after-at a n d [] l = absurd (omega arith)
+after-at a zero d (c ∷ cs) l = refl
+after-at a (suc n) d (c ∷ cs) l = after-at c n d cs (omega arith)
 
-pub behind-last : (a k d : ℕ) (cs : List ℕ) → 0 < k → k ≤ length cs → get_or cs (k - 1) d ≡ code_behind a k cs
-behind-last a k d cs l h = let e : suc (k - 1) ≡ k = omega arith in behind-at a (k - 1) d cs (omega arith)
-    ∙ ap (λ k. code_behind a k cs) e
+pub after-last : (a k d : ℕ) (cs : List ℕ) → 0 < k → k ≤ length cs → get_or cs (k - 1) d ≡ code_after a k cs
+after-last a k d cs l h = let e : suc (k - 1) ≡ k = omega arith in after-at a (k - 1) d cs (omega arith)
+    ∙ ap (λ k. code_after a k cs) e

@@ -10,7 +10,7 @@ use Rattle.std.specs.List.{AllByRecursion}
 use Rattle.miette_basics.specs.rules.Lists.{onto}
 use Rattle.miette_runs.specs.rules.Cells.{Cell, columns_of, token_width, width}
 use Rattle.miette_runs.specs.rules.Sequences.{Token, Character, Sequence, is_line_feed, sequence_len, spell, tokens}
-use Rattle.miette_runs.specs.rules.Sequences.{tokens_behind}
+use Rattle.miette_runs.specs.rules.Sequences.{tokens_after}
 use Rattle.miette_runs.proofs.Appending.{spell-append}
 use Rattle.miette_runs.proofs.Tokens.{spell-tokens}
 use Rattle.miette_wrap_rules.specs.laws.FittingRows.{FitsRow, bare_row, fed_rows, indented_rows, is_row}
@@ -18,7 +18,7 @@ use Rattle.miette_wrap_rules.specs.rules.Wrapping.{Cuts, Plan, TextLine, Word, c
 use Rattle.miette_wrap_rules.specs.rules.Wrapping.{filled_text, first_room, further_room, is_space, joined_rows}
 use Rattle.miette_wrap_rules.specs.rules.Wrapping.{line_feed}
 use Rattle.miette_wrap_rules.specs.rules.Wrapping.{map_indents, no_characters, on_first, only_spaces, row_tokens, rows}
-use Rattle.miette_wrap_rules.specs.rules.Wrapping.{rows_behind, word_cells}
+use Rattle.miette_wrap_rules.specs.rules.Wrapping.{rows_after, word_cells}
 use Rattle.miette_wrap_rules.specs.rules.Wrapping.{text_line_rows, text_line_tokens, text_lines, text_rows, trimmed_row}
 use Rattle.miette_wrap_rules.specs.rules.Wrapping.{whole_lines, with_code, with_rest, with_tag, wrapped_text}
 use Rattle.miette_wrapping.specs.steps.Ends.{row_cells}
@@ -33,7 +33,7 @@ are_fed [] = true
 are_fed (Character c ∷ ts) = not (is_line_feed c) && are_fed ts
 are_fed (Sequence s ∷ ts) = are_fed ts
 
-row-tokens : (k : ℕ) (cs : List ℕ) → is_row cs ≡ true → are_fed (tokens_behind k cs) ≡ true
+row-tokens : (k : ℕ) (cs : List ℕ) → is_row cs ≡ true → are_fed (tokens_after k cs) ≡ true
 row-tokens zero [] h = refl
 row-tokens (suc k) [] h = refl
 row-tokens (suc k) (c ∷ cs) h = row-tokens k cs (and_parts (not (is_line_feed c)) (is_row cs) h).1
@@ -111,25 +111,25 @@ trimmed-rest (Character c ∷ ts) rest =
     else Character c ∷ trimmed_row ts) ++ map Sequence rest) [ true ↦ refl | false ↦ refl ]
 
 -- words that have room after `used` columns stay there
-behind-one : (used room further : ℕ) (ws : List Word) → used + columns (row_cells ws) ≤ room
-    → rows_behind used room further ws ≡ ws ∷ []
-behind-one used room further [] h = refl
-behind-one used room further (w ∷ ws) h =
+after-one : (used room further : ℕ) (ws : List Word) → used + columns (row_cells ws) ≤ room
+    → rows_after used room further ws ≡ ws ∷ []
+after-one used room further [] h = refl
+after-one used room further (w ∷ ws) h =
     let all : columns (row_cells (w ∷ ws)) ≡ columns (word_cells w) + columns (row_cells ws) =
     sum_by-append cell_width (word_cells w) (row_cells ws) in
     let own : columns (word_cells w) ≡ columns w.letters + columns w.spaces =
     sum_by-append cell_width w.letters w.spaces in
     let stays : nat_lt room (used + columns w.letters) ≡ false = grind (arith, nat_tests) in
-    ap (λ (b : Bool). if b then [] ∷ onto w (rows_behind (columns (word_cells w)) further further ws)
-    else onto w (rows_behind (used + columns (word_cells w)) room further ws)) stays
-    ∙ ap (onto w) (behind-one (used + columns (word_cells w)) room further ws (omega arith))
+    ap (λ (b : Bool). if b then [] ∷ onto w (rows_after (columns (word_cells w)) further further ws)
+    else onto w (rows_after (used + columns (word_cells w)) room further ws)) stays
+    ∙ ap (onto w) (after-one (used + columns (word_cells w)) room further ws (omega arith))
 
 one-row : (room further : ℕ) (ws : List Word) → columns (row_cells ws) ≤ room → rows room further ws ≡ ws ∷ []
 one-row room further [] h = refl
 one-row room further (w ∷ ws) h =
     let all : columns (row_cells (w ∷ ws)) ≡ columns (word_cells w) + columns (row_cells ws) =
     sum_by-append cell_width (word_cells w) (row_cells ws) in
-    ap (onto w) (behind-one (columns (word_cells w)) room further ws (omega arith))
+    ap (onto w) (after-one (columns (word_cells w)) room further ws (omega arith))
 
 line-row : (c : Cuts) (room further : ℕ) (p : TextLine) → columns p.cells ≤ room → text_line_rows c room further p
     ≡ trimmed_row (text_line_tokens p) ∷ []
@@ -237,24 +237,24 @@ rows-fed c further room (row ∷ rows) h =
 
 -- ---- what begins with an indent
 
-abbrev pub IsBehind : List ℕ → List ℕ → Type 0
-IsBehind indent text = (rest : List ℕ) × (text ≡ indent ++ rest)
+abbrev pub IsAfter : List ℕ → List ℕ → Type 0
+IsAfter indent text = (rest : List ℕ) × (text ≡ indent ++ rest)
 
-joined-behind : (first further : List Token) (rs : List (List Token)) → 0 < length rs
-    → IsBehind (spell first) (spell (joined_rows first further rs))
-joined-behind first further [] h = absurd (omega arith)
-joined-behind first further (r ∷ []) h = (spell r, spell-append first r)
-joined-behind first further (r ∷ s ∷ rs) h =
+joined-after : (first further : List Token) (rs : List (List Token)) → 0 < length rs
+    → IsAfter (spell first) (spell (joined_rows first further rs))
+joined-after first further [] h = absurd (omega arith)
+joined-after first further (r ∷ []) h = (spell r, spell-append first r)
+joined-after first further (r ∷ s ∷ rs) h =
     let below = line_feed ∷ joined_rows further further (s ∷ rs) in (
       spell r ++ spell below,
       spell-append (first ++ r) below ∙ ap (λ t. t ++ spell below) (spell-append first r)
           ∙ append_assoc (spell first) (spell r) (spell below),
     )
 
-fed-behind : (first further : List Token) (rs : List (List Token)) → 0 < length rs
-    → IsBehind (spell first) (fed first further rs)
-fed-behind first further [] h = absurd (omega arith)
-fed-behind first further (r ∷ rs) h = (
+fed-after : (first further : List Token) (rs : List (List Token)) → 0 < length rs
+    → IsAfter (spell first) (fed first further rs)
+fed-after first further [] h = absurd (omega arith)
+fed-after first further (r ∷ rs) h = (
   spell r ++ 10 ∷ fed further further rs,
   append_assoc (spell first) (spell r) (10 ∷ fed further further rs),
 )
@@ -337,7 +337,7 @@ module _ (p : Plan (List ℕ)) (text : List ℕ) where
   pub rows-wrapped : (front back : List ℕ) (rows : List (List ℕ)) → p.wraps ≡ true → text ++ 10 ∷ [] ≡ front
       ++ 10 ∷ fed_rows rows ++ back → AllByRecursion (FitsRow (further_room plan)) rows
       → (above below : List ℕ) × (wrapped_text p text ++ 10 ∷ [] ≡ above ++ 10 ∷ indented_rows p.further rows ++ below)
-      × IsBehind p.first above × ((more : List ℕ) → back ≡ more ++ 10 ∷ [] → IsBehind p.further below)
+      × IsAfter p.first above × ((more : List ℕ) → back ≡ more ++ 10 ∷ [] → IsAfter p.further below)
   rows-wrapped front back rows w same h =
       let f = plan.further in
       let head = lines front in
@@ -369,10 +369,10 @@ module _ (p : Plan (List ℕ)) (text : List ℕ) where
             ∙ ap₂ (λ x y. x ++ y) (sym (joined-fed plan.first f (rows_of head) filled)) drawn
             ∙ sym (append_assoc (above ++ 10 ∷ []) shown below)
             ∙ ap (λ t. t ++ below) (append_assoc above (10 ∷ []) shown),
-        subst (λ indent. IsBehind indent above) (spell-tokens p.first)
-            (joined-behind plan.first f (rows_of head) filled),
-        λ more fed_back. subst (λ indent. IsBehind indent below) (spell-tokens p.further)
-            (fed-behind f f (below_of left.0)
+        subst (λ indent. IsAfter indent above) (spell-tokens p.first)
+            (joined-after plan.first f (rows_of head) filled),
+        λ more fed_back. subst (λ indent. IsAfter indent below) (spell-tokens p.further)
+            (fed-after f f (below_of left.0)
             (text-some (cuts_of plan) (further_room plan) (further_room plan) left.0
             (some-left (lines text) (head ++ own) (lines back) left.0 no_characters
             (sym (lines-fed text []) ∙ all) left.1 (two-lines back more fed_back)))),

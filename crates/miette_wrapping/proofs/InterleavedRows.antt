@@ -16,14 +16,14 @@ abbrev pub rows_text : (List Cell → List Word) → List ℕ → ℕ → ℕ �
 rows_text left further room room' at codes ms =
     joined_lines [] further (lines_of [] (map row_cells (rows room room' (left (cells_at at codes ms)))))
 
-rows-split : (left behind : List Cell → List Word) (room room' n at : ℕ) (codes : List ℕ) (ms : List Tag)
-    → IsFirstRow left behind room codes n →
+rows-split : (left after : List Cell → List Word) (room room' n at : ℕ) (codes : List ℕ) (ms : List Tag)
+    → IsFirstRow left after room codes n →
     map row_cells (rows room room' (left (cells_at at codes ms)))
-    ≡ cells_at at (take n codes) ms ∷ rows_left behind room'
+    ≡ cells_at at (take n codes) ms ∷ rows_left after room'
     (cells_at (at + n) (drop n codes) (left_at at (take n codes) ms))
-rows-split left behind room room' n at codes ms f =
+rows-split left after room room' n at codes ms f =
     f (cells_at at codes ms) room' (cells-codes at codes ms)
-    ∙ ap₂ (λ us vs. us ∷ rows_left behind room' vs) (cells-take n at codes ms) (cells-drop n at codes ms)
+    ∙ ap₂ (λ us vs. us ∷ rows_left after room' vs) (cells-take n at codes ms) (cells-drop n at codes ms)
 
 two-rows : (further : List ℕ) (r : List Cell) (rs : List (List Cell)) → 0 < length rs
     → joined_lines [] further (lines_of [] (r ∷ rs)) ≡ shown r
@@ -44,21 +44,21 @@ left-rows left room at further (c ∷ cs) ms r l =
     two-rows further r (map row_cells (rows room room (left (cells_at at (c ∷ cs) ms))))
     (rows-some room room (left (cells_at at (c ∷ cs) ms)))
 
-pub row-printed : (left behind : List Cell → List Word) (further : List ℕ) (room room' n at : ℕ) (codes : List ℕ)
-    (ms : List Tag) → IsFirstRow left behind room codes n → n < length codes →
+pub row-printed : (left after : List Cell → List Word) (further : List ℕ) (room room' n at : ℕ) (codes : List ℕ)
+    (ms : List Tag) → IsFirstRow left after room codes n → n < length codes →
     rows_text left further room room' at codes ms
     ≡ shown (cells_at at (take n codes) ms) ++ ((10 ∷ further)
-    ++ rows_text behind further room' room' (at + n) (drop n codes) (left_at at (take n codes) ms))
-row-printed left behind further room room' n at codes ms f l =
-    ap (λ rs. joined_lines [] further (lines_of [] rs)) (rows-split left behind room room' n at codes ms f)
-    ∙ left-rows behind room' (at + n) further (drop n codes) (left_at at (take n codes) ms)
+    ++ rows_text after further room' room' (at + n) (drop n codes) (left_at at (take n codes) ms))
+row-printed left after further room room' n at codes ms f l =
+    ap (λ rs. joined_lines [] further (lines_of [] rs)) (rows-split left after room room' n at codes ms f)
+    ∙ left-rows after room' (at + n) further (drop n codes) (left_at at (take n codes) ms)
     (cells_at at (take n codes) ms) (omega (arith, length-drop {A = ℕ} n codes))
 
-pub last-printed : (left behind : List Cell → List Word) (further : List ℕ) (room room' n at : ℕ) (codes : List ℕ)
-    (ms : List Tag) → IsFirstRow left behind room codes n → length codes ≤ n →
+pub last-printed : (left after : List Cell → List Word) (further : List ℕ) (room room' n at : ℕ) (codes : List ℕ)
+    (ms : List Tag) → IsFirstRow left after room codes n → length codes ≤ n →
     rows_text left further room room' at codes ms ≡ shown (cells_at at (take n codes) ms)
-last-printed left behind further room room' n at codes ms f l =
-    ap (λ rs. joined_lines [] further (lines_of [] rs)) (rows-split left behind room room' n at codes ms f
-    ∙ ap (λ xs. cells_at at (take n codes) ms ∷ rows_left behind room'
+last-printed left after further room room' n at codes ms f l =
+    ap (λ rs. joined_lines [] further (lines_of [] rs)) (rows-split left after room room' n at codes ms f
+    ∙ ap (λ xs. cells_at at (take n codes) ms ∷ rows_left after room'
     (cells_at (at + n) xs (left_at at (take n codes) ms))) (drop_of_length-le codes l))
     ∙ one-row further (cells_at at (take n codes) ms)

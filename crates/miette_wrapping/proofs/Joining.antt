@@ -10,7 +10,7 @@ use Rattle.miette_wrap_rules.specs.rules.Wrapping.{rows, text_rows, trimmed_row,
 use Rattle.miette_wrap_rules.specs.rules.Wrapping.{joined_rows, line_feed}
 use Rattle.miette_runs.specs.rules.Cells.{Cell}
 use Rattle.miette_wrapping.specs.steps.Ends.{all_spaces, row_cells}
-use Rattle.miette_wrapping.proofs.RowTexts.{shown, lines_of, behind, joined_lines}
+use Rattle.miette_wrapping.proofs.RowTexts.{shown, lines_of, after_row, joined_lines}
 use Rattle.miette_runs.proofs.Appending.{spell-append}
 
 -- ---- what rows spell
@@ -58,14 +58,14 @@ spell-rows rest (r ∷ []) = ap (λ x. x ∷ []) (spell-append (row_tokens r) (m
     ∙ ap₂ (λ us vs. us ++ vs) (spell-trimmed (row_cells r)) (spell-tags rest))
 spell-rows rest (r ∷ s ∷ rs) = ap₂ (λ x xs. x ∷ xs) (spell-trimmed (row_cells r)) (spell-rows rest (s ∷ rs))
 
-spell-behind : (further : List Token) (r : List Token) (rs : List (List Token)) → 10
-    ∷ spell (joined_rows further further (r ∷ rs)) ≡ behind (spell further) (map spell (r ∷ rs))
-spell-behind further r [] = ap (λ xs. 10 ∷ xs) (spell-append further r)
+spell-after : (further : List Token) (r : List Token) (rs : List (List Token)) → 10
+    ∷ spell (joined_rows further further (r ∷ rs)) ≡ after_row (spell further) (map spell (r ∷ rs))
+spell-after further r [] = ap (λ xs. 10 ∷ xs) (spell-append further r)
     ∙ ap (λ xs. (10 ∷ spell further) ++ xs) (sym (append-nil (spell r)))
-spell-behind further r (s ∷ rs) =
+spell-after further r (s ∷ rs) =
     ap (λ xs. 10 ∷ xs) (spell-append (further ++ r) (line_feed ∷ joined_rows further further (s ∷ rs))
-    ∙ ap₂ (λ us vs. us ++ vs) (spell-append further r) (spell-behind further s rs)
-    ∙ append_assoc (spell further) (spell r) (behind (spell further) (map spell (s ∷ rs))))
+    ∙ ap₂ (λ us vs. us ++ vs) (spell-append further r) (spell-after further s rs)
+    ∙ append_assoc (spell further) (spell r) (after_row (spell further) (map spell (s ∷ rs))))
 
 pub spell-joined : (first further : List Token) (rs : List (List Token)) → spell (joined_rows first further rs)
     ≡ joined_lines (spell first) (spell further) (map spell rs)
@@ -73,8 +73,8 @@ spell-joined first further [] = refl
 spell-joined first further (r ∷ []) = spell-append first r ∙ ap (λ xs. spell first ++ xs) (sym (append-nil (spell r)))
 spell-joined first further (r ∷ s ∷ rs) =
     spell-append (first ++ r) (line_feed ∷ joined_rows further further (s ∷ rs))
-    ∙ ap₂ (λ us vs. us ++ vs) (spell-append first r) (spell-behind further s rs)
-    ∙ append_assoc (spell first) (spell r) (behind (spell further) (map spell (s ∷ rs)))
+    ∙ ap₂ (λ us vs. us ++ vs) (spell-append first r) (spell-after further s rs)
+    ∙ append_assoc (spell first) (spell r) (after_row (spell further) (map spell (s ∷ rs)))
 
 -- ---- what the rows of pieces spell
 

@@ -9,14 +9,14 @@ use Rattle.miette_wrap_rules.specs.rules.Wrapping.{Cuts, TextLine, Plan, Word, c
 use Rattle.miette_wrap_rules.specs.rules.Wrapping.{line_feed}
 use Rattle.miette_wrap_rules.specs.rules.Wrapping.{text_rows, on_first, with_tag, with_code, no_characters, text_lines}
 use Rattle.miette_wrap_rules.specs.rules.Wrapping.{rows}
-use Rattle.miette_wrap_rules.specs.rules.Wrapping.{rows_behind, columns, word_cells}
+use Rattle.miette_wrap_rules.specs.rules.Wrapping.{rows_after, columns, word_cells}
 use Rattle.miette_wrap_rules.specs.declared.options.WordSeparator.{WordSeparator}
 use Rattle.miette_runs.specs.rules.Cells.{Cell, columns_of}
 use Rattle.miette_wrapping.specs.steps.Ends.{line_len, row_cells}
 use Rattle.miette_runs.specs.views.Interleaving.{beyond, cells_at, left_at, tag_text, tag_token, tags_spelled, upto}
 use Rattle.miette_runs.specs.views.Interleaving.{interleaving}
 use Rattle.miette_runs.specs.declared.runs.sign.Tag.{Tag}
-use Rattle.miette_wrapping.proofs.RowTexts.{behind, joined_lines, lines_of, shown}
+use Rattle.miette_wrapping.proofs.RowTexts.{after_row, joined_lines, lines_of, shown}
 use Rattle.miette_wrapping.proofs.Joining.{lines_from, piece_lines, spell-text_rows}
 use Rattle.miette_runs.proofs.Appending.{spell-append}
 use Rattle.miette_wrapping.proofs.InterleavedCells.{spelled-flat}
@@ -46,7 +46,7 @@ lines_of-some rest (r ∷ s ∷ rs) h = omega arith
 
 all-some : (room further : ℕ) (ws : List Word) → 0 < length (rows room further ws)
 all-some room further [] = omega arith
-all-some room further (w ∷ ws) = onto-some w (rows_behind (columns (word_cells w)) room further ws)
+all-some room further (w ∷ ws) = onto-some w (rows_after (columns (word_cells w)) room further ws)
 
 map-some : (rs : List (List Word)) → 0 < length rs → 0 < length (map row_cells rs)
 map-some [] h = h
@@ -67,13 +67,13 @@ lines-some cuts room further (p ∷ ps) l = append-some (piece_lines cuts room f
     (lines_of-some p.rest (map row_cells (rows room further (cut_words cuts p.cells)))
     (rows-some room further (cut_words cuts p.cells)))
 
-behind-append : (further : List ℕ) (xs ys : List (List ℕ)) → behind further (xs ++ ys) ≡ behind further xs
-    ++ behind further ys
-behind-append further [] ys = refl
-behind-append further (x ∷ xs) ys =
-    ap (λ us. (10 ∷ further) ++ (x ++ us)) (behind-append further xs ys)
-    ∙ ap (λ us. (10 ∷ further) ++ us) (sym (append_assoc x (behind further xs) (behind further ys)))
-    ∙ sym (append_assoc (10 ∷ further) (x ++ behind further xs) (behind further ys))
+after-append : (further : List ℕ) (xs ys : List (List ℕ)) → after_row further (xs ++ ys) ≡ after_row further xs
+    ++ after_row further ys
+after-append further [] ys = refl
+after-append further (x ∷ xs) ys =
+    ap (λ us. (10 ∷ further) ++ (x ++ us)) (after-append further xs ys)
+    ∙ ap (λ us. (10 ∷ further) ++ us) (sym (append_assoc x (after_row further xs) (after_row further ys)))
+    ∙ sym (append_assoc (10 ∷ further) (x ++ after_row further xs) (after_row further ys))
 
 -- lines without the indent of the first
 abbrev pub bare_lines : List ℕ → List (List ℕ) → List ℕ
@@ -84,8 +84,8 @@ pub bare-append : (further : List ℕ) (xs ys : List (List ℕ)) → 0 < length 
 bare-append further [] ys h k = absurd (omega arith)
 bare-append further (x ∷ xs) [] h k = absurd (omega arith)
 bare-append further (x ∷ xs) (y ∷ ys) h k =
-    ap (λ us. x ++ us) (behind-append further xs (y ∷ ys))
-    ∙ sym (append_assoc x (behind further xs) (behind further (y ∷ ys)))
+    ap (λ us. x ++ us) (after-append further xs (y ∷ ys))
+    ∙ sym (append_assoc x (after_row further xs) (after_row further (y ∷ ys)))
 
 -- the text of all lines
 abbrev pub text_of : Cuts → List ℕ → ℕ → ℕ → List Token → List ℕ
@@ -177,15 +177,15 @@ rest-rows : (further : List ℕ) (rest : List (List ℕ)) (r s : List Cell) (ss 
 rest-rows further rest r s [] = refl
 rest-rows further rest r s (t ∷ ts) = refl
 
-rest-behind : (further : List ℕ) (rest : List (List ℕ)) (rs : List (List Cell)) → 0 < length rs
+rest-after : (further : List ℕ) (rest : List (List ℕ)) (rs : List (List Cell)) → 0 < length rs
     → bare_lines further (lines_of rest rs) ≡ bare_lines further (lines_of [] rs) ++ concat rest
-rest-behind further rest [] h = absurd (omega arith)
-rest-behind further rest (r ∷ []) h = append-nil (shown r ++ concat rest)
+rest-after further rest [] h = absurd (omega arith)
+rest-after further rest (r ∷ []) h = append-nil (shown r ++ concat rest)
     ∙ ap (λ us. us ++ concat rest) (sym (append-nil (shown r ++ []) ∙ append-nil (shown r)))
-rest-behind further rest (r ∷ s ∷ ss) h =
+rest-after further rest (r ∷ s ∷ ss) h =
     let more = bare_lines further (lines_of [] (s ∷ ss)) in
     rest-rows further rest r s ss
-    ∙ ap (λ us. shown r ++ ((10 ∷ further) ++ us)) (rest-behind further rest (s ∷ ss) (omega arith))
+    ∙ ap (λ us. shown r ++ ((10 ∷ further) ++ us)) (rest-after further rest (s ∷ ss) (omega arith))
     ∙ ap (λ us. shown r ++ us) (sym (append_assoc (10 ∷ further) more (concat rest)))
     ∙ sym (append_assoc (shown r) ((10 ∷ further) ++ more) (concat rest))
     ∙ ap (λ us. us ++ concat rest) (sym (rest-rows further [] r s ss))
@@ -303,7 +303,7 @@ piece-text : (cuts : Cuts) (room room' at : ℕ) (further line : List ℕ) (ms :
     bare_lines further (piece_lines cuts room room' (line_piece at line ms rest))
     ≡ line_text cuts further room room' at line ms ++ concat rest
 piece-text cuts room room' at further line ms rest =
-    rest-behind further rest (map row_cells (rows room room' (cut_words cuts (cells_at at line ms))))
+    rest-after further rest (map row_cells (rows room room' (cut_words cuts (cells_at at line ms))))
     (rows-some room room' (cut_words cuts (cells_at at line ms)))
 
 piece-some : (cuts : Cuts) (room room' : ℕ) (p : TextLine) → 0 < length (piece_lines cuts room room' p)

@@ -2,7 +2,7 @@
 use Rattle.std.proofs.Common.{◌≡◌, ℕ, ◌+◌, Bool, true, false, ◌&&◌, nat_lt, List, [], ◌∷◌, ◌++◌, map, refl, sym, ap}
 use Rattle.std.proofs.Common.{ap₂, ◌∙◌, append_assoc, append-nil, if◌then◌else◌, zero-add}
 use Rattle.std.proofs.lemmas.List.Sums.{sum_by-append}
-use Rattle.miette_wrap_rules.specs.rules.Wrapping.{Word, columns, word_cells, rows, rows_behind}
+use Rattle.miette_wrap_rules.specs.rules.Wrapping.{Word, columns, word_cells, rows, rows_after}
 use Rattle.miette_runs.specs.rules.Cells.{Cell, width}
 use Rattle.miette_wrapping.specs.steps.Ends.{row_cells}
 use Rattle.miette_basics.specs.rules.Lists.{onto}
@@ -35,24 +35,24 @@ glue-nothing w [] = ap (λ us. us ∷ []) (append-nil (word_cells w))
 glue-nothing w (r ∷ rs) = refl
 
 packed : (row : List Cell) (used room further : ℕ) (ws : List Word) → pack true row used room further ws
-    ≡ glue row (map row_cells (rows_behind used room further ws))
+    ≡ glue row (map row_cells (rows_after used room further ws))
 packed row used room further [] = ap (λ us. us ∷ []) (sym (append-nil row))
 packed row used room further (w ∷ ws) = elim (nat_lt room (used + columns w.letters)) as (λ b.
     (if b then row ∷ pack true (w.letters ++ w.spaces) (columns w.letters + columns w.spaces) further further ws
     else pack true (row ++ w.letters ++ w.spaces) (used + (columns w.letters + columns w.spaces)) room further ws)
-    ≡ glue row (map row_cells (if b then [] ∷ onto w (rows_behind (columns (word_cells w)) further further ws)
-    else onto w (rows_behind (used + columns (word_cells w)) room further ws)))) [
+    ≡ glue row (map row_cells (if b then [] ∷ onto w (rows_after (columns (word_cells w)) further further ws)
+    else onto w (rows_after (used + columns (word_cells w)) room further ws)))) [
       | true ↦
           ap₂ (λ us vs. us ∷ vs) (sym (append-nil row)) (packed (w.letters ++ w.spaces)
           (columns w.letters + columns w.spaces) further further ws
-          ∙ ap (λ n. glue (w.letters ++ w.spaces) (map row_cells (rows_behind n further further ws)))
+          ∙ ap (λ n. glue (w.letters ++ w.spaces) (map row_cells (rows_after n further further ws)))
           (sym (columns-word w))
-          ∙ sym (glue-nothing w (rows_behind (columns (word_cells w)) further further ws)))
+          ∙ sym (glue-nothing w (rows_after (columns (word_cells w)) further further ws)))
       | false ↦
           packed (row ++ w.letters ++ w.spaces) (used + (columns w.letters + columns w.spaces)) room further ws
-          ∙ ap (λ n. glue (row ++ w.letters ++ w.spaces) (map row_cells (rows_behind (used + n) room further ws)))
+          ∙ ap (λ n. glue (row ++ w.letters ++ w.spaces) (map row_cells (rows_after (used + n) room further ws)))
           (sym (columns-word w))
-          ∙ sym (glue-onto row w (rows_behind (used + columns (word_cells w)) room further ws))
+          ∙ sym (glue-onto row w (rows_after (used + columns (word_cells w)) room further ws))
     ]
 
 pub pack-rows : (room further : ℕ) (ws : List Word) → pack false [] 0 room further ws
@@ -60,6 +60,6 @@ pub pack-rows : (room further : ℕ) (ws : List Word) → pack false [] 0 room f
 pack-rows room further [] = refl
 pack-rows room further (w ∷ ws) =
     packed (w.letters ++ w.spaces) (0 + (columns w.letters + columns w.spaces)) room further ws
-    ∙ ap (λ n. glue (w.letters ++ w.spaces) (map row_cells (rows_behind n room further ws)))
+    ∙ ap (λ n. glue (w.letters ++ w.spaces) (map row_cells (rows_after n room further ws)))
     (zero-add (columns w.letters + columns w.spaces) ∙ sym (columns-word w))
-    ∙ sym (glue-nothing w (rows_behind (columns (word_cells w)) room further ws))
+    ∙ sym (glue-nothing w (rows_after (columns (word_cells w)) room further ws))

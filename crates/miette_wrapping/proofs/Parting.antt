@@ -7,8 +7,8 @@ use Rattle.std.proofs.lemmas.List.{drop-map}
 use Rattle.miette_wrap_rules.specs.rules.Wrapping.{Word, is_space, is_alphanumeric, begins_alphanumeric, hyphen_parts}
 use Rattle.miette_wrap_rules.specs.rules.Wrapping.{broken_parts, with_spaces, Cuts, narrow_parts, parts}
 use Rattle.miette_runs.specs.rules.Cells.{Cell, width}
-use Rattle.miette_wrapping.specs.steps.Ends.{codes_of, begins_word, part_len, gap_len, code_behind, hyphenated_behind}
-use Rattle.miette_wrapping.specs.steps.Ends.{spaced_words, words_behind}
+use Rattle.miette_wrapping.specs.steps.Ends.{codes_of, begins_word, part_len, gap_len, code_after, hyphenated_after}
+use Rattle.miette_wrapping.specs.steps.Ends.{spaced_words, words_after}
 use Rattle.miette_wrapping.proofs.Ending.{letters_len, spaces_len, until_len, words-first}
 use Rattle.miette_basics.specs.rules.Lists.{onto}
 
@@ -154,7 +154,7 @@ parts-are cuts before used (c ∷ cs) =
     ]
 
 pub word-parts : (cuts : Cuts) (before : ℕ) (cs : List Cell)
-    → flat_map (narrow_parts cuts) (hyphenated_behind cuts before cs) ≡ letter_parts cuts before 0 cs
+    → flat_map (narrow_parts cuts) (hyphenated_after cuts before cs) ≡ letter_parts cuts before 0 cs
 word-parts cuts before cs = ap (flat_map (narrow_parts cuts)) (hyphened-is cuts.hyphens before cs)
     ∙ all_narrowed-none cuts (hyphened cuts.hyphens before cs) ∙ parts-are cuts before 0 cs
 
@@ -219,7 +219,7 @@ parts-again cuts before c cs =
 pub first-part : (stop : ℕ → Bool) → EndsWords stop → (cuts : Cuts) (before used : ℕ) (cs : List Cell) →
     letter_parts cuts before used (letters stop cs)
     ≡ take (part_len stop cuts before used (codes_of cs)) cs
-    ∷ more_parts cuts (code_behind before (part_len stop cuts before used (codes_of cs)) (codes_of cs))
+    ∷ more_parts cuts (code_after before (part_len stop cuts before used (codes_of cs)) (codes_of cs))
     (letters stop (drop (part_len stop cuts before used (codes_of cs)) cs))
 first-part stop h cuts before used [] = refl
 first-part stop h cuts before used (c ∷ cs) =
@@ -230,7 +230,7 @@ first-part stop h cuts before used (c ∷ cs) =
     elim (stop c.code) as (λ v. stop c.code ≡ v → letter_parts cuts before used
     (take (if v then 0 else suc (until_len stop cs)) (c ∷ cs))
     ≡ take (if v then 0 else if wide cuts.breaks cuts.narrow used c then 0 else if test then 1 else suc next) (c ∷ cs)
-    ∷ more_parts cuts (code_behind before (if v then 0 else if wide cuts.breaks cuts.narrow used c then 0
+    ∷ more_parts cuts (code_after before (if v then 0 else if wide cuts.breaks cuts.narrow used c then 0
     else if test then 1 else suc next) (c.code ∷ codes_of cs))
     (letters stop (drop (if v then 0 else if wide cuts.breaks cuts.narrow used c then 0 else if test then 1 else suc
     next)
@@ -245,7 +245,7 @@ first-part stop h cuts before used (c ∷ cs) =
           stop cs)
           else onto c (letter_parts cuts c.code (used + width c.code) (letters stop cs))))
           ≡ take (if v then 0 else if test then 1 else suc next) (c ∷ cs)
-          ∷ more_parts cuts (code_behind before (if v then 0 else if test then 1 else suc next) (c.code ∷ codes_of cs))
+          ∷ more_parts cuts (code_after before (if v then 0 else if test then 1 else suc next) (c.code ∷ codes_of cs))
           (letters stop (drop (if v then 0 else if test then 1 else suc next) (c ∷ cs)))) [
             | true ↦ ap (λ (us : List (List Cell)). [] ∷ us) (parts-again cuts before c (letters stop cs))
                 ∙ ap (λ (us : List Cell). [] ∷ more_parts cuts before us) (sym (letters-more stop c cs e))
@@ -255,7 +255,7 @@ first-part stop h cuts before used (c ∷ cs) =
                 ∙ elim test as (λ v. test ≡ v → (if v then (c ∷ []) ∷ letter_parts cuts c.code 0 (letters stop cs)
                 else onto c (letter_parts cuts c.code (used + width c.code) (letters stop cs)))
                 ≡ take (if v then 1 else suc next) (c ∷ cs)
-                ∷ more_parts cuts (code_behind before (if v then 1 else suc next) (c.code ∷ codes_of cs))
+                ∷ more_parts cuts (code_after before (if v then 1 else suc next) (c.code ∷ codes_of cs))
                 (letters stop (drop (if v then 1 else suc next) (c ∷ cs)))) [
                   | true ↦ λ t. ap (λ (us : List (List Cell)). (c ∷ []) ∷ us)
                       (begun cuts c.code (letters stop cs) (begins-letters stop h cs
@@ -303,45 +303,45 @@ gap-is [] = refl
 gap-is (c ∷ cs) = ap (λ n. if is_space c.code then suc n else 0) (gap-is cs)
 
 -- after a space and at the front nothing is cut
-none-behind : (h : Bool) (cs : List Cell) → (if h then hyphen_parts 32 cs else cs ∷ [])
+none-after : (h : Bool) (cs : List Cell) → (if h then hyphen_parts 32 cs else cs ∷ [])
     ≡ (if h then hyphen_parts 0 cs else cs ∷ [])
-none-behind true [] = refl
-none-behind true (c ∷ cs) = refl
-none-behind false cs = refl
+none-after true [] = refl
+none-after true (c ∷ cs) = refl
+none-after false cs = refl
 
-pub behind-space : (cuts : Cuts) (cs : List Cell) → words_behind cuts 32 cs ≡ words_behind cuts 0 cs
-behind-space cuts cs = elim (spaced_words cs) as (λ ws. (elim ws as (λ _. List Word) [
+pub after-space : (cuts : Cuts) (cs : List Cell) → words_after cuts 32 cs ≡ words_after cuts 0 cs
+after-space cuts cs = elim (spaced_words cs) as (λ ws. (elim ws as (λ _. List Word) [
   | [] ↦ []
-  | w ∷ ws ↦ with_spaces w.spaces (flat_map (narrow_parts cuts) (hyphenated_behind cuts 32 w.letters))
+  | w ∷ ws ↦ with_spaces w.spaces (flat_map (narrow_parts cuts) (hyphenated_after cuts 32 w.letters))
       ++ flat_map (parts cuts) ws
 ]) ≡ (elim ws as (λ _. List Word) [
   | [] ↦ []
-  | w ∷ ws ↦ with_spaces w.spaces (flat_map (narrow_parts cuts) (hyphenated_behind cuts 0 w.letters))
+  | w ∷ ws ↦ with_spaces w.spaces (flat_map (narrow_parts cuts) (hyphenated_after cuts 0 w.letters))
       ++ flat_map (parts cuts) ws
 ])) [
   | [] ↦ refl
   | w ∷ ws ↦ ap (λ ps. with_spaces w.spaces (flat_map (narrow_parts cuts) ps) ++ flat_map (parts cuts) ws)
-      (none-behind cuts.hyphens w.letters)
+      (none-after cuts.hyphens w.letters)
 ]
 
-pub words-alone : (cuts : Cuts) (cs : List Cell) → words_behind cuts 0 cs ≡ flat_map (parts cuts) (spaced_words cs)
+pub words-alone : (cuts : Cuts) (cs : List Cell) → words_after cuts 0 cs ≡ flat_map (parts cuts) (spaced_words cs)
 words-alone cuts cs = elim (spaced_words cs) as (λ ws. (elim ws as (λ _. List Word) [
   | [] ↦ []
-  | w ∷ ws ↦ with_spaces w.spaces (flat_map (narrow_parts cuts) (hyphenated_behind cuts 0 w.letters))
+  | w ∷ ws ↦ with_spaces w.spaces (flat_map (narrow_parts cuts) (hyphenated_after cuts 0 w.letters))
       ++ flat_map (parts cuts) ws
 ]) ≡ flat_map (parts cuts) ws) [ [] ↦ refl | w ∷ ws ↦ refl ]
 
 -- the parts of a word's letters, and the words after it
 abbrev from_parts : Cuts → List (List Cell) → List Cell → List Word
-from_parts cuts ps behind = with_spaces (take (spaces_len behind) behind) ps
-    ++ flat_map (parts cuts) (spaced_words (drop (spaces_len behind) behind))
+from_parts cuts ps cells_on = with_spaces (take (spaces_len cells_on) cells_on) ps
+    ++ flat_map (parts cuts) (spaced_words (drop (spaces_len cells_on) cells_on))
 
-words-split : (cuts : Cuts) (before : ℕ) (c : Cell) (cs : List Cell) → words_behind cuts before (c ∷ cs)
+words-split : (cuts : Cuts) (before : ℕ) (c : Cell) (cs : List Cell) → words_after cuts before (c ∷ cs)
     ≡ from_parts cuts (letter_parts cuts before 0 (letters is_space (c ∷ cs))) (drop (letters_len (c ∷ cs)) (c ∷ cs))
 words-split cuts before c cs =
     ap (λ (ws : List Word). elim ws as (λ _. List Word) [
       | [] ↦ []
-      | w ∷ ws ↦ with_spaces w.spaces (flat_map (narrow_parts cuts) (hyphenated_behind cuts before w.letters))
+      | w ∷ ws ↦ with_spaces w.spaces (flat_map (narrow_parts cuts) (hyphenated_after cuts before w.letters))
           ++ flat_map (parts cuts) ws
     ]) (words-first c cs)
     ∙ ap (λ ps. from_parts cuts ps (drop (letters_len (c ∷ cs)) (c ∷ cs))) (word-parts cuts before (letters is_space (c
@@ -355,62 +355,63 @@ with_spaces-more spaces p (q ∷ qs) h = refl
 next-part : (cuts : Cuts) (before after : ℕ) (p cs : List Cell) → (0 < spaces_len cs → after ≡ 32)
     → (spaces_len cs ≡ 0 → after ≡ before) →
     from_parts cuts (p ∷ more_parts cuts before (letters is_space cs)) (drop (letters_len cs) cs)
-    ≡ record { letters = p; spaces = take (spaces_len cs) cs } ∷ words_behind cuts after (drop (spaces_len cs) cs)
+    ≡ record { letters = p; spaces = take (spaces_len cs) cs } ∷ words_after cuts after (drop (spaces_len cs) cs)
 next-part cuts before after p [] f g = refl
 next-part cuts before after p (c ∷ cs) f g = elim (is_space c.code) as (λ v. is_space c.code ≡ v →
     from_parts cuts (p ∷ more_parts cuts before (letters is_space (c ∷ cs))) (drop (letters_len (c ∷ cs)) (c ∷ cs))
     ≡ record { letters = p; spaces = take (spaces_len (c ∷ cs)) (c ∷ cs) }
-    ∷ words_behind cuts after (drop (spaces_len (c ∷ cs)) (c ∷ cs))) [
+    ∷ words_after cuts after (drop (spaces_len (c ∷ cs)) (c ∷ cs))) [
       | true ↦ λ e.
           let z : letters_len (c ∷ cs) ≡ 0 = ap (λ (v : Bool). if v then 0 else suc (letters_len cs)) e in
           let m : spaces_len (c ∷ cs) ≡ suc (spaces_len cs) = ap (λ (v : Bool). if v then suc (spaces_len cs) else 0) e
           in
           ap (λ n. from_parts cuts (p ∷ more_parts cuts before (take n (c ∷ cs))) (drop n (c ∷ cs))) z
           ∙ ap (λ ws. record { letters = p; spaces = take (spaces_len (c ∷ cs)) (c ∷ cs) } ∷ ws)
-          (sym (ap (λ a. words_behind cuts a (drop (spaces_len (c ∷ cs)) (c ∷ cs))) (f (omega arith))
-          ∙ behind-space cuts (drop (spaces_len (c ∷ cs)) (c ∷ cs))
+          (sym (ap (λ a. words_after cuts a (drop (spaces_len (c ∷ cs)) (c ∷ cs))) (f (omega arith))
+          ∙ after-space cuts (drop (spaces_len (c ∷ cs)) (c ∷ cs))
           ∙ words-alone cuts (drop (spaces_len (c ∷ cs)) (c ∷ cs))))
       | false ↦ λ e.
-          let behind = drop (letters_len (c ∷ cs)) (c ∷ cs) in
+          let cells_on = drop (letters_len (c ∷ cs)) (c ∷ cs) in
           let m : spaces_len (c ∷ cs) ≡ 0 = ap (λ (v : Bool). if v then suc (spaces_len cs) else 0) e in
           let l : letters is_space (c ∷ cs) ≡ c ∷ letters is_space cs = letters-more is_space c cs e in
-          ap (λ us. from_parts cuts (p ∷ more_parts cuts before us) behind) l
-          ∙ ap (λ us. us ++ flat_map (parts cuts) (spaced_words (drop (spaces_len behind) behind)))
-          (with_spaces-more (take (spaces_len behind) behind) p (letter_parts cuts before 0 (c ∷ letters is_space cs))
+          ap (λ us. from_parts cuts (p ∷ more_parts cuts before us) cells_on) l
+          ∙ ap (λ us. us ++ flat_map (parts cuts) (spaced_words (drop (spaces_len cells_on) cells_on)))
+          (with_spaces-more (take (spaces_len cells_on) cells_on) p
+          (letter_parts cuts before 0 (c ∷ letters is_space cs))
           (parts-some cuts before 0 (c ∷ letters is_space cs)))
-          ∙ ap (λ us. record { letters = p; spaces = [] } ∷ from_parts cuts (letter_parts cuts before 0 us) behind)
+          ∙ ap (λ us. record { letters = p; spaces = [] } ∷ from_parts cuts (letter_parts cuts before 0 us) cells_on)
           (sym l)
           ∙ ap (λ ws. record { letters = p; spaces = [] } ∷ ws)
-          (sym (ap (λ a. words_behind cuts a (c ∷ cs)) (g m) ∙ words-split cuts before c cs))
-          ∙ ap (λ k. record { letters = p; spaces = take k (c ∷ cs) } ∷ words_behind cuts after (drop k (c ∷ cs)))
+          (sym (ap (λ a. words_after cuts a (c ∷ cs)) (g m) ∙ words-split cuts before c cs))
+          ∙ ap (λ k. record { letters = p; spaces = take k (c ∷ cs) } ∷ words_after cuts after (drop k (c ∷ cs)))
           (sym m)
     ] refl
 
 -- ---- the code before
 
-behind-nothing : (a n : ℕ) → code_behind a n [] ≡ a
-behind-nothing a zero = refl
-behind-nothing a (suc n) = refl
+after-nothing : (a n : ℕ) → code_after a n [] ≡ a
+after-nothing a zero = refl
+after-nothing a (suc n) = refl
 
-pub behind-add : (a n m : ℕ) (cs : List ℕ) → code_behind a (n + m) cs ≡ code_behind (code_behind a n cs) m (drop n cs)
-behind-add a zero m cs = ap (λ k. code_behind a k cs) (zero-add m)
-behind-add a (suc n) m [] = behind-nothing a (suc n + m) ∙ sym (behind-nothing a m)
-behind-add a (suc n) m (c ∷ cs) = let e : suc n + m ≡ suc (n + m) = omega arith in ap (λ k. code_behind a k (c ∷ cs)) e
-    ∙ behind-add c n m cs
+pub after-add : (a n m : ℕ) (cs : List ℕ) → code_after a (n + m) cs ≡ code_after (code_after a n cs) m (drop n cs)
+after-add a zero m cs = ap (λ k. code_after a k cs) (zero-add m)
+after-add a (suc n) m [] = after-nothing a (suc n + m) ∙ sym (after-nothing a m)
+after-add a (suc n) m (c ∷ cs) = let e : suc n + m ≡ suc (n + m) = omega arith in ap (λ k. code_after a k (c ∷ cs)) e
+    ∙ after-add c n m cs
 
-gap-last : (cs : List ℕ) → code_behind 32 (gap_len cs) cs ≡ 32
+gap-last : (cs : List ℕ) → code_after 32 (gap_len cs) cs ≡ 32
 gap-last [] = refl
 gap-last (c ∷ cs) = elim (is_space c) as (λ v. is_space c ≡ v
-    → code_behind 32 (if v then suc (gap_len cs) else 0) (c ∷ cs) ≡ 32) [
-      | true ↦ λ e. ap (λ k. code_behind k (gap_len cs) cs) (eqb-true c 32 e) ∙ gap-last cs
+    → code_after 32 (if v then suc (gap_len cs) else 0) (c ∷ cs) ≡ 32) [
+      | true ↦ λ e. ap (λ k. code_after k (gap_len cs) cs) (eqb-true c 32 e) ∙ gap-last cs
       | false ↦ λ e. refl
     ] refl
 
-gap-space : (a : ℕ) (cs : List ℕ) → 0 < gap_len cs → code_behind a (gap_len cs) cs ≡ 32
+gap-space : (a : ℕ) (cs : List ℕ) → 0 < gap_len cs → code_after a (gap_len cs) cs ≡ 32
 gap-space a [] h = absurd (omega arith)
 gap-space a (c ∷ cs) h = elim (is_space c) as (λ v. is_space c ≡ v → 0 < (if v then suc (gap_len cs) else 0)
-    → code_behind a (if v then suc (gap_len cs) else 0) (c ∷ cs) ≡ 32) [
-      | true ↦ λ e h. ap (λ k. code_behind k (gap_len cs) cs) (eqb-true c 32 e) ∙ gap-last cs
+    → code_after a (if v then suc (gap_len cs) else 0) (c ∷ cs) ≡ 32) [
+      | true ↦ λ e h. ap (λ k. code_after k (gap_len cs) cs) (eqb-true c 32 e) ∙ gap-last cs
       | false ↦ λ e h. absurd (omega arith)
     ] refl h
 
@@ -420,34 +421,34 @@ drop-codes n cs = drop-map (λ (c : Cell). c.code) n cs
 -- The first word of what stands after a code, where something does.
 pub words-next : (cuts : Cuts) (before n m : ℕ) (cs : List Cell) → 0 < length cs → n
     ≡ part_len is_space cuts before 0 (codes_of cs) → m ≡ gap_len (drop n (codes_of cs)) →
-    words_behind cuts before cs ≡ record { letters = take n cs; spaces = take m (drop n cs) }
-    ∷ words_behind cuts (code_behind before (n + m) (codes_of cs)) (drop (n + m) cs)
+    words_after cuts before cs ≡ record { letters = take n cs; spaces = take m (drop n cs) }
+    ∷ words_after cuts (code_after before (n + m) (codes_of cs)) (drop (n + m) cs)
 words-next cuts before n m [] l p q = absurd (omega arith)
 words-next cuts before n m (c ∷ cs) l p q =
     let all = c ∷ cs in
     let k = part_len is_space cuts before 0 (codes_of all) in
-    let last = code_behind before n (codes_of all) in
+    let last = code_after before n (codes_of all) in
     let s : m ≡ spaces_len (drop n all) = q ∙ ap gap_len (drop-codes n all) ∙ gap-is (drop n all) in
     let a : letters_len all ≡ n + letters_len (drop n all) = ap (λ n. letters_len all) p ∙ part-within is_space cuts
     before 0 all
     ∙ ap (λ k. k + letters_len (drop k all)) (sym p) in
-    let after = code_behind before (n + m) (codes_of all) in
-    let e : after ≡ code_behind last m (drop n (codes_of all)) = behind-add before n m (codes_of all) in
-    let f : 0 < spaces_len (drop n all) → after ≡ 32 = λ h. e ∙ ap (λ k. code_behind last k (drop n (codes_of all))) q
+    let after = code_after before (n + m) (codes_of all) in
+    let e : after ≡ code_after last m (drop n (codes_of all)) = after-add before n m (codes_of all) in
+    let f : 0 < spaces_len (drop n all) → after ≡ 32 = λ h. e ∙ ap (λ k. code_after last k (drop n (codes_of all))) q
     ∙ gap-space last (drop n (codes_of all)) (omega arith) in
     let g : spaces_len (drop n all) ≡ 0 → after ≡ last = λ h. e
-    ∙ ap (λ k. code_behind last k (drop n (codes_of all))) (s ∙ h) in
+    ∙ ap (λ k. code_after last k (drop n (codes_of all))) (s ∙ h) in
     words-split cuts before c cs
     ∙ ap (λ ps. from_parts cuts ps (drop (letters_len all) all))
-    (first-part is_space no_letter cuts before 0 all ∙ ap (λ k. take k all ∷ more_parts cuts (code_behind before k
+    (first-part is_space no_letter cuts before 0 all ∙ ap (λ k. take k all ∷ more_parts cuts (code_after before k
     (codes_of all))
     (letters is_space (drop k all))) (sym p))
     ∙ ap (from_parts cuts (take n all ∷ more_parts cuts last (letters is_space (drop n all))))
     (ap (λ k. drop k all) a ∙ sym (drop-drop (letters_len (drop n all)) n all))
     ∙ next-part cuts last after (take n all) (drop n all) f g
     ∙ ap (λ k. record { letters = take n all; spaces = take k (drop n all) }
-    ∷ words_behind cuts after (drop k (drop n all))) (sym s)
-    ∙ ap (λ us. record { letters = take n all; spaces = take m (drop n all) } ∷ words_behind cuts after us)
+    ∷ words_after cuts after (drop k (drop n all))) (sym s)
+    ∙ ap (λ us. record { letters = take n all; spaces = take m (drop n all) } ∷ words_after cuts after us)
     (drop-drop m n all)
 
 -- ---- something is taken

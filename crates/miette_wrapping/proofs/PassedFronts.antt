@@ -16,7 +16,7 @@ use Rattle.std.proofs.lemmas.Str.{chars_past_char, encode_ascii}
 use Rattle.std.proofs.lemmas.Str.Ascii.{IsAscii-cons, IsAscii-from_all, IsAscii-nil}
 use Rattle.miette_basics.specs.rules.Lists.{is_nil}
 use Rattle.miette_style.specs.rules.Escapes.{is_escape}
-use Rattle.miette_runs.specs.rules.Colours.{is_colour, is_colour_behind, is_colour_end}
+use Rattle.miette_runs.specs.rules.Colours.{is_colour, is_colour_after, is_colour_end}
 use Rattle.miette_runs.specs.rules.Sequences.{after_colour_escape_len, after_escape_len, begins, colour_end_len}
 use Rattle.miette_runs.specs.rules.Sequences.{colour_len, is_parameter, one_more, tokens}
 use Rattle.miette_runs.proofs.Counting.{counted}
@@ -68,9 +68,9 @@ end_low (c ∷ s) h =
 
 colour_low : (s : List ℕ) → is_colour s ≡ true → All is_low s
 colour_low [] h = cc
-colour_low (c ∷ []) h = absurd (let p = (and_parts (is_escape c) (is_colour_behind []) h).1 in cc)
+colour_low (c ∷ []) h = absurd (let p = (and_parts (is_escape c) (is_colour_after []) h).1 in cc)
 colour_low (c ∷ d ∷ s) h =
-    let p = and_parts (is_escape c) (is_colour_behind (d ∷ s)) h in
+    let p = and_parts (is_escape c) (is_colour_after (d ∷ s)) h in
     let q = and_parts (d == 91) (is_colour_end s) p.1 in
     All-cons is_low c (d ∷ s) (escape_low c p.0) (All-cons is_low d s (omega (arith, eqb-true d 91 q.0))
     (end_low s q.1))
@@ -126,12 +126,12 @@ front_unseen b bs h =
     ] refl h
 
 -- a text after what is passed at its front
-pub record IsBehind (b : Bool) (bs : List ℕ) (n : ℕ) : Type 0 where
+pub record IsAfter (b : Bool) (bs : List ℕ) (n : ℕ) : Type 0 where
   pub boundary : IsCharBoundary bs n
   pub same : are_passed b (tokens (chars (drop n bs))) ≡ are_passed b (tokens (chars bs))
 
 pub front_passed : (b : Bool) (bs : List ℕ) (n : ℕ) → IsUtf8 bs → 0 < n → n ≤ length bs → n ≡ front_len b bs
-    → IsBehind b bs n
+    → IsAfter b bs n
 front_passed b bs n u p w e =
     let some : 0 < front_len b bs = omega (arith, e, p) in
     let front = take n bs in

@@ -6,7 +6,7 @@ use Rattle.std.proofs.lemmas.Bool.Decides.{nat_tests}
 use Rattle.std.specs.Char.{is_ascii_alphabetic}
 use Rattle.std.specs.Option.{is_some}
 use Rattle.miette_line_breaks.specs.declared.state.State.{State}
-use Rattle.miette_line_breaks.specs.views.Places.{behind, found_before, is_in_word}
+use Rattle.miette_line_breaks.specs.views.Places.{after_code, found_before, is_in_word}
 use Rattle.miette_wrap_rules.specs.rules.Wrapping.{is_hyphen}
 use Rattle.miette_wrapping.specs.steps.Ends.{letters_len}
 use Rattle.miette_wrapping.specs.views.Breaks.{passed_len, piece_len, state_at}
@@ -20,7 +20,7 @@ pub state-more : (s : State) (i n k : ℕ) (cs : List ℕ) → k ≡ i + n → s
 state-more s zero n k cs e = ap (λ j. state_at s j cs) (omega (arith, e))
 state-more s (suc i) n zero cs e = absurd (omega (arith, e))
 state-more s (suc i) n (suc k) [] e = sym (state-none s n)
-state-more s (suc i) n (suc k) (c ∷ cs) e = state-more (behind s c) i n k cs (omega (arith, e))
+state-more s (suc i) n (suc k) (c ∷ cs) e = state-more (after_code s c) i n k cs (omega (arith, e))
 
 -- `n` more are passed
 pub piece-passes : (s : State) (joined : Bool) (all i n : ℕ) (cs : List ℕ) →
@@ -45,7 +45,8 @@ letter-hyphen c h = grind (arith, nat_tests)
 
 -- letters of ASCII change nothing
 abbrev pub Passes : State → Type 0
-Passes s = (c : ℕ) → is_in_word s ≡ true → is_ascii_alphabetic c ≡ true → (found_before s c ≡ None) × (behind s c ≡ s)
+Passes s = (c : ℕ) → is_in_word s ≡ true → is_ascii_alphabetic c ≡ true
+    → (found_before s c ≡ None) × (after_code s c ≡ s)
 
 letters-piece : (s : State) (cs : List ℕ) → Passes s → is_in_word s ≡ true →
     piece_len s false cs ≡ letters_len cs + piece_len s false (drop (letters_len cs) cs)
@@ -55,7 +56,7 @@ letters-piece s (c ∷ cs) law h = elim (is_ascii_alphabetic c) as (λ v. is_asc
     + piece_len s false (drop (if v then suc (letters_len cs) else 0) (c ∷ cs))) [
       | true ↦ λ e.
           let r = law c h e in
-          ap (λ o. if is_some o then 0 else suc (piece_len (behind s c) (is_hyphen c) cs)) r.0
+          ap (λ o. if is_some o then 0 else suc (piece_len (after_code s c) (is_hyphen c) cs)) r.0
           ∙ ap₂ (λ t j. suc (piece_len t j cs)) r.1 (letter-hyphen c e)
           ∙ (let n = letters_len cs in
           let all : suc (piece_len s false cs) ≡ suc n + piece_len s false (drop n cs) =

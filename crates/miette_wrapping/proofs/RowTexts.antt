@@ -15,10 +15,10 @@ lines_of rest [] = []
 lines_of rest (r ∷ rs) = elim rs [ [] ↦ (shown r ++ concat rest) ∷ [] | s ∷ ss ↦ shown r ∷ lines_of rest rs ]
 
 -- lines below the first
-abbrev pub behind : List ℕ → List (List ℕ) → List ℕ
-behind further [] = []
-behind further (r ∷ rs) = (10 ∷ further) ++ (r ++ behind further rs)
+abbrev pub after_row : List ℕ → List (List ℕ) → List ℕ
+after_row further [] = []
+after_row further (r ∷ rs) = (10 ∷ further) ++ (r ++ after_row further rs)
 
 abbrev pub joined_lines : List ℕ → List ℕ → List (List ℕ) → List ℕ
 joined_lines indent further [] = []
-joined_lines indent further (r ∷ rs) = indent ++ (r ++ behind further rs)
+joined_lines indent further (r ∷ rs) = indent ++ (r ++ after_row further rs)

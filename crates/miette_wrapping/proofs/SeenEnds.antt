@@ -15,7 +15,7 @@ use Rattle.miette_style.specs.rules.Codes.{colour_stop}
 use Rattle.miette_style.specs.rules.Escapes.{is_escape}
 use Rattle.miette_runs.specs.rules.Sequences.{Token, Character, Sequence, after_escape_len, begins, begins_terminator}
 use Rattle.miette_runs.specs.rules.Sequences.{command_len, control_len, is_bell, is_final, is_line_feed, one_more}
-use Rattle.miette_runs.specs.rules.Sequences.{sequence_len, tokens, tokens_behind}
+use Rattle.miette_runs.specs.rules.Sequences.{sequence_len, tokens, tokens_after}
 use Rattle.miette_wrapping.specs.steps.WholeText.{are_passed, closes, is_low, is_visible}
 use Rattle.miette_wrapping.proofs.PassedFronts.{visible}
 
@@ -128,16 +128,16 @@ visible_high c h = grind (arith, nat_tests)
 
 walk_seen : (b : Bool) (s : List ℕ) (m : ℕ)
     → ((c : ℕ) (y : List ℕ) → sequence_len (c ∷ (y ++ s)) ≤ suc (m + length y))
-    → ((j : ℕ) → j ≤ m → are_passed b (tokens_behind j s) ≡ false)
-    → (y : List ℕ) (j : ℕ) → j ≤ m + length y → are_passed b (tokens_behind j (y ++ s)) ≡ false
+    → ((j : ℕ) → j ≤ m → are_passed b (tokens_after j s) ≡ false)
+    → (y : List ℕ) (j : ℕ) → j ≤ m + length y → are_passed b (tokens_after j (y ++ s)) ≡ false
 walk_seen b s m ends seen [] j l = seen j (omega (arith, l))
 walk_seen b s m ends seen (c ∷ y) (suc j) l = walk_seen b s m ends seen y j (omega (arith, l))
 walk_seen b s m ends seen (c ∷ y) zero l =
     let rest = y ++ s in
     elim (sequence_len (c ∷ rest)) as (λ (n : ℕ). n ≤ suc (m + length y)
     → are_passed b (elim n as (λ _. List Token) [
-      | zero ↦ Character c ∷ tokens_behind 0 rest
-      | suc k ↦ Sequence (take (suc k) (c ∷ rest)) ∷ tokens_behind k rest
+      | zero ↦ Character c ∷ tokens_after 0 rest
+      | suc k ↦ Sequence (take (suc k) (c ∷ rest)) ∷ tokens_after k rest
     ]) ≡ false) [
       | zero ↦ λ k. ap (λ v. (b && is_whitespace c) && v) (walk_seen b s m ends seen y 0 (omega arith))
           ∙ and-false (b && is_whitespace c)
@@ -153,7 +153,7 @@ final_high : (p : ℕ) → is_final p ≡ true → p ≤ 126
 final_high p h = grind (arith, nat_tests)
 
 closed_seen : (b : Bool) (p : ℕ) (t : List ℕ) → is_final p ≡ true → are_passed b (tokens t) ≡ false
-    → (j : ℕ) → j ≤ 1 → are_passed b (tokens_behind j (p ∷ t)) ≡ false
+    → (j : ℕ) → j ≤ 1 → are_passed b (tokens_after j (p ∷ t)) ≡ false
 closed_seen b p t h s zero l = visible p b t (final_low p h) (final_high p h)
 closed_seen b p t h s (suc zero) l = s
 closed_seen b p t h s (suc (suc j)) l = absurd (omega (arith, l))
@@ -162,9 +162,9 @@ closed_ends : (p : ℕ) (t : List ℕ) → is_final p ≡ true → (p == 91) ≡
     → (c : ℕ) (y : List ℕ) → sequence_len (c ∷ (y ++ p ∷ t)) ≤ suc (1 + length y)
 closed_ends p t h e k c y = omega (arith, sequence_closed p c t y h e k)
 
-behind_seen : (b : Bool) (p : ℕ) (t : List ℕ) → is_final p ≡ true → (p == 91) ≡ false → command_len t ≡ 0
+after_seen : (b : Bool) (p : ℕ) (t : List ℕ) → is_final p ≡ true → (p == 91) ≡ false → command_len t ≡ 0
     → are_passed b (tokens t) ≡ false → (y : List ℕ) → are_passed b (tokens (y ++ p ∷ t)) ≡ false
-behind_seen b p t h e k s y =
+after_seen b p t h e k s y =
     walk_seen b (p ∷ t) 1 (closed_ends p t h e k) (closed_seen b p t h s) y 0 (omega arith)
 
 -- ---- and a code that would end none is seen at the very end
@@ -217,7 +217,7 @@ low_ends c h d y = omega (
   sequence_next (is_escape d) (after_escape_len (y ++ c ∷ [])) (length y) (escape_low c y h),
 )
 
-low_seen : (b : Bool) (c : ℕ) → is_low c ≡ true → (j : ℕ) → j ≤ 0 → are_passed b (tokens_behind j (c ∷ [])) ≡ false
+low_seen : (b : Bool) (c : ℕ) → is_low c ≡ true → (j : ℕ) → j ≤ 0 → are_passed b (tokens_after j (c ∷ [])) ≡ false
 low_seen b c h zero l =
     visible c b [] (visible_low c (low_visible c h)) (visible_high c (low_visible c h))
 low_seen b c h (suc j) l = absurd (omega (arith, l))
@@ -274,7 +274,7 @@ line_seen line n u l m tail h k b =
     let text : chars line ≡ chars front ++ p ∷ c ∷ t = ap chars parts ∙ chars-append front (p ∷ c ∷ t) own
     ∙ ap (λ xs. chars front ++ xs) (chars-IsAscii (p ∷ c ∷ t) ascii) in
     ap (λ xs. are_passed b (tokens xs)) text
-    ∙ behind_seen b p (c ∷ t) closed.0 (not_true (p == 91) closed.1) (quiet_more c t k end.quiet)
+    ∙ after_seen b p (c ∷ t) closed.0 (not_true (p == 91) closed.1) (quiet_more c t k end.quiet)
     (visible c b t (visible_low c k) (visible_high c k)) (chars front)
 
 pub end_seen : (line : List ℕ) → IsUtf8 line → 1 ≤ length line → is_low (get_or line (length line - 1) 0) ≡ true

@@ -7,7 +7,7 @@ use Rattle.std.proofs.Math.Bool.{and-false}
 use Rattle.miette_runs.specs.rules.Cells.{width}
 use Rattle.miette_runs.specs.steps.Cells.{code_columns}
 use Rattle.miette_wrap_rules.specs.rules.Wrapping.{Cuts, is_alphanumeric, is_space}
-use Rattle.miette_wrapping.specs.steps.Ends.{begins_word, code_behind, is_solid, part_len, solid_len}
+use Rattle.miette_wrapping.specs.steps.Ends.{begins_word, code_after, is_solid, part_len, solid_len}
 use Rattle.miette_wrapping.proofs.Fitting.{printed-width}
 
 pub solid-space : (c : ℕ) → is_solid c ≡ true → is_space c ≡ false
@@ -51,7 +51,7 @@ no_part cuts c before cs h =
 -- those that have room are in the part
 pub solid-part : (stop : ℕ → Bool) → ((c : ℕ) → is_solid c ≡ true → stop c ≡ false) →
     (cuts : Cuts) (before used k j : ℕ) (cs : List ℕ) → j ≡ used + k → k ≤ solid_len cs → j ≤ cuts.narrow →
-    part_len stop cuts before used cs ≡ k + part_len stop cuts (code_behind before k cs) j (drop k cs)
+    part_len stop cuts before used cs ≡ k + part_len stop cuts (code_after before k cs) j (drop k cs)
 solid-part stop law cuts before used zero j cs e h r =
     let i : used ≡ j = omega (arith, e) in
     let more = part_len stop cuts before j cs in
@@ -67,7 +67,7 @@ solid-part stop law cuts before used (suc k) j (c ∷ cs) e h r =
     has_room cuts.narrow used (width c) w (omega (arith, e, r)) in
     let none : (cuts.breaks && wide) ≡ false = no_row cuts used (width c) room in
     let whole : (cuts.hyphens && test) ≡ false = no_part cuts c before cs (solid-hyphen c p.0) in
-    let next = part_len stop cuts (code_behind c k cs) j (drop k cs) in
+    let next = part_len stop cuts (code_after c k cs) j (drop k cs) in
     let i : more ≡ k + next = solid-part stop law cuts c (used + width c) k j cs (omega (arith, e, w)) p.1 r in
     ap (λ b. chosen b (cuts.breaks && wide) (cuts.hyphens && test) more) (law c p.0)
     ∙ ap₂ (λ b d. chosen false b d more) none whole

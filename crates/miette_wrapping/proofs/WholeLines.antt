@@ -209,12 +209,12 @@ pub first-feed : (text fed rest : List ℕ) (n : ℕ) → IsUtf8 text → n ≡ 
     → fed ≡ take (n + 1) text → rest ≡ drop (n + 1) text → IsCutAtFeed text (take n text) fed rest
 first-feed text fed rest n u e h a b =
     let front = take n text in
-    let behind = drop (n + 1) text in
+    let after = drop (n + 1) text in
     let here = at-feed text n e h in
-    let parts : text ≡ front ++ 10 ∷ behind = sym (take-append-drop n text)
-    ∙ ap (λ l. front ++ l) (drop_more text n 0 h ∙ ap (λ x. x ∷ behind) here) in
-    let whole : IsUtf8 (front ++ 10 ∷ behind) = subst IsUtf8 parts u in
-    let own : IsUtf8 front = front-utf8 front behind whole in
+    let parts : text ≡ front ++ 10 ∷ after = sym (take-append-drop n text)
+    ∙ ap (λ l. front ++ l) (drop_more text n 0 h ∙ ap (λ x. x ∷ after) here) in
+    let whole : IsUtf8 (front ++ 10 ∷ after) = subst IsUtf8 parts u in
+    let own : IsUtf8 front = front-utf8 front after whole in
     let row : is_row front ≡ true = ap (λ k. is_row (take k text)) e ∙ row-front text in
     let feed : take (n + 1) text ≡ front ++ 10 ∷ [] = take_more text n 0 h ∙ ap (λ x. front ++ x ∷ []) here in
     record {
@@ -222,7 +222,7 @@ first-feed text fed rest n u e h a b =
           (chars-IsAscii (10 ∷ []) feed_ascii);
       is_first = (
         sym (row-text front own) ∙ row,
-        ap chars parts ∙ parted front behind whole ∙ ap (λ cs. chars front ++ 10 ∷ chars cs) (sym b),
+        ap chars parts ∙ parted front after whole ∙ ap (λ cs. chars front ++ 10 ∷ chars cs) (sym b),
       );
     }
 

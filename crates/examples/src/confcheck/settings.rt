@@ -38,7 +38,7 @@ pub fn set_twice(
 }
 
 /// The known key that the fewest edits of characters make of this one, where `EDITS` are enough.
-pub fn nearest(alloc: Global, key: &str) -> Result<Option<&'static str>, AllocError> {
+pub fn nearest_key(alloc: Global, key: &str) -> Result<Option<&'static str>, AllocError> {
     let mut found = None;
     let mut least = EDITS + 1;
     for known in KEYS {

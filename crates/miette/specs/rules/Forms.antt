@@ -27,12 +27,12 @@ front JsonArray false = codes "["
 front JsonRows is_begun = []
 
 -- after each report
-abbrev pub behind : Form → List ℕ
-behind Pictures = []
-behind Narrated = []
-behind Brief = []
-behind JsonArray = []
-behind JsonRows = codes "\n"
+abbrev pub after_it : Form → List ℕ
+after_it Pictures = []
+after_it Narrated = []
+after_it Brief = []
+after_it JsonArray = []
+after_it JsonRows = codes "\n"
 
 -- after the last one, or where there is none
 abbrev pub closing : Form → Bool → List ℕ
@@ -57,12 +57,12 @@ summary form is_begun c = front form is_begun ++ (counts_text c ++ codes "\n")
 
 -- one report: its text, with what stands around it
 abbrev pub IsNext : Form → Bool → (List ℕ → Type 0) → List ℕ → Type 0
-IsNext form is_begun given text = (own : List ℕ) × given own × (text ≡ (front form is_begun ++ own) ++ behind form)
+IsNext form is_begun given text = (own : List ℕ) × given own × (text ≡ (front form is_begun ++ own) ++ after_it form)
 
 -- one report, by what its call makes of the text in front of it
 abbrev pub IsNextBy : Form → Bool → (List ℕ → List ℕ → Type 0) → List ℕ → Type 0
 IsNextBy form is_begun appends text =
-    (grown : List ℕ) × appends (front form is_begun) grown × (text ≡ grown ++ behind form)
+    (grown : List ℕ) × appends (front form is_begun) grown × (text ≡ grown ++ after_it form)
 
 -- the end of a run, with a summary where it is asked for
 abbrev pub ending : Form → Bool → Bool → Counts → List ℕ

@@ -1,7 +1,7 @@
 //! The forms in which the reports of a run are written.
 
 ghost use Rattle.std.specs.Prelude.{◌≡◌};
-ghost use Rattle.miette.specs.rules.Forms.{behind, closing, form_named, front, has_summary};
+ghost use Rattle.miette.specs.rules.Forms.{after_it, closing, form_named, front, has_summary};
 
 /// In which form the reports of a run are written, and what stands between two.
 #[derive(Clone, Copy, Debug, PartialEq, Eq)]
@@ -51,8 +51,8 @@ impl Form {
     }
 
     // What stands after each report.
-    pub(crate) fn behind(self) -> &'static str
-        ensures { result.now ≡ behind self }
+    pub(crate) fn after_it(self) -> &'static str
+        ensures { result.now ≡ after_it self }
     {
         match self {
             Form::JsonRows => "\n",

@@ -208,7 +208,7 @@ impl<T: ReportHandler, W: Write, F: Write> Reporter<T, W, F> {
     {
         let mut text = String::from_str(self.alloc, self.form.front(self.is_begun))?;
         self.handler.debug(report, &mut text)?;
-        text.push_str(self.form.behind())?;
+        text.push_str(self.form.after_it())?;
         Ok(text)
     }
 

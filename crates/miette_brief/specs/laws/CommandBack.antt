@@ -3,7 +3,7 @@ use Rattle.std.specs.Prelude.{◌≡◌, ℕ, ◌+◌, ◌-◌, ◌*◌, ◌==�
 use Rattle.std.specs.Prelude.{map, codes, if◌then◌else◌, ⊤}
 use Rattle.std.specs.List.{flat_map, list_all}
 use Rattle.miette_tree.specs.rules.Tree.{Tree, tree, Trees, no_trees, more_trees}
-use Rattle.miette_brief.specs.laws.EditBack.{up_to, behind}
+use Rattle.miette_brief.specs.laws.EditBack.{up_to, after_end}
 use Rattle.miette_brief.specs.laws.Parts.{text_of_rows}
 use Rattle.miette_brief.specs.rules.Commands.{Command, Property, Saying, command_name, properties}
 
@@ -38,12 +38,12 @@ pieces_of (b ∷ bs) = if b == 44 then [] ∷ pieces_of bs else onto_first b (pi
 
 -- a key up to `=`, and the value after it
 abbrev pub property_of : List ℕ → Property
-property_of piece = record { key = up_to 61 piece; value = decoded as_it_is (behind 61 piece) }
+property_of piece = record { key = up_to 61 piece; value = decoded as_it_is (after_end 61 piece) }
 
 -- after a space
-abbrev pub properties_behind : List ℕ → List Property
-properties_behind [] = []
-properties_behind (b ∷ bs) = map property_of (pieces_of (b ∷ bs))
+abbrev pub properties_after : List ℕ → List Property
+properties_after [] = []
+properties_after (b ∷ bs) = map property_of (pieces_of (b ∷ bs))
 
 -- ---- rows
 
@@ -53,7 +53,7 @@ head_in row = up_to 58 (drop 2 row)
 
 -- after the second `::`
 abbrev pub body_in : List ℕ → List ℕ
-body_in row = drop 1 (behind 58 (drop 2 row))
+body_in row = drop 1 (after_end 58 (drop 2 row))
 
 -- the texts of a message, each row below the first one after an LF
 abbrev pub said : Saying → List ℕ
@@ -70,7 +70,7 @@ is_one_line row = list_all (λ b. not (b == 10) && not (b == 13)) row
 pub record ReadsCommand (c : Command) (row : List ℕ) : Type 0 where
   pub begins : row ≡ codes "::" ++ drop 2 row
   pub name_is : up_to 32 (head_in row) ≡ command_name c.severity
-  pub properties_are : properties_behind (behind 32 (head_in row)) ≡ properties c
+  pub properties_are : properties_after (after_end 32 (head_in row)) ≡ properties c
   pub message_is : decoded as_it_is (body_in row) ≡ message_in c
   pub line : is_one_line row ≡ true
 

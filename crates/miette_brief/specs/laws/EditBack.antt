@@ -41,9 +41,9 @@ abbrev pub text_to_quote : Reading → List ℕ → List ℕ
 text_to_quote at [] = []
 text_to_quote at (b ∷ bs) = if ends_text at b then [] else given_by at b ++ text_to_quote (after_byte at b) bs
 
-abbrev pub behind_quote : Reading → List ℕ → List ℕ
-behind_quote at [] = []
-behind_quote at (b ∷ bs) = if ends_text at b then bs else behind_quote (after_byte at b) bs
+abbrev pub after_quote : Reading → List ℕ → List ℕ
+after_quote at [] = []
+after_quote at (b ∷ bs) = if ends_text at b then bs else after_quote (after_byte at b) bs
 
 -- ---- numbers
 
@@ -51,15 +51,15 @@ abbrev pub up_to : ℕ → List ℕ → List ℕ
 up_to end [] = []
 up_to end (b ∷ bs) = if b == end then [] else b ∷ up_to end bs
 
-abbrev pub behind : ℕ → List ℕ → List ℕ
-behind end [] = []
-behind end (b ∷ bs) = if b == end then bs else behind end bs
+abbrev pub after_end : ℕ → List ℕ → List ℕ
+after_end end [] = []
+after_end end (b ∷ bs) = if b == end then bs else after_end end bs
 
 -- a line up to a colon, and a column up to this byte
 abbrev pub position_to : ℕ → List ℕ → Position
 position_to end bs = record {
   line = digits_value 10 (up_to 58 bs);
-  column = digits_value 10 (up_to end (behind 58 bs));
+  column = digits_value 10 (up_to end (after_end 58 bs));
 }
 
 -- ---- rows
@@ -70,15 +70,15 @@ name_onwards row = drop 8 row
 
 -- after the name and `":{`
 abbrev pub start_onwards : List ℕ → List ℕ
-start_onwards row = drop 2 (behind_quote as_it_is (name_onwards row))
+start_onwards row = drop 2 (after_quote as_it_is (name_onwards row))
 
 -- after `-`
 abbrev pub end_onwards : List ℕ → List ℕ
-end_onwards row = behind 45 (start_onwards row)
+end_onwards row = after_end 45 (start_onwards row)
 
 -- after `}:"`
 abbrev pub text_onwards : List ℕ → List ℕ
-text_onwards row = drop 2 (behind 125 (end_onwards row))
+text_onwards row = drop 2 (after_end 125 (end_onwards row))
 
 -- a row is that of an edit: its name, its places and its text stand there
 pub record ReadsEdit (it : FixIt) (row : List ℕ) : Type 0 where

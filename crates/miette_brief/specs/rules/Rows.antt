@@ -60,15 +60,15 @@ abbrev pub one_row : List ℕ → List ℕ
 one_row text = encode_utf8_all (spaced_text false (chars text))
 
 -- `:2:3`
-abbrev pub behind_colon : Option Position → List ℕ
-behind_colon None = []
-behind_colon (Some at) = codes ":" ++ position_text at
+abbrev pub position_after_colon : Option Position → List ℕ
+position_after_colon None = []
+position_after_colon (Some at) = codes ":" ++ position_text at
 
 -- `bad_file.rs:2:3: `; what isn't there is left out with its colon
 abbrev pub place_text : Option (List ℕ) → Option Position → List ℕ
 place_text None None = []
 place_text None (Some at) = position_text at ++ codes ": "
-place_text (Some name) position = one_row name ++ (behind_colon position ++ codes ": ")
+place_text (Some name) position = one_row name ++ (position_after_colon position ++ codes ": ")
 
 -- `[oops::my::bad]`
 abbrev pub code_text : Option (List ℕ) → List ℕ

@@ -28,8 +28,8 @@ abbrev pub twice : PartingPlace → ℕ → List Character → ℕ
 twice place bytes cs = if is_boundary bytes cs then place.twice else 0
 
 -- the column after `bytes` bytes more than those before a place, in the characters after it, and what is counted twice
-abbrev pub column_behind : PartingPlace → ℕ → List Character → ℕ
-column_behind place bytes cs = if is_boundary bytes cs
+abbrev pub column_past : PartingPlace → ℕ → List Character → ℕ
+column_past place bytes cs = if is_boundary bytes cs
     then place.column + str_width false (overlap_text place.overlap ++ begun_text bytes cs)
     else place.widths + widths (begun_text bytes cs)
 
@@ -40,4 +40,4 @@ IsPlace text place =
     × (IsHeld place.overlap
     × ((more : ℕ) → column (place.bytes + more) (characters text)
     + twice place more (characters (drop place.bytes text))
-    ≡ column_behind place more (characters (drop place.bytes text))))
+    ≡ column_past place more (characters (drop place.bytes text))))

@@ -30,14 +30,14 @@ lines_by Removed away lines others = removed_with away lines others
 lines_by Added away lines others = added_with away lines others
 
 -- where the next of the others stands, after one of `size` bytes
-abbrev pub away_behind : Kind → ℕ → ℕ → ℕ
-away_behind Kept away size = away
-away_behind Removed away size = away + size
-away_behind Added away size = away - size
+abbrev pub away_after : Kind → ℕ → ℕ → ℕ
+away_after Kept away size = away
+away_after Removed away size = away + size
+away_after Added away size = away - size
 
 abbrev pub away_past : Kind → ℕ → Option (List ℕ) → ℕ
 away_past kind away None = away
-away_past kind away (Some text) = away_behind kind away (length text)
+away_past kind away (Some text) = away_after kind away (length text)
 
 abbrev pub lines_of_segment : Segment → List DiffLine
 lines_of_segment it = lines_by it.kind it.away (line_texts it.lines.now) (line_texts it.others.now)

@@ -11,18 +11,18 @@ is_changed (added text other) = true
 -- Whether a line is shown, between those before it, from the last one back, and those after it: it is changed, or one
 -- of the context lines on a side of it is.
 abbrev pub is_shown : ℕ → List DiffLine → DiffLine → List DiffLine → Bool
-is_shown context before line behind =
-    is_changed line || (list_any is_changed (take context before) || list_any is_changed (take context behind))
+is_shown context before line after =
+    is_changed line || (list_any is_changed (take context before) || list_any is_changed (take context after))
 
 -- the lines that are shown, each once, in order
-abbrev pub shown_behind : ℕ → List DiffLine → List DiffLine → List DiffLine
-shown_behind context before [] = []
-shown_behind context before (line ∷ lines) =
-    if is_shown context before line lines then line ∷ shown_behind context (line ∷ before) lines
-    else shown_behind context (line ∷ before) lines
+abbrev pub shown_after : ℕ → List DiffLine → List DiffLine → List DiffLine
+shown_after context before [] = []
+shown_after context before (line ∷ lines) =
+    if is_shown context before line lines then line ∷ shown_after context (line ∷ before) lines
+    else shown_after context (line ∷ before) lines
 
 abbrev pub shown_lines : ℕ → List DiffLine → List DiffLine
-shown_lines context lines = shown_behind context [] lines
+shown_lines context lines = shown_after context [] lines
 
 -- the lines of frames, one frame after the other
 abbrev pub lines_in : List DiffFrame → List DiffLine

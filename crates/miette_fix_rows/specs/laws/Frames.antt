@@ -7,12 +7,12 @@ use Rattle.miette_fix_rows.specs.rules.Hunks.{Diff, Hunk}
 
 -- all lines of a diff, in order: those of hunks, and those that stay after the last of them
 abbrev pub lines_with : List (List ℕ) → List Hunk → List DiffLine
-lines_with behind [] = kept_lines behind
-lines_with behind (hunk ∷ hunks) =
-    kept_lines hunk.kept ++ (changed_lines hunk.changes ++ lines_with behind hunks)
+lines_with after [] = kept_lines after
+lines_with after (hunk ∷ hunks) =
+    kept_lines hunk.kept ++ (changed_lines hunk.changes ++ lines_with after hunks)
 
 abbrev pub all_lines : Diff → List DiffLine
-all_lines diff = lines_with diff.behind diff.hunks
+all_lines diff = lines_with diff.after_hunks diff.hunks
 
 -- of lines those of the source, and those of the applied text
 abbrev pub old_texts : List DiffLine → List (List ℕ)

@@ -89,11 +89,11 @@ abbrev pub is_near : ℕ → Hunk → Bool
 is_near context hunk = nat_le (length hunk.kept) (context + context)
 
 -- what stands in a frame after a hunk
-abbrev pub behind_hunk : ℕ → List (List ℕ) → List Hunk → List DiffLine
-behind_hunk context behind [] = kept_lines (take context behind)
-behind_hunk context behind (hunk ∷ hunks) =
+abbrev pub after_hunk : ℕ → List (List ℕ) → List Hunk → List DiffLine
+after_hunk context after [] = kept_lines (take context after)
+after_hunk context after (hunk ∷ hunks) =
     if is_near context hunk
-    then (kept_lines hunk.kept ++ (changed_lines hunk.changes ++ behind_hunk context behind hunks))
+    then (kept_lines hunk.kept ++ (changed_lines hunk.changes ++ after_hunk context after hunks))
     else kept_lines (take context hunk.kept)
 
 -- how many of the lines before a hunk aren't shown with it
@@ -114,12 +114,12 @@ frame_at context at hunk later = record {
 -- The frames of hunks: as many unchanged lines as are wanted stand before and after the changed ones, and a frame ends
 -- where an unchanged line is left out. It is told whether there is a frame that may go on.
 abbrev pub frames_from : ℕ → List (List ℕ) → Bool → Standing → List Hunk → List DiffFrame
-frames_from context behind goes_on at [] = []
-frames_from context behind goes_on at (hunk ∷ hunks) =
-    if goes_on && is_near context hunk then frames_from context behind true (past_hunk at hunk) hunks
-    else frame_at context at hunk (behind_hunk context behind hunks)
-    ∷ frames_from context behind true (past_hunk at hunk) hunks
+frames_from context after goes_on at [] = []
+frames_from context after goes_on at (hunk ∷ hunks) =
+    if goes_on && is_near context hunk then frames_from context after true (past_hunk at hunk) hunks
+    else frame_at context at hunk (after_hunk context after hunks)
+    ∷ frames_from context after true (past_hunk at hunk) hunks
 
 abbrev pub frames_of : ℕ → Diff → List DiffFrame
-frames_of context diff = frames_from context diff.behind false
+frames_of context diff = frames_from context diff.after_hunks false
     (record { old_line = 0; new_line = 0; old_offset = 0; new_offset = 0 }) diff.hunks

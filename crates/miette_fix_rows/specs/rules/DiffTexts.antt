@@ -79,7 +79,7 @@ part_in start bytes style span = record {
   after = min (start + bytes) (span.offset + span.len);
   style = style;
   parts = [];
-  behind = false;
+  after_text = false;
 }
 
 abbrev pub has_bytes : DrawnLabel → Bool

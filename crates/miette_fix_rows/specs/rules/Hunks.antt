@@ -21,25 +21,25 @@ pub record Parted : Type 0 where
   pub added : List (List ℕ)
   pub ending : List (List ℕ)
 
--- the old and the new lines, of which `behind` at the ends and `before` at the fronts stay
+-- the old and the new lines, of which `after` at the ends and `before` at the fronts stay
 abbrev pub parted_at : List (List ℕ) → List (List ℕ) → ℕ → ℕ → Parted
-parted_at olds news behind before = record {
+parted_at olds news after before = record {
   front = take before olds;
-  removed = drop before (take (length olds - behind) olds);
-  added = drop before (take (length news - behind) news);
-  ending = drop (length olds - behind) olds;
+  removed = drop before (take (length olds - after) olds);
+  added = drop before (take (length news - after) news);
+  ending = drop (length olds - after) olds;
 }
 
 -- how many lines are common at the ends, and then at the fronts
-abbrev pub common_behind : List (List ℕ) → List (List ℕ) → ℕ
-common_behind olds news = common (reverse olds) (reverse news)
+abbrev pub common_after : List (List ℕ) → List (List ℕ) → ℕ
+common_after olds news = common (reverse olds) (reverse news)
 
 abbrev pub common_before : List (List ℕ) → List (List ℕ) → ℕ → ℕ
-common_before olds news behind = common (take (length olds - behind) olds) (take (length news - behind) news)
+common_before olds news after = common (take (length olds - after) olds) (take (length news - after) news)
 
 abbrev pub parted : List (List ℕ) → List (List ℕ) → Parted
 parted olds news =
-    parted_at olds news (common_behind olds news) (common_before olds news (common_behind olds news))
+    parted_at olds news (common_after olds news) (common_before olds news (common_after olds news))
 
 -- What a block changes: the offsets from which and up to which its removed lines stand in the source, where it points
 -- to, and its removed and added lines.
@@ -93,16 +93,16 @@ pub record Hunk : Type 0 where
 -- all lines: hunks, and the unchanged lines after the last of them
 pub record Diff : Type 0 where
   pub hunks : List Hunk
-  pub behind : List (List ℕ)
+  pub after_hunks : List (List ℕ)
 
 -- unchanged lines in front
 abbrev pub onto_kept : List (List ℕ) → List Hunk → List (List ℕ) → Diff
-onto_kept lines [] behind = record { hunks = []; behind = lines ++ behind }
-onto_kept lines (hunk ∷ hunks) behind =
-    record { hunks = record hunk { kept = lines ++ hunk.kept } ∷ hunks; behind = behind }
+onto_kept lines [] after = record { hunks = []; after_hunks = lines ++ after }
+onto_kept lines (hunk ∷ hunks) after =
+    record { hunks = record hunk { kept = lines ++ hunk.kept } ∷ hunks; after_hunks = after }
 
 abbrev pub with_kept : List (List ℕ) → Diff → Diff
-with_kept lines diff = onto_kept lines diff.hunks diff.behind
+with_kept lines diff = onto_kept lines diff.hunks diff.after_hunks
 
 -- a change in front: it joins the first hunk where no unchanged line stands before that
 abbrev pub onto_hunks : Change → List Hunk → List Hunk
@@ -112,11 +112,11 @@ onto_hunks change (hunk ∷ hunks) =
     else record { kept = []; changes = change ∷ [] } ∷ hunk ∷ hunks
 
 abbrev pub with_change : Change → Diff → Diff
-with_change change diff = record { hunks = onto_hunks change diff.hunks; behind = diff.behind }
+with_change change diff = record { hunks = onto_hunks change diff.hunks; after_hunks = diff.after_hunks }
 
 -- all lines from an offset on, where the next changes are these
 abbrev pub diff_from : List ℕ → ℕ → List Change → Diff
-diff_from source at [] = record { hunks = []; behind = line_texts (drop at source) }
+diff_from source at [] = record { hunks = []; after_hunks = line_texts (drop at source) }
 diff_from source at (change ∷ changes) =
     with_kept (line_texts (slice_range source at change.from))
     (with_change change (diff_from source change.to changes))
@@ -134,7 +134,7 @@ added_lines changes = flat_map (λ change. change.added) changes
 
 -- the lines before the edits, and those after them
 abbrev pub lines_before : Diff → List (List ℕ)
-lines_before diff = flat_map (λ hunk. hunk.kept ++ removed_lines hunk.changes) diff.hunks ++ diff.behind
+lines_before diff = flat_map (λ hunk. hunk.kept ++ removed_lines hunk.changes) diff.hunks ++ diff.after_hunks
 
 abbrev pub lines_after : Diff → List (List ℕ)
-lines_after diff = flat_map (λ hunk. hunk.kept ++ added_lines hunk.changes) diff.hunks ++ diff.behind
+lines_after diff = flat_map (λ hunk. hunk.kept ++ added_lines hunk.changes) diff.hunks ++ diff.after_hunks

@@ -2,18 +2,18 @@
 use Rattle.std.specs.Prelude.{ℕ, ◌-◌, ◌≤◌, ◌≡◌, List, length, take, slice_range}
 use Rattle.miette_fix_rows.specs.declared.changes.Sizes.{Sizes}
 use Rattle.miette_fix_rows.specs.rules.Blocks.{bytes_of, line_texts}
-use Rattle.miette_fix_rows.specs.rules.Hunks.{common_before, common_behind, parted}
+use Rattle.miette_fix_rows.specs.rules.Hunks.{common_after, common_before, parted}
 
 -- how many lines of two lists stay at their fronts
 abbrev pub staying : List (List ℕ) → List (List ℕ) → ℕ
-staying olds news = common_before olds news (common_behind olds news)
+staying olds news = common_before olds news (common_after olds news)
 
 -- how many lines of the one and of the other stand before those that stay at the ends
 abbrev pub old_until : List (List ℕ) → List (List ℕ) → ℕ
-old_until olds news = length olds - common_behind olds news
+old_until olds news = length olds - common_after olds news
 
 abbrev pub new_until : List (List ℕ) → List (List ℕ) → ℕ
-new_until olds news = length news - common_behind olds news
+new_until olds news = length news - common_after olds news
 
 pub record AreSizes (olds news : List (List ℕ)) (sizes : Sizes) : Type 0 where
   pub removed_from : sizes.removed_from ≡ bytes_of (take (staying olds news) olds)

@@ -3,19 +3,19 @@ use Rattle.std.specs.Prelude.{ℕ, List, [], ◌∷◌, ◌++◌, drop, slice_ra
 use Rattle.std.specs.List.{list_any}
 use Rattle.miette_fixes.specs.declared.error.FixError.{FixError}
 use Rattle.miette_fixes.specs.declared.error.FixError.TheVariants.{OutOfBounds, Overlap}
-use Rattle.miette_fixes.specs.rules.Edits.{Replacement, end_of, ends_behind, is_behind, some_overlap}
+use Rattle.miette_fixes.specs.rules.Edits.{Replacement, end_of, ends_after, is_after, some_overlap}
 
 -- why edits can't be applied to a source of `n` bytes, where they can't
 abbrev pub refusal : ℕ → List Replacement → Option FixError
 refusal n edits =
-    if list_any (ends_behind n) edits then Some OutOfBounds
+    if list_any (ends_after n) edits then Some OutOfBounds
     else if some_overlap edits then Some Overlap
     else None
 
 -- an edit comes before the first one that it isn't after
 abbrev pub put_edit : Replacement → List Replacement → List Replacement
 put_edit edit [] = edit ∷ []
-put_edit edit (next ∷ edits) = if is_behind edit next then next ∷ put_edit edit edits else edit ∷ next ∷ edits
+put_edit edit (next ∷ edits) = if is_after edit next then next ∷ put_edit edit edits else edit ∷ next ∷ edits
 
 -- edits by offset, then by length, ties as given
 abbrev pub by_offset : List Replacement → List Replacement

@@ -28,19 +28,19 @@ abbrev pub end_of : Replacement → ℕ
 end_of edit = edit.span.offset + edit.span.len
 
 -- whether an edit ends after the end of a source of `n` bytes
-abbrev pub ends_behind : ℕ → Replacement → Bool
-ends_behind n edit = nat_lt n (end_of edit)
+abbrev pub ends_after : ℕ → Replacement → Bool
+ends_after n edit = nat_lt n (end_of edit)
 
 -- whether an edit comes after another one: by offset, then by length
-abbrev pub is_behind : Replacement → Replacement → Bool
-is_behind edit other =
+abbrev pub is_after : Replacement → Replacement → Bool
+is_after edit other =
     nat_lt other.span.offset edit.span.offset
     || ((other.span.offset == edit.span.offset) && nat_lt other.span.len edit.span.len)
 
 -- Two edits, in the order given, overlap where the one that comes first ends after the other's offset.
 abbrev pub overlap : Replacement → Replacement → Bool
 overlap edit next =
-    if is_behind edit next then nat_lt edit.span.offset (end_of next) else nat_lt next.span.offset (end_of edit)
+    if is_after edit next then nat_lt edit.span.offset (end_of next) else nat_lt next.span.offset (end_of edit)
 
 -- whether two of these edits overlap
 abbrev pub some_overlap : List Replacement → Bool

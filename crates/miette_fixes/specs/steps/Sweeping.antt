@@ -1,11 +1,11 @@
 -- Edits as the code goes through them, one after another.
 use Rattle.std.specs.Prelude.{ℕ, List, [], ◌∷◌, Bool, true, false, ◌&&◌, ◌||◌, not, nat_lt}
-use Rattle.miette_fixes.specs.rules.Edits.{Replacement, end_of, is_behind}
+use Rattle.miette_fixes.specs.rules.Edits.{Replacement, end_of, is_after}
 
 -- no edit comes after the next one
 abbrev pub ascends_after : Replacement → List Replacement → Bool
 ascends_after before [] = true
-ascends_after before (edit ∷ edits) = not (is_behind before edit) && ascends_after edit edits
+ascends_after before (edit ∷ edits) = not (is_after before edit) && ascends_after edit edits
 
 abbrev pub ascends : List Replacement → Bool
 ascends [] = true

@@ -19,12 +19,12 @@ pub record AreBounds (labels : List MadeSpread) (ends begins : List ℕ) : Type 
 
 -- the contexts of the labels before one end before the bytes from one offset up to another, and those of the labels
 -- from another one on begin after them
-pub record IsWindow (start end : ℕ) (labels : List MadeSpread) (first behind : ℕ) : Type 0 where
-  pub order : first ≤ behind
-  pub within : behind ≤ length labels
+pub record IsWindow (start end : ℕ) (labels : List MadeSpread) (first after : ℕ) : Type 0 where
+  pub order : first ≤ after
+  pub within : after ≤ length labels
   pub until : (k : ℕ) (d : MadeSpread) → k < first → (slice_index_or labels k d).until ≤ start
   pub begun : (k : ℕ) (d : MadeSpread) → k < first → (slice_index_or labels k d).from < end
-  pub from : (k : ℕ) (d : MadeSpread) → behind ≤ k → k < length labels → end ≤ (slice_index_or labels k d).from
+  pub from : (k : ℕ) (d : MadeSpread) → after ≤ k → k < length labels → end ≤ (slice_index_or labels k d).from
 
 -- of the lines from one offset up to another some labels say what all do
 abbrev pub AreAround : ℕ → ℕ → List MadeSpread → List MadeSpread → Type 0

@@ -17,7 +17,7 @@ pub record DrawnLabel : Type 0 where
   pub after : ℕ
   pub style : Style
   pub parts : List (List ℕ)
-  pub behind : Bool
+  pub after_text : Bool
 
 -- the characters of a text, cut at each LF
 abbrev pub cut_at_lf : List ℕ → List (List ℕ)
@@ -54,7 +54,7 @@ drawn_label ends styles n i label = record {
   after = if ends && is_at_end n label then n - 1 else max label.span.offset (min (end_of_span label.span) n);
   style = style_at styles i;
   parts = parts_of label.text;
-  behind = ends && is_at_end n label;
+  after_text = ends && is_at_end n label;
 }
 
 abbrev pub drawn_from : Bool → List Style → ℕ → ℕ → List Label → List DrawnLabel

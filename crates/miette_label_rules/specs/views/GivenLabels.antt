@@ -17,7 +17,7 @@ drawn_of p = record {
   after = p.after;
   style = p.style;
   parts = parts_of (option_copied p.text);
-  behind = p.behind;
+  after_text = p.after_text;
 }
 
 -- the i-th label
@@ -26,4 +26,4 @@ label_at labels i = unwrap_or (slice_get labels i)
     (record { text = None; span = record { offset = 0; len = 0 }; primary = false; context = None })
 
 abbrev pub nothing : PlacedLabel
-nothing = record { start = 0; after = 0; style = plain; text = None; behind = false }
+nothing = record { start = 0; after = 0; style = plain; text = None; after_text = false }

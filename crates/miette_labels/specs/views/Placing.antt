@@ -35,7 +35,7 @@ pub record Placed : Type 0 where
   pub after : ℕ
   pub style : Style
   pub text : Option (List ℕ)
-  pub behind : Bool
+  pub after_text : Bool
 
 abbrev pub placed_of : PlacedLabel → Placed
 placed_of p = record {
@@ -43,7 +43,7 @@ placed_of p = record {
   after = p.after;
   style = p.style;
   text = option_copied p.text;
-  behind = p.behind;
+  after_text = p.after_text;
 }
 
 -- as it is drawn
@@ -53,7 +53,7 @@ drawn_placed p = record {
   after = p.after;
   style = p.style;
   parts = parts_of p.text;
-  behind = p.behind;
+  after_text = p.after_text;
 }
 
 -- a label at the known end stands after the text of the last line, at the byte before
@@ -63,7 +63,7 @@ placed_one end styles i labels read = record {
   after = if begins_at_end end read.span.offset then read.span.offset - 1 else end_drawn read;
   style = style_at styles i;
   text = text_at labels read.index;
-  behind = begins_at_end end read.span.offset;
+  after_text = begins_at_end end read.span.offset;
 }
 
 abbrev pub placed_from : Option ℕ → List Style → ℕ → List Label → List ReadLabel → List Placed

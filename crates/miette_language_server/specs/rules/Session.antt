@@ -119,18 +119,18 @@ noticed s d Exit = still s (ended 1)
 noticed s d Ignored = still s nothing
 
 -- after `shutdown`, and before `initialize`, `exit` alone is heard
-abbrev pub alone : ℕ → Notice → Effect
-alone status Opened = nothing
-alone status Changed = nothing
-alone status Saved = nothing
-alone status Closed = nothing
-alone status Exit = ended status
-alone status Ignored = nothing
+abbrev pub exit_alone : ℕ → Notice → Effect
+exit_alone status Opened = nothing
+exit_alone status Changed = nothing
+exit_alone status Saved = nothing
+exit_alone status Closed = nothing
+exit_alone status Exit = ended status
+exit_alone status Ignored = nothing
 
 abbrev pub noticed_in : Phase → State → Data → Notice → Reaction
-noticed_in Waiting s d notice = still s (alone 1 notice)
+noticed_in Waiting s d notice = still s (exit_alone 1 notice)
 noticed_in Running s d notice = noticed s d notice
-noticed_in Stopping s d notice = still s (alone 0 notice)
+noticed_in Stopping s d notice = still s (exit_alone 0 notice)
 
 -- ---- messages
 

@@ -57,8 +57,8 @@ attaches s = not s.is_spaced && takes_marks s.base.class
 abbrev pub ends_hebrew : State → Bool
 ends_hebrew s = not s.is_spaced && is_hebrew s.base.class
 
-abbrev pub base_behind : State → Character → Bool → State
-base_behind s b joined = record {
+abbrev pub base_after : State → Character → Bool → State
+base_after s b joined = record {
   base = if is_space b.class then s.base else b;
   is_spaced = is_space b.class;
   is_joined = joined;
@@ -66,8 +66,8 @@ base_behind s b joined = record {
   has_half_flag = is_regional b.class && not s.has_half_flag;
 }
 
-abbrev pub joined_behind : State → Bool → State
-joined_behind s joined = record {
+abbrev pub joined_after : State → Bool → State
+joined_after s joined = record {
   base = s.base;
   is_spaced = s.is_spaced;
   is_joined = joined;
@@ -76,10 +76,10 @@ joined_behind s joined = record {
 }
 
 -- after one more character
-abbrev pub state_behind : State → Character → State
-state_behind s x =
-    if is_mark x.class && attaches s then joined_behind s (is_joiner x.class)
-    else base_behind s (base_of x) (is_joiner x.class)
+abbrev pub state_after : State → Character → State
+state_after s x =
+    if is_mark x.class && attaches s then joined_after s (is_joiner x.class)
+    else base_after s (base_of x) (is_joiner x.class)
 
 abbrev pub keeps_direct : State → Character → Bool
 keeps_direct s r =
@@ -147,8 +147,8 @@ spaced b s = record {
 
 -- ---- the opportunities that are still to come
 
-abbrev pub breaks_behind : State → ℕ → List ℕ → List (ℕ × BreakOpportunity)
-breaks_behind s at [] = if is_start s then [] else (at, Mandatory) ∷ []
-breaks_behind s at (c ∷ cs) =
+abbrev pub breaks_after : State → ℕ → List ℕ → List (ℕ × BreakOpportunity)
+breaks_after s at [] = if is_start s then [] else (at, Mandatory) ∷ []
+breaks_after s at (c ∷ cs) =
     listed at (break_in s (character_of c))
-    (breaks_behind (state_behind s (character_of c)) (at + length (encode_utf8 c)) cs)
+    (breaks_after (state_after s (character_of c)) (at + length (encode_utf8 c)) cs)

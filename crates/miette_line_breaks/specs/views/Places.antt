@@ -14,8 +14,8 @@ abbrev pub found_before : State → ℕ → Option BreakOpportunity
 found_before s c = steps.break_in s (character_of c)
 
 -- after this character
-abbrev pub behind : State → ℕ → State
-behind s c = steps.state_behind s (character_of c)
+abbrev pub after_code : State → ℕ → State
+after_code s c = steps.state_after s (character_of c)
 
 -- letters of ASCII go on with what stands there
 abbrev pub is_in_word : State → Bool

@@ -7,7 +7,7 @@ use Rattle.miette_line_breaks.specs.declared.printable.Step.TheVariants.{Broken,
 use Rattle.miette_line_breaks.specs.declared.state.State.{State}
 use Rattle.miette_line_breaks.specs.steps.Printable.{row_state}
 use Rattle.miette_line_breaks.specs.steps.States.{ends_hebrew, is_empty}
-use Rattle.miette_line_breaks.specs.views.Places.{behind, found_before}
+use Rattle.miette_line_breaks.specs.views.Places.{after_code, found_before}
 
 abbrev pub is_printable : ℕ → Bool
 is_printable c = nat_le 32 c && nat_le c 126
@@ -23,7 +23,7 @@ begins s c = is_printable c && (if c == 32 then is_empty s else not (ends_hebrew
 -- what a character is, where such stand before it
 abbrev pub IsStep : Step → State → ℕ → Type 0
 IsStep (Within it) s c = (is_printable c ≡ true) × ((c == 45) ≡ false) × (found_before s c ≡ None)
-    × (behind s c ≡ state_in it)
-IsStep (Hyphen it) s c = (c ≡ 45) × (found_before s c ≡ None) × (behind s c ≡ state_in it)
-IsStep (Broken it) s c = (is_printable c ≡ true) × (is_some (found_before s c) ≡ true) × (behind s c ≡ state_in it)
+    × (after_code s c ≡ state_in it)
+IsStep (Hyphen it) s c = (c ≡ 45) × (found_before s c ≡ None) × (after_code s c ≡ state_in it)
+IsStep (Broken it) s c = (is_printable c ≡ true) × (is_some (found_before s c) ≡ true) × (after_code s c ≡ state_in it)
 IsStep Other s c = is_printable c ≡ false

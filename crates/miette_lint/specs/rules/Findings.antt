@@ -14,12 +14,12 @@ abbrev pub is_blank : ℕ → Bool
 is_blank b = (b == 32) || (b == 9)
 
 -- the first tab from a space on
-abbrev pub tab_behind : List ℕ → ℕ → Option ℕ
-tab_behind blanks space = option_map (λ tab. space + tab) (position (λ b. b == 9) (drop space blanks))
+abbrev pub tab_from : List ℕ → ℕ → Option ℕ
+tab_from blanks space = option_map (λ tab. space + tab) (position (λ b. b == 9) (drop space blanks))
 
 -- the first tab after a space
 abbrev pub tab_after_space : List ℕ → Option ℕ
-tab_after_space blanks = option_and_then (tab_behind blanks) (position (λ b. b == 32) blanks)
+tab_after_space blanks = option_and_then (tab_from blanks) (position (λ b. b == 32) blanks)
 
 -- a label of the bytes from one offset up to another
 abbrev pub finding : List ℕ → ℕ → ℕ → Label

@@ -16,7 +16,7 @@ IsService width read old new status =
 abbrev pub BeginsService : ℕ → Option (List ℕ) → Option (List ℕ) → Option (List ℕ) → Type 0
 BeginsService width read old new = IfSome read (λ bytes. TakesBeginning old new (served width bytes).output)
 
--- a server's fault is of the reader or the writer exactly where that failed; it is want of memory where neither did
+-- a server's fault is of the reader or the writer exactly where that failed; where neither did, it is refused memory
 pub record IsServerFault (read_failed write_failed : Bool) (fault : Fault) : Type 0 where
   pub read : IsTrue read_failed ↔ (fault ≡ Read)
   pub write : IsTrue write_failed ↔ (fault ≡ Write)

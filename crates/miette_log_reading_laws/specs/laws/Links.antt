@@ -10,11 +10,11 @@ link_piece in_link b text =
     else if b == 93 then closing_piece in_link text else plain in_link b
 
 -- what is shown of a text, but for `n` bytes at its beginning
-abbrev pub unlinked_behind : Bool → ℕ → List ℕ → List ℕ
-unlinked_behind in_link n [] = []
-unlinked_behind in_link zero (b ∷ bs) =
-    let piece = link_piece in_link b bs in piece.shown ++ unlinked_behind piece.in_link piece.further bs
-unlinked_behind in_link (suc n) (b ∷ bs) = unlinked_behind in_link n bs
+abbrev pub unlinked_after : Bool → ℕ → List ℕ → List ℕ
+unlinked_after in_link n [] = []
+unlinked_after in_link zero (b ∷ bs) =
+    let piece = link_piece in_link b bs in piece.shown ++ unlinked_after piece.in_link piece.further bs
+unlinked_after in_link (suc n) (b ∷ bs) = unlinked_after in_link n bs
 
 abbrev pub without_links : List ℕ → List ℕ
-without_links text = unlinked_behind false 0 text
+without_links text = unlinked_after false 0 text

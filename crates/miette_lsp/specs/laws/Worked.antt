@@ -17,8 +17,8 @@ bad_file_list =
     ++ codes "\"message\": \"oops!\\nThis bit here\\nhelp: try doing it better next time?\"}]}]"
 
 -- `f = 😀: x`, in which `x` is the character 8 in units of UTF-16, and the byte 10
-abbrev pub behind_emoji : List ℕ
-behind_emoji = codes "f = " ++ (0xF0 ∷ 0x9F ∷ 0x98 ∷ 0x80 ∷ codes ": x")
+abbrev pub after_emoji : List ℕ
+after_emoji = codes "f = " ++ (0xF0 ∷ 0x9F ∷ 0x98 ∷ 0x80 ∷ codes ": x")
 
 -- a related report, whose label is refused
 abbrev pub gone : Tree
@@ -56,7 +56,7 @@ integer =
         labels = label (span 3 7) (codes "defined here") ∷ [];
       } ∷ [];
       fixes = a_number ∷ [];
-    }) (Some (named (codes "my dir/a.rs") behind_emoji)) (texts []) (trees (gone ∷ []))
+    }) (Some (named (codes "my dir/a.rs") after_emoji)) (texts []) (trees (gone ∷ []))
 
 abbrev pub integer_list : List ℕ
 integer_list =

@@ -19,15 +19,15 @@ abbrev pub row_start : List ℕ → ℕ → ℕ
 row_start bytes at = at - length (last_row (take at bytes))
 
 -- what stands after the end of a row, LF or CR LF; the last row needs none
-abbrev pub behind_end : List ℕ → Option (List ℕ)
-behind_end rest =
+abbrev pub after_end : List ℕ → Option (List ℕ)
+after_end rest =
     if length rest == 0 then Some rest
     else if starts_with nat_eq rest (10 ∷ []) then Some (drop 1 rest)
     else if starts_with nat_eq rest (13 ∷ (10 ∷ [])) then Some (drop 2 rest) else None
 
 -- what stands after a row and its end, where bytes begin with them
-abbrev pub behind_row : List ℕ → List ℕ → Option (List ℕ)
-behind_row row bytes = if starts_with nat_eq bytes row then behind_end (drop (length row) bytes) else None
+abbrev pub after_row : List ℕ → List ℕ → Option (List ℕ)
+after_row row bytes = if starts_with nat_eq bytes row then after_end (drop (length row) bytes) else None
 
 -- a row that rustc read
 abbrev pub row_text : Data → List ℕ
@@ -36,21 +36,21 @@ row_text d = unwrap_or (text_at (codes "text") d) []
 -- bytes begin with these rows
 abbrev pub begin_with : List Data → List ℕ → Bool
 begin_with [] bytes = true
-begin_with (d ∷ ds) bytes = unwrap_or (option_map (begin_with ds) (behind_row (row_text d) bytes)) false
+begin_with (d ∷ ds) bytes = unwrap_or (option_map (begin_with ds) (after_row (row_text d) bytes)) false
 
 -- a byte that begins a character of UTF-8
 abbrev pub is_first : ℕ → Bool
 is_first b = nat_lt b 128 || nat_le 192 b
 
 -- the column, from 1, after these bytes of a row
-abbrev pub column_behind : List ℕ → ℕ
-column_behind bytes = count_by is_first bytes + 1
+abbrev pub column_after : List ℕ → ℕ
+column_after bytes = count_by is_first bytes + 1
 
 -- An offset of these bytes is at this column of its row, and from there on stand these rows.
 abbrev pub stand_in : List ℕ → ℕ → ℕ → List Data → Bool
 stand_in bytes at column rows =
     if nat_le at (length bytes)
-    then (column_behind (slice_range bytes (row_start bytes at) at) == column)
+    then (column_after (slice_range bytes (row_start bytes at) at) == column)
     && begin_with rows (drop (row_start bytes at) bytes)
     else false
 

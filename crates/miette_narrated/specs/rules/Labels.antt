@@ -56,9 +56,9 @@ last_number it start after = if start == after then first_number it start
     else column (after - it.line.start) it.characters
 
 -- `: end`
-abbrev pub text_behind : Option (List ℕ) → List ℕ
-text_behind None = []
-text_behind (Some text) = codes ": " ++ text
+abbrev pub text_after : Option (List ℕ) → List ℕ
+text_after None = []
+text_after (Some text) = codes ": " ++ text
 
 -- `, column 3`, or `, columns 2 to 3`
 abbrev pub columns_text : ℕ → ℕ → List ℕ
@@ -69,11 +69,11 @@ columns_text a b = if a == b then codes ", column " ++ decimal a
 abbrev pub whole_row : SnippetLine → LabelRange → List ℕ
 whole_row it d = row (codes "    label at line "
     ++ (decimal it.number ++ (columns_text (first_number it d.start) (last_number it d.start d.after)
-    ++ text_behind d.text)))
+    ++ text_after d.text)))
 
 abbrev pub column_row : List ℕ → SnippetLine → ℕ → LabelRange → List ℕ
 column_row words it column d = row (words
-    ++ (decimal it.number ++ (codes ", column " ++ (decimal column ++ text_behind d.text))))
+    ++ (decimal it.number ++ (codes ", column " ++ (decimal column ++ text_after d.text))))
 
 abbrev pub start_row : SnippetLine → LabelRange → List ℕ
 start_row it d = column_row (codes "    label starting at line ") it (first_number it d.start) d

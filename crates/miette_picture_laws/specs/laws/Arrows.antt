@@ -13,12 +13,12 @@ use Rattle.miette_picture_rules.specs.rules.Settings.{Settings}
 use Rattle.miette_printed_laws.specs.laws.Holding.{Arrow, StandsIn, cut_text}
 
 -- the columns that an indent leaves under an arrow
-abbrev pub room_behind : Settings → List Fragment → ℕ
-room_behind s indent = s.width - 2 - columns_of (tokens (print indent))
+abbrev pub room_after : Settings → List Fragment → ℕ
+room_after s indent = s.width - 2 - columns_of (tokens (print indent))
 
 -- these rows have room under an arrow, after the bar that goes down from it
 abbrev pub FitUnder : Settings → Option Severity → Bool → List (List ℕ) → Type 0
-FitUnder s outer is_last rows = AllByRecursion (FitsRow (room_behind s (stem_indent s outer is_last))) rows
+FitUnder s outer is_last rows = AllByRecursion (FitsRow (room_after s (stem_indent s outer is_last))) rows
 
 -- rows after that bar
 abbrev pub rows_under : Settings → Option Severity → Bool → List (List ℕ) → List ℕ
@@ -33,7 +33,7 @@ RowsStand s outer is_last text = (front back : List ℕ) (rows : List (List ℕ)
 -- The first row stands after the arrow, where it has room there.
 abbrev pub FirstStands : Settings → Option Severity → Bool → List ℕ → Type 0
 FirstStands s outer is_last text = (row back : List ℕ) → text ++ line_feed ≡ row ++ line_feed ++ back →
-    FitsRow (room_behind s (arrow_indent s outer is_last)) row →
+    FitsRow (room_after s (arrow_indent s outer is_last)) row →
     (below : List ℕ) × (under_arrow s outer is_last text ≡ print (arrow_indent s outer is_last) ++ bare_row row
     ++ line_feed ++ below)
 

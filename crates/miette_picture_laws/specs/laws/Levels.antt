@@ -22,12 +22,12 @@ use Rattle.miette_printed_laws.specs.laws.Paths.{Step, printed_at}
 -- ---- what stands on a level
 
 -- the settings under an arrow, and under all of some, the outer ones first
-abbrev pub settings_behind : Settings → Arrow → Settings
-settings_behind s arrow = narrow_settings s arrow.outer arrow.is_last
+abbrev pub settings_after : Settings → Arrow → Settings
+settings_after s arrow = narrow_settings s arrow.outer arrow.is_last
 
 abbrev pub settings_under : Settings → List Arrow → Settings
 settings_under s [] = s
-settings_under s (arrow ∷ arrows) = settings_under (settings_behind s arrow) arrows
+settings_under s (arrow ∷ arrows) = settings_under (settings_after s arrow) arrows
 
 -- the bar that goes down from an arrow, and those of all of some, one after the other
 abbrev pub bar : Settings → Arrow → List ℕ
@@ -35,7 +35,7 @@ bar s arrow = print (stem_indent s arrow.outer arrow.is_last)
 
 abbrev pub bars : Settings → List Arrow → List ℕ
 bars s [] = []
-bars s (arrow ∷ arrows) = bar s arrow ++ bars (settings_behind s arrow) arrows
+bars s (arrow ∷ arrows) = bar s arrow ++ bars (settings_after s arrow) arrows
 
 -- rows after a bar, without their last spaces
 abbrev pub barred : List ℕ → List (List ℕ) → List (List ℕ)
@@ -44,14 +44,14 @@ barred indent rows = map (λ row. indent ++ bare_row row) rows
 -- the same after all these bars: those of the innermost arrow come first, the others are put in front level by level
 abbrev pub barred_rows : Settings → List Arrow → List (List ℕ) → List (List ℕ)
 barred_rows s [] rows = rows
-barred_rows s (arrow ∷ arrows) rows = barred (bar s arrow) (barred_rows (settings_behind s arrow) arrows rows)
+barred_rows s (arrow ∷ arrows) rows = barred (bar s arrow) (barred_rows (settings_after s arrow) arrows rows)
 
 -- On each level the rows have room under the level's arrow, after the bars of those further in.
 abbrev pub FitLevels : Settings → List Arrow → List (List ℕ) → Type 0
 FitLevels s [] rows = Unit {0}
 FitLevels s (arrow ∷ arrows) rows =
-    FitLevels (settings_behind s arrow) arrows rows
-    × FitUnder s arrow.outer arrow.is_last (barred_rows (settings_behind s arrow) arrows rows)
+    FitLevels (settings_after s arrow) arrows rows
+    × FitUnder s arrow.outer arrow.is_last (barred_rows (settings_after s arrow) arrows rows)
 
 -- ---- in a text
 
@@ -96,8 +96,8 @@ abbrev pub IsShownRow : List ℕ → Type 0
 IsShownRow row = IsTame row × (only_spaces (tokens row) ≡ false)
 
 -- Such rows stand after all bars at once, where there are some.
-abbrev pub StandBehindBars : Settings → List Arrow → List (List ℕ) → Type 0
-StandBehindBars s arrows rows = AllByRecursion IsShownRow rows →
+abbrev pub StandAfterBars : Settings → List Arrow → List (List ℕ) → Type 0
+StandAfterBars s arrows rows = AllByRecursion IsShownRow rows →
     (arrow : Arrow) → fed_rows (barred_rows s (arrow ∷ arrows) rows) ≡ indented_rows (bars s (arrow ∷ arrows)) rows
 
 -- ---- in the bytes of a report

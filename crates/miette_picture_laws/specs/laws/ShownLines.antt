@@ -31,8 +31,8 @@ pub record PlaceIn (shown : List (List ℕ)) : Type 0 where
   pub front : List ℕ
   pub line : ℕ
   pub back : List ℕ
-  pub behind : List (List ℕ)
-  pub there : shown ≡ before ++ (front ++ line ∷ back) ∷ behind
+  pub after : List (List ℕ)
+  pub there : shown ≡ before ++ (front ++ line ∷ back) ∷ after
 
 -- its own range
 abbrev pub range_at : {shown : List (List ℕ)} → PlaceIn shown → List ℕ

@@ -29,9 +29,9 @@ linked_code style None = []
 linked_code style (Some code) = Styled style (chars code ++ 32 ∷ []) ∷ []
 
 -- the url after the code
-abbrev pub url_behind : Settings → Option (List ℕ) → List Fragment
-url_behind s None = []
-url_behind s (Some url) = bare_text (codes " (") ∷ Styled s.theme.styles.link (chars url) ∷ bare_text (codes ")") ∷ []
+abbrev pub url_after : Settings → Option (List ℕ) → List Fragment
+url_after s None = []
+url_after s (Some url) = bare_text (codes " (") ∷ Styled s.theme.styles.link (chars url) ∷ bare_text (codes ")") ∷ []
 
 abbrev pub link_header : Settings → Style → List ℕ → Option (List ℕ) → List Fragment
 link_header s style url code = LinkTo (chars url) ∷ linked_code style code ++ Styled s.theme.styles.link s.link_text
@@ -39,13 +39,13 @@ link_header s style url code = LinkTo (chars url) ∷ linked_code style code ++ 
     ∷ blank_row
 
 abbrev pub code_header : Style → Option (List ℕ) → List Fragment → List Fragment
-code_header style None behind = []
-code_header style (Some code) behind = Styled style (chars code) ∷ behind ++ blank_row
+code_header style None after = []
+code_header style (Some code) after = Styled style (chars code) ∷ after ++ blank_row
 
 abbrev pub header_by : UrlMode → Settings → Style → Option (List ℕ) → Option (List ℕ) → List Fragment
 header_by Links s style (Some url) code = link_header s style url code
 header_by Links s style None code = code_header style code []
-header_by Text s style url code = code_header style code (url_behind s url)
+header_by Text s style url code = code_header style code (url_after s url)
 header_by Hidden s style url code = code_header style code []
 
 -- A link to the url with the code and the link's text; or the code alone, with the url after it in text mode; or

@@ -17,8 +17,8 @@ abbrev pub spaces : ℕ → List ℕ
 spaces n = replicate n 32
 
 -- a text wrapped after what a first and a further indent print, at the set width less 2
-abbrev pub wrapped_behind : Settings → List ℕ → List ℕ → List ℕ → List ℕ
-wrapped_behind s first further text =
+abbrev pub wrapped_after : Settings → List ℕ → List ℕ → List ℕ → List ℕ
+wrapped_after s first further text =
     wrapped_text (record {
       room = s.width - 2;
       first = first;
@@ -30,7 +30,7 @@ wrapped_behind s first further text =
     }) text
 
 abbrev pub wrapped_under : Settings → List Fragment → List Fragment → List ℕ → List ℕ
-wrapped_under s first further text = wrapped_behind s (print first) (print further) text
+wrapped_under s first further text = wrapped_after s (print first) (print further) text
 
 -- in front of a message: its icon, and a bar
 abbrev pub icon_indent : Settings → Option Severity → List Fragment

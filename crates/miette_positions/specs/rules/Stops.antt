@@ -27,28 +27,28 @@ abbrev pub is_pair : Character → List Character → Bool
 is_pair c cs = (c.code == CR) && begins_with_lf cs
 
 -- the position after a character: on the next line after a terminator, else the character's code units on
-abbrev pub position_behind : PositionEncoding → Position → Character → Position
-position_behind e p c =
+abbrev pub position_after : PositionEncoding → Position → Character → Position
+position_after e p c =
     if is_newline c then record { line = p.line + 1; column = 0 }
     else record { line = p.line; column = p.column + units e c }
 
-abbrev pub stop_behind : PositionEncoding → Stop → Character → Stop
-stop_behind e s c = record { offset = s.offset + c.bytes; position = position_behind e s.position c }
+abbrev pub stop_past : PositionEncoding → Stop → Character → Stop
+stop_past e s c = record { offset = s.offset + c.bytes; position = position_after e s.position c }
 
 -- with the same position, `n` bytes on
 abbrev pub moved_by : ℕ → Stop → Stop
 moved_by n s = record { offset = s.offset + n; position = s.position }
 
 -- the stops after one: after each character, but none between CR and LF
-abbrev pub stops_behind : PositionEncoding → Stop → List Character → List Stop
-stops_behind e s [] = []
-stops_behind e s (c ∷ cs) =
-    if is_pair c cs then stops_behind e (moved_by c.bytes s) cs
-    else stop_behind e s c ∷ stops_behind e (stop_behind e s c) cs
+abbrev pub stops_after : PositionEncoding → Stop → List Character → List Stop
+stops_after e s [] = []
+stops_after e s (c ∷ cs) =
+    if is_pair c cs then stops_after e (moved_by c.bytes s) cs
+    else stop_past e s c ∷ stops_after e (stop_past e s c) cs
 
 -- those of a source after one of its stops
 abbrev pub stops_from : PositionEncoding → List ℕ → Stop → List Stop
-stops_from e source s = stops_behind e s (characters (drop s.offset source))
+stops_from e source s = stops_after e s (characters (drop s.offset source))
 
 -- the first stop: line 0, column 0
 abbrev pub start : Stop

@@ -26,7 +26,7 @@ use Rattle.miette_row_laws.specs.laws.Cuts.{pieces_shown}
 use Rattle.miette_snippet_rules.specs.rules.Marks.{Mark, marks_at, AreApart}
 use Rattle.miette_snippet_rules.specs.rules.PrintedCells.{cells_width}
 use Rattle.miette_snippet_rules.specs.rules.Numbers.{ranges, IsRange, AreParted}
-use Rattle.miette_row_laws.specs.laws.Ends.{AreBehindShown, EndsStandBehind, asks_ends, draws_ends, with_ends}
+use Rattle.miette_row_laws.specs.laws.Ends.{AreAfterShown, EndsStandAfter, asks_ends, draws_ends, with_ends}
 use Rattle.miette_range_laws.specs.laws.Folding.{EndsPass, FitsIn, IsInside}
 use Rattle.miette_row_laws.specs.laws.Pictures.{BodyShows, marks_of_line, text_of_line}
 use Rattle.miette_snippet_rules.specs.rules.ShownLines.{framed_ranges, line_at}
@@ -272,10 +272,10 @@ TextsHang s p =
 
 -- Just these labels stand after the text of the last line, and in the row of each line, in whatever pieces, the marks
 -- of such labels begin in the column after what is shown of its text, or where the mark before them ends.
-pub record EndsBehind (s : Settings) (source : Source) (labels : List Label) : Type 0 where
-  pub lines : EndsStandBehind (group_settings s source labels) source.bytes (in_order labels)
+pub record EndsAfter (s : Settings) (source : Source) (labels : List Label) : Type 0 where
+  pub lines : EndsStandAfter (group_settings s source labels) source.bytes (in_order labels)
   pub marks : (k : ℕ) (pieces : List Highlight) →
-      AreBehindShown (snippet_settings s) (drawn_labels s source labels) (line_of source k) (cells_under s source k)
+      AreAfterShown (snippet_settings s) (drawn_labels s source labels) (line_of source k) (cells_under s source k)
       pieces
 
 -- the same settings, with which labels at the end aren't drawn
@@ -289,7 +289,7 @@ EndIsShown s source labels =
     source.always_reads ≡ true → AreAccepted source.bytes labels →
     asks_ends (snippet_settings s) (length source.bytes) labels ≡ true →
     (is_shown (context_of s source labels) source.bytes labels (length (lines_of source.bytes) - 1) ≡ true)
-    × EndsBehind s source labels
+    × EndsAfter s source labels
 
 -- They are drawn so where one of them has a line of context; and where none of them asks for one, or none is there, the
 -- rows are those without the setting.
@@ -297,7 +297,7 @@ abbrev pub EndsAreDrawn : Settings → LabelledSource → Type 0
 EndsAreDrawn s p =
     IfSome p.source (λ source.
     (draws_ends (group_settings s source p.labels) (length source.bytes)
-    (in_order p.labels) ≡ true → EndsBehind s source p.labels)
+    (in_order p.labels) ≡ true → EndsAfter s source p.labels)
     × EndIsShown s source p.labels
     × (some_shows_end 1 (length source.bytes) p.labels ≡ false →
     (pieces : List (List (List Highlight))) →

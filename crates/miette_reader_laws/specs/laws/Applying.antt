@@ -2,7 +2,7 @@
 use Rattle.std.specs.Prelude.{◌≡◌, ℕ, List, Option, Some, None, false, length, ⊤}
 use Rattle.std.specs.List.{AllByRecursion}
 use Rattle.miette_fixes.specs.rules.Applying.{refusal}
-use Rattle.miette_fixes.specs.rules.Edits.{Proposal, ends_behind}
+use Rattle.miette_fixes.specs.rules.Edits.{Proposal, ends_after}
 use Rattle.miette_protocol.specs.rules.Reading.{Source}
 use Rattle.miette_readers.specs.rules.Proposing.{FileEdit, Offer}
 use Rattle.miette_reader_laws.specs.laws.Proposed.{IsOfFile}
@@ -15,7 +15,7 @@ AllOf holds (more_trees t ts) = holds t × AllOf holds ts
 
 -- an edit of a file that is found, within it
 abbrev pub IsFound : (List ℕ → Option Source) → FileEdit → Type 0
-IsFound files e = IsOfFile files e × (ends_behind (length e.source.bytes) e.edit ≡ false)
+IsFound files e = IsOfFile files e × (ends_after (length e.source.bytes) e.edit ≡ false)
 
 abbrev pub AreFound : (List ℕ → Option Source) → Offer → Type 0
 AreFound files offer = AllByRecursion (IsFound files) offer.edits

@@ -61,20 +61,20 @@ is_within bytes s = nat_le s.start s.end && nat_le s.end (length bytes)
 
 -- ---- texts of several rows
 
-abbrev pub row_behind : List ℕ → List ℕ → List ℕ
-row_behind text row = text ++ 10 ∷ row
+abbrev pub row_after : List ℕ → List ℕ → List ℕ
+row_after text row = text ++ 10 ∷ row
 
 -- the rows as one text, where there are any
 abbrev pub joined : List (List ℕ) → Option (List ℕ)
 joined [] = None
-joined (row ∷ rows) = Some (fold row_behind row rows)
+joined (row ∷ rows) = Some (fold row_after row rows)
 
 -- what stands after a place's name, line and column
-abbrev pub text_behind : Option (List ℕ) → List ℕ
-text_behind None = []
-text_behind (Some text) = codes ": " ++ text
+abbrev pub text_after : Option (List ℕ) → List ℕ
+text_after None = []
+text_after (Some text) = codes ": " ++ text
 
 -- a place that can't be found, as a text
 abbrev pub place_text : Place → List (List ℕ) → List ℕ
 place_text p rows =
-    (((p.name ++ (codes ":" ++ decimal p.line)) ++ (codes ":" ++ decimal p.column)) ++ text_behind (joined rows))
+    (((p.name ++ (codes ":" ++ decimal p.line)) ++ (codes ":" ++ decimal p.column)) ++ text_after (joined rows))

@@ -33,7 +33,7 @@ lower_line = record { start = 2; text_end = 28; end = 29 }
 
 -- a label from one offset up to another, with these parts of a text
 abbrev pub label_over : ℕ → ℕ → List (List ℕ) → DrawnLabel
-label_over start after parts = record { start = start; after = after; style = plain; parts = parts; behind = false }
+label_over start after parts = record { start = start; after = after; style = plain; parts = parts; after_text = false }
 
 -- what is shown of the letters, where just this label lies on their line
 abbrev pub letters_shown : SnippetSettings → List DrawnLabel → List ℕ

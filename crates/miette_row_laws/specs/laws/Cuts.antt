@@ -54,7 +54,7 @@ pub record IsWithin (reach : ℕ) (cell : Cell) (column : ℕ) : Type 0 where
   pub first : cell.from ≤ own
   pub last : own < cell.until
   pub before : own ≤ column + reach
-  pub behind : column ≤ own + reach
+  pub after : column ≤ own + reach
 
 -- Whether a cell of a line is near, by `reach` columns around its ends; or where it has no ends, whether the cell has
 -- room within the limit.

@@ -18,8 +18,8 @@ last_line (line ∷ []) = line
 last_line (line ∷ next ∷ lines) = last_line (next ∷ lines)
 
 -- whether a label stands after a line's text, as an empty one that lies on this line alone
-abbrev pub stands_behind : Line → DrawnLabel → Bool
-stands_behind line label = label.behind && (is_empty label && is_one_line line label)
+abbrev pub stands_after : Line → DrawnLabel → Bool
+stands_after line label = label.after_text && (is_empty label && is_one_line line label)
 
 -- whether the labels at the end of a source of `n` bytes are drawn: where the settings say so, and one of them has a
 -- line of context
@@ -31,26 +31,26 @@ abbrev pub asks_ends : SnippetSettings → ℕ → List Label → Bool
 asks_ends s n labels = s.layout.end_labels && some_shows_end 1 n labels
 
 -- just the labels that begin at the source's end stand after the text of its last line
-abbrev pub EndsStandBehind : SnippetSettings → List ℕ → List Label → Type 0
-EndsStandBehind s bytes labels =
-    map (stands_behind (last_line (lines_of bytes))) (drawn_labels s (length bytes) labels)
+abbrev pub EndsStandAfter : SnippetSettings → List ℕ → List Label → Type 0
+EndsStandAfter s bytes labels =
+    map (stands_after (last_line (lines_of bytes))) (drawn_labels s (length bytes) labels)
     ≡ map (is_at_end (length bytes)) labels
 
 -- Of these marks, before which others end at a column, each of a label that stands after a text of `columns` columns
 -- begins in the column after the text, or where the mark before it ends, whichever is later.
-abbrev pub BeginBehind : ℕ → ℕ → List Mark → Type 0
-BeginBehind columns reached [] = Unit {0}
-BeginBehind columns reached (mark ∷ marks) =
-    (mark.label.behind ≡ true → mark.from ≡ max columns reached) × BeginBehind columns mark.until marks
+abbrev pub BeginAfter : ℕ → ℕ → List Mark → Type 0
+BeginAfter columns reached [] = Unit {0}
+BeginAfter columns reached (mark ∷ marks) =
+    (mark.label.after_text ≡ true → mark.from ≡ max columns reached) × BeginAfter columns mark.until marks
 
 -- after the columns of a line's text
-abbrev pub AreBehindText : Text → List DrawnLabel → Type 0
-AreBehindText text labels = BeginBehind text.width 0 (marks text labels)
+abbrev pub AreAfterText : Text → List DrawnLabel → Type 0
+AreAfterText text labels = BeginAfter text.width 0 (marks text labels)
 
 -- in a line's row after what is shown of the text, also where the line is cut
-abbrev pub AreBehindShown : SnippetSettings → List DrawnLabel → Line → List Cell → List Highlight → Type 0
-AreBehindShown s labels line cells pieces =
-    BeginBehind (columns_of (glyphs_of (text_of_line s labels line cells pieces))) 0
+abbrev pub AreAfterShown : SnippetSettings → List DrawnLabel → Line → List Cell → List Highlight → Type 0
+AreAfterShown s labels line cells pieces =
+    BeginAfter (columns_of (glyphs_of (text_of_line s labels line cells pieces))) 0
     (marks_of_line s labels line cells)
 
 -- the same settings, but for whether labels at the end are drawn

@@ -15,7 +15,7 @@ HasByte cell offset = (cell.start ≤ offset) × (offset < cell.after)
 -- byte, or at that one, if it is later. It ends with the last column of the cell that has the label's last byte, or has
 -- one column, if that is more; an empty label's mark has one.
 pub record StandsUnder (cells : List Cell) (reached : ℕ) (mark : Mark) : Type 0 where
-  pub first : (cell : Cell) → Contains cells cell → HasByte cell mark.label.start → mark.label.behind ≡ false →
+  pub first : (cell : Cell) → Contains cells cell → HasByte cell mark.label.start → mark.label.after_text ≡ false →
       mark.from ≡ max cell.from reached
   pub last : (cell : Cell) → Contains cells cell → mark.label.start < mark.label.after →
       HasByte cell (mark.label.after - 1) → mark.until ≡ max cell.until (mark.from + 1)
@@ -31,8 +31,8 @@ StandUnder cells reached (mark ∷ marks) = StandsUnder cells reached mark × St
 -- column further on, or each where that other mark ends, if that is later. A mark whose label ends after the text ends
 -- with the column after the text, or has one column, if that is more.
 pub record StandsPast (text_end width reached : ℕ) (mark : Mark) : Type 0 where
-  pub at_end : mark.label.start ≡ text_end → mark.label.behind ≡ false → mark.from ≡ max width reached
-  pub behind_end : text_end < mark.label.start → mark.label.behind ≡ false → mark.from ≡ max (width + 1) reached
+  pub at_end : mark.label.start ≡ text_end → mark.label.after_text ≡ false → mark.from ≡ max width reached
+  pub after_end : text_end < mark.label.start → mark.label.after_text ≡ false → mark.from ≡ max (width + 1) reached
   pub last : mark.label.start < mark.label.after → text_end < mark.label.after →
       mark.until ≡ max (width + 1) (mark.from + 1)
 

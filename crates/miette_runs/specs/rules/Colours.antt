@@ -9,14 +9,14 @@ abbrev pub is_colour_end : List ℕ → Bool
 is_colour_end [] = false
 is_colour_end (c ∷ cs) = if c == 109 then is_nil cs else is_parameter c && is_colour_end cs
 
-abbrev pub is_colour_behind : List ℕ → Bool
-is_colour_behind [] = false
-is_colour_behind (c ∷ cs) = c == 91 && is_colour_end cs
+abbrev pub is_colour_after : List ℕ → Bool
+is_colour_after [] = false
+is_colour_after (c ∷ cs) = c == 91 && is_colour_end cs
 
 -- The sequence is a colour: `ESC [`, digits and `;`, `m`.
 abbrev pub is_colour : List ℕ → Bool
 is_colour [] = false
-is_colour (c ∷ cs) = is_escape c && is_colour_behind cs
+is_colour (c ∷ cs) = is_escape c && is_colour_after cs
 
 abbrev pub is_backslash : List ℕ → Bool
 is_backslash [] = false
@@ -30,11 +30,11 @@ is_link_end (c ∷ cs) =
     else if is_escape c then is_backslash cs
     else not (is_line_feed c) && is_link_end cs
 
-abbrev pub is_link_behind : List ℕ → Bool
-is_link_behind [] = false
-is_link_behind (c ∷ cs) = c == 93 && is_link_end cs
+abbrev pub is_link_after : List ℕ → Bool
+is_link_after [] = false
+is_link_after (c ∷ cs) = c == 93 && is_link_end cs
 
 -- The sequence is a link's: `ESC ]`, codes with no escape, BEL or `ESC \`.
 abbrev pub is_link : List ℕ → Bool
 is_link [] = false
-is_link (c ∷ cs) = is_escape c && is_link_behind cs
+is_link (c ∷ cs) = is_escape c && is_link_after cs

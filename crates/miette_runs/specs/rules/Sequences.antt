@@ -91,16 +91,16 @@ pub data Token : Type 0 where
 
 -- the tokens after the next codes, which are in a sequence already
 
-abbrev pub tokens_behind : ℕ → List ℕ → List Token
-tokens_behind skipped [] = []
-tokens_behind (suc skipped) (c ∷ cs) = tokens_behind skipped cs
-tokens_behind zero (c ∷ cs) = elim (sequence_len (c ∷ cs)) [
-  | zero ↦ Character c ∷ tokens_behind 0 cs
-  | suc k ↦ Sequence (take (suc k) (c ∷ cs)) ∷ tokens_behind k cs
+abbrev pub tokens_after : ℕ → List ℕ → List Token
+tokens_after skipped [] = []
+tokens_after (suc skipped) (c ∷ cs) = tokens_after skipped cs
+tokens_after zero (c ∷ cs) = elim (sequence_len (c ∷ cs)) [
+  | zero ↦ Character c ∷ tokens_after 0 cs
+  | suc k ↦ Sequence (take (suc k) (c ∷ cs)) ∷ tokens_after k cs
 ]
 
 abbrev pub tokens : List ℕ → List Token
-tokens = tokens_behind 0
+tokens = tokens_after 0
 
 abbrev pub spelling : Token → List ℕ
 spelling (Character c) = c ∷ []
@@ -118,14 +118,14 @@ are_settled (Sequence s ∷ ts) = is_whole s && are_settled ts
 
 -- ---- without colours
 
-abbrev pub erase_behind : ℕ → List ℕ → List ℕ
-erase_behind skipped [] = []
-erase_behind (suc skipped) (c ∷ cs) = erase_behind skipped cs
-erase_behind zero (c ∷ cs) = elim (colour_len (c ∷ cs)) [
-  | zero ↦ c ∷ erase_behind 0 cs
-  | suc k ↦ erase_behind k cs
+abbrev pub erase_after : ℕ → List ℕ → List ℕ
+erase_after skipped [] = []
+erase_after (suc skipped) (c ∷ cs) = erase_after skipped cs
+erase_after zero (c ∷ cs) = elim (colour_len (c ∷ cs)) [
+  | zero ↦ c ∷ erase_after 0 cs
+  | suc k ↦ erase_after k cs
 ]
 
 -- A text without its colours: each `ESC [`, any digits and `;`, `m` is deleted.
 abbrev pub erase : List ℕ → List ℕ
-erase = erase_behind 0
+erase = erase_after 0

@@ -15,11 +15,11 @@ fn feeds_len(codes: &[char], tags: &[Tag]) -> usize
 {
     let mut left = tags;
     for (i, code) in codes.iter().enumerate() {
-        let (before, behind) = left.split_at(upto_len(i, left));
+        let (before, after) = left.split_at(upto_len(i, left));
         if *code != '\n' || !are_colours(before) {
             return i;
         }
-        left = behind;
+        left = after;
     }
     codes.len()
 }
@@ -32,13 +32,13 @@ fn kept_len(codes: &[char], tags: &[Tag]) -> usize
     let mut left = tags;
     let mut kept: usize = 0;
     for (i, code) in codes.iter().enumerate() {
-        let (before, behind) = left.split_at(upto_len(i, left));
+        let (before, after) = left.split_at(upto_len(i, left));
         if *code != '\n' {
             kept = i + 1;
         } else if !are_colours(before) {
             kept = i;
         }
-        left = behind;
+        left = after;
     }
     if are_colours(left) { kept } else { codes.len() }
 }

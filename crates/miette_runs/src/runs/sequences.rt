@@ -60,11 +60,11 @@ fn sequence_len(codes: &[char]) -> usize
     if codes.len() < 2 || codes[0] != ESCAPE {
         return 0;
     }
-    let behind = &codes[2..];
+    let after = &codes[2..];
     let rest = if codes[1] == '[' {
-        control_len(behind)
+        control_len(after)
     } else if codes[1] == ']' {
-        command_len(behind)
+        command_len(after)
     } else {
         0
     };

@@ -57,5 +57,5 @@ abbrev pub region_text : List ℕ → Span → Option (List ℕ)
 region_text bytes at = option_map (λ area. json_text (region area)) (area_in bytes at)
 
 -- a character past U+FFFF, and `b`
-abbrev pub behind_emoji : List ℕ
-behind_emoji = 0xF0 ∷ 0x9F ∷ 0x98 ∷ 0x80 ∷ 98 ∷ []
+abbrev pub after_emoji : List ℕ
+after_emoji = 0xF0 ∷ 0x9F ∷ 0x98 ∷ 0x80 ∷ 98 ∷ []

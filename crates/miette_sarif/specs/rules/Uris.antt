@@ -13,14 +13,14 @@ abbrev pub is_scheme_byte : ℕ → Bool
 is_scheme_byte x = is_ascii_alphanumeric x || ((x == 43) || ((x == 45) || (x == 46)))
 
 -- The bytes after the `:` of a scheme, whose first byte was a letter; none where another byte comes before a `:`.
-abbrev pub behind_scheme : List ℕ → Option (List ℕ)
-behind_scheme [] = None
-behind_scheme (x ∷ xs) = if x == 58 then Some xs else if is_scheme_byte x then behind_scheme xs else None
+abbrev pub after_scheme_bytes : List ℕ → Option (List ℕ)
+after_scheme_bytes [] = None
+after_scheme_bytes (x ∷ xs) = if x == 58 then Some xs else if is_scheme_byte x then after_scheme_bytes xs else None
 
 -- the bytes after the `:` of a scheme; none where a text begins with no scheme
 abbrev pub after_scheme : List ℕ → Option (List ℕ)
 after_scheme [] = None
-after_scheme (x ∷ xs) = if is_ascii_alphabetic x then behind_scheme xs else None
+after_scheme (x ∷ xs) = if is_ascii_alphabetic x then after_scheme_bytes xs else None
 
 -- an absolute address begins with a scheme and `:`
 abbrev pub is_absolute : List ℕ → Bool

@@ -14,8 +14,8 @@ has_scheme (b ∷ bs) = if b == 58 then true else if b == 47 then false else has
 abbrev pub is_absolute : List ℕ → Bool
 is_absolute uri = (slice_index uri 0 == 47) || has_scheme uri
 
-abbrev pub behind_base : List ℕ → List ℕ → List ℕ
-behind_base base uri = if is_absolute uri then uri else base ++ uri
+abbrev pub after_base : List ℕ → List ℕ → List ℕ
+after_base base uri = if is_absolute uri then uri else base ++ uri
 
 -- what stands in a folder of this URI begins so; the root's is empty
 abbrev pub in_folder : List ℕ → List ℕ
@@ -37,14 +37,14 @@ unfoldable pub base_uri : ℕ → Option Data → Option Data → List ℕ
 base_uri zero bases base = []
 base_uri (suc n) bases None = []
 base_uri (suc n) bases (Some base) =
-    in_folder (behind_base (base_uri n bases (base_of bases base)) (own_uri base))
+    in_folder (after_base (base_uri n bases (base_of bases base)) (own_uri base))
 
 -- so that bases which stand on each other end
 abbrev pub most_bases : ℕ
 most_bases = 16
 
 abbrev pub full_uri : Option Data → Data → List ℕ
-full_uri bases l = behind_base (base_uri most_bases bases (base_of bases l)) (own_uri l)
+full_uri bases l = after_base (base_uri most_bases bases (base_of bases l)) (own_uri l)
 
 -- the name of the file that a location stands for
 abbrev pub file_name : Option Data → Data → List ℕ

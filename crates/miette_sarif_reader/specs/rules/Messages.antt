@@ -119,13 +119,13 @@ piece_of arguments in_link b text =
     else if b == 93 then closing_piece in_link text else plain in_link b
 
 -- what is shown of a text, but for the `n` bytes at its beginning
-abbrev pub shown_behind : List Data → Bool → ℕ → List ℕ → List ℕ
-shown_behind arguments in_link n [] = []
-shown_behind arguments in_link zero (b ∷ bs) =
+abbrev pub shown_after : List Data → Bool → ℕ → List ℕ → List ℕ
+shown_after arguments in_link n [] = []
+shown_after arguments in_link zero (b ∷ bs) =
     let piece = piece_of arguments in_link b bs in
-    piece.shown ++ shown_behind arguments piece.in_link piece.further bs
-shown_behind arguments in_link (suc n) (b ∷ bs) = shown_behind arguments in_link n bs
+    piece.shown ++ shown_after arguments piece.in_link piece.further bs
+shown_after arguments in_link (suc n) (b ∷ bs) = shown_after arguments in_link n bs
 
 -- what is shown of a text
 abbrev pub shown : List Data → List ℕ → List ℕ
-shown arguments text = shown_behind arguments false 0 text
+shown arguments text = shown_after arguments false 0 text

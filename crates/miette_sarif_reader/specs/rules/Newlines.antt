@@ -53,7 +53,7 @@ line_size newlines bytes =
     ended_by (text_size newlines bytes) (end_size newlines (drop (text_size newlines bytes) bytes))
 
 -- where the line begins that stands n lines after the one that begins here
-abbrev pub line_behind : List (List ℕ) → List ℕ → ℕ → ℕ → Option ℕ
-line_behind newlines bytes at zero = Some at
-line_behind newlines bytes at (suc k) =
-    option_and_then (λ size. line_behind newlines bytes (at + size) k) (line_size newlines (drop at bytes))
+abbrev pub line_after : List (List ℕ) → List ℕ → ℕ → ℕ → Option ℕ
+line_after newlines bytes at zero = Some at
+line_after newlines bytes at (suc k) =
+    option_and_then (λ size. line_after newlines bytes (at + size) k) (line_size newlines (drop at bytes))

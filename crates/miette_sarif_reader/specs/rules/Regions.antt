@@ -10,7 +10,7 @@ use Rattle.miette_positions.specs.rules.Stops.{units}
 use Rattle.miette_readers.specs.rules.Members.{text_at, whole_at}
 use Rattle.miette_readers.specs.rules.Places.{Stretch}
 use Rattle.miette_readers.specs.rules.Rustc.{stretch_from}
-use Rattle.miette_sarif_reader.specs.rules.Newlines.{line_behind, text_size}
+use Rattle.miette_sarif_reader.specs.rules.Newlines.{line_after, text_size}
 
 -- in which units a run counts columns: in characters where it doesn't say
 abbrev pub encoding_of : Data → PositionEncoding
@@ -24,12 +24,12 @@ units_on e at count [] = if count == 0 then Some at else None
 units_on e at count (c ∷ cs) =
     if nat_lt count (units e c) then Some at else units_on e (at + c.bytes) (count - units e c) cs
 
-abbrev pub units_behind : PositionEncoding → List ℕ → ℕ → ℕ → Option ℕ
-units_behind e bytes at count = units_on e at count (characters (drop at bytes))
+abbrev pub units_after : PositionEncoding → List ℕ → ℕ → ℕ → Option ℕ
+units_after e bytes at count = units_on e at count (characters (drop at bytes))
 
 -- `columns` code units after the beginning of a line's text, which stops there
 abbrev pub column_before : PositionEncoding → List ℕ → ℕ → ℕ → ℕ → ℕ
-column_before e bytes start stop columns = unwrap_or (units_behind e (take stop bytes) start columns) stop
+column_before e bytes start stop columns = unwrap_or (units_after e (take stop bytes) start columns) stop
 
 -- `columns` columns after the beginning of a line: after the line's text its end, inside a character its start.
 abbrev pub column_at : PositionEncoding → List (List ℕ) → List ℕ → ℕ → ℕ → ℕ
@@ -40,7 +40,7 @@ column_at e newlines bytes start columns =
 abbrev pub offset_at : PositionEncoding → List (List ℕ) → List ℕ → ℕ → ℕ → Option ℕ
 offset_at e newlines bytes zero columns = None
 offset_at e newlines bytes (suc k) columns =
-    option_map (λ start. column_at e newlines bytes start columns) (line_behind newlines bytes 0 k)
+    option_map (λ start. column_at e newlines bytes start columns) (line_after newlines bytes 0 k)
 
 abbrev pub start_line : Data → ℕ
 start_line r = unwrap_or (whole_at (codes "startLine") r) 0
@@ -66,13 +66,13 @@ line_stretch e newlines bytes r =
 
 -- ---- by offsets
 
-abbrev pub stretch_behind : PositionEncoding → List ℕ → ℕ → Option ℕ → Option Stretch
-stretch_behind e bytes count None = None
-stretch_behind e bytes count (Some start) = stretch_from (Some start) (units_behind e bytes start count)
+abbrev pub stretch_after : PositionEncoding → List ℕ → ℕ → Option ℕ → Option Stretch
+stretch_after e bytes count None = None
+stretch_after e bytes count (Some start) = stretch_from (Some start) (units_after e bytes start count)
 
 -- `count` characters from an offset in characters on
 abbrev pub char_stretch : PositionEncoding → List ℕ → ℕ → ℕ → Option Stretch
-char_stretch e bytes from count = stretch_behind e bytes count (units_behind e bytes 0 from)
+char_stretch e bytes from count = stretch_after e bytes count (units_after e bytes 0 from)
 
 abbrev pub byte_stretch : List ℕ → ℕ → ℕ → Option Stretch
 byte_stretch bytes from count =

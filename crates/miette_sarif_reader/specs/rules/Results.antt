@@ -11,7 +11,7 @@ use Rattle.miette_protocol.specs.declared.protocol.Severity.{Severity}
 use Rattle.miette_protocol.specs.declared.protocol.Severity.TheVariants.{Advice, Warning, Error}
 use Rattle.miette_protocol.specs.rules.Reading.{Source}
 use Rattle.miette_readers.specs.rules.Members.{items_at, object_at, objects_at, said, text_at, whole_at}
-use Rattle.miette_readers.specs.rules.Places.{Place, Told, text_behind}
+use Rattle.miette_readers.specs.rules.Places.{Place, Told, text_after}
 use Rattle.miette_readers.specs.rules.Reports.{Said}
 use Rattle.miette_readers.specs.rules.Rustc.{maybe_row}
 use Rattle.miette_sarif_reader.specs.rules.Bases.{file_name}
@@ -171,7 +171,7 @@ row_alone row own = record { rows = maybe_row row; place = None; primary = false
 
 -- a file without a place in it, as a text
 abbrev pub file_row : List ℕ → Option (List ℕ) → List ℕ
-file_row name row = name ++ text_behind row
+file_row name row = name ++ text_after row
 
 -- A text at a place; where the place has no line and isn't found, its file's name and the text.
 abbrev pub told_in : Option (List ℕ) → Bool → Bool → Bool → Place → Told
@@ -197,13 +197,13 @@ own_told g (l ∷ ls) = location_told g true true l ∷ map (location_told g fal
 
 -- ---- steps of flows, as GCC's paths are told
 
-abbrev pub behind_number : Option (List ℕ) → List ℕ
-behind_number None = []
-behind_number (Some text) = 32 ∷ text
+abbrev pub after_number : Option (List ℕ) → List ℕ
+after_number None = []
+after_number (Some text) = 32 ∷ text
 
 -- a step's number, and its text, where it has one
 abbrev pub step_row : ℕ → Option (List ℕ) → List ℕ
-step_row n text = ((codes "(" ++ decimal n) ++ codes ")") ++ behind_number text
+step_row n text = ((codes "(" ++ decimal n) ++ codes ")") ++ after_number text
 
 -- a step without a location tells nothing
 abbrev pub step_by : Ground → ℕ → Option Data → Told

@@ -9,4 +9,4 @@ pub record Cut : Type 0 where
 
 -- a piece, of which this text stands after the first byte
 abbrev pub cut : Piece → List ℕ → Cut
-cut piece behind = record { shown = piece.shown; rest = drop piece.further behind; in_link = piece.in_link }
+cut piece after = record { shown = piece.shown; rest = drop piece.further after; in_link = piece.in_link }

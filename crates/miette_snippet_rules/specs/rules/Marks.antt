@@ -20,7 +20,7 @@ pub record Mark : Type 0 where
 
 -- the column of a label's first byte; where it stands after the text, the one after the text's columns
 abbrev pub label_from : Text → DrawnLabel → ℕ
-label_from text label = if label.behind then text.width
+label_from text label = if label.after_text then text.width
     else first_column text.cells text.text_end text.width label.start
 
 abbrev pub mark_from : Text → ℕ → DrawnLabel → ℕ

@@ -16,12 +16,12 @@ abbrev pub lines_left : Rest → List Line
 lines_left rest = lines_from rest.start rest.bytes
 
 -- what is left after a line
-abbrev pub behind : Rest → LineOfText → Rest
-behind rest line = record { start = line.end; bytes = drop (line.end - rest.start) rest.bytes }
+abbrev pub after_line : Rest → LineOfText → Rest
+after_line rest line = record { start = line.end; bytes = drop (line.end - rest.start) rest.bytes }
 
 -- a line is the first of those that are left, and lies in the bytes that are left
 pub record IsFirst (rest : Rest) (line : LineOfText) : Type 0 where
-  pub lines : lines_left rest ≡ line_of_text line ∷ lines_left (behind rest line)
+  pub lines : lines_left rest ≡ line_of_text line ∷ lines_left (after_line rest line)
   pub from : line.start ≡ rest.start
   pub text : line.start ≤ line.text_end
   pub ending : line.text_end ≤ line.end
@@ -31,4 +31,4 @@ pub record IsFirst (rest : Rest) (line : LineOfText) : Type 0 where
 -- a step of a walk gives the first line and leaves what is after it, or there is none, and nothing changes
 abbrev pub GivesLine : Rest → Option LineOfText → Rest → Type 0
 GivesLine before given after = MatchOption given ((before.bytes ≡ []) × (after ≡ before))
-    (λ line. IsFirst before line × (after ≡ behind before line))
+    (λ line. IsFirst before line × (after ≡ after_line before line))

@@ -27,14 +27,14 @@ style_codes s = foreground_codes s.fg ++ flag s.bold (codes "1") ++ flag s.dimme
     ++ flag s.italic (codes "3") ++ flag s.underline (codes "4")
 
 -- each after a `;`
-abbrev pub behind_separators : List (List ℕ) → List ℕ
-behind_separators [] = []
-behind_separators (x ∷ xs) = 59 ∷ x ++ behind_separators xs
+abbrev pub after_separators : List (List ℕ) → List ℕ
+after_separators [] = []
+after_separators (x ∷ xs) = 59 ∷ x ++ after_separators xs
 
 -- with `;` between them
 abbrev pub separated_codes : List (List ℕ) → List ℕ
 separated_codes [] = []
-separated_codes (x ∷ xs) = x ++ behind_separators xs
+separated_codes (x ∷ xs) = x ++ after_separators xs
 
 abbrev pub escape : ℕ
 escape = 27
@@ -47,4 +47,4 @@ colour_stop = escape ∷ 91 ∷ 48 ∷ 109 ∷ []
 
 -- codes with `;` between them, and before them where others stand there
 abbrev pub further_codes : Bool → List (List ℕ) → List ℕ
-further_codes some cs = if some then behind_separators cs else separated_codes cs
+further_codes some cs = if some then after_separators cs else separated_codes cs

@@ -26,8 +26,8 @@ beside_text o b =
 abbrev pub with_byte : Open → ℕ → Open
 with_byte o b = if o.quoted then in_text o b else beside_text o b
 
-abbrev pub behind : Open → List ℕ → Open
-behind o bytes = fold with_byte o bytes
+abbrev pub after_bytes : Open → List ℕ → Open
+after_bytes o bytes = fold with_byte o bytes
 
 -- a bracket, and no text: no row ends within one
 abbrev pub is_open : Open → Bool
@@ -54,7 +54,7 @@ is_inner (b ∷ bs) = is_space b || is_closing b
 
 -- a value that is open goes on with such a row; after a bracket alone with any
 abbrev pub goes_on : List ℕ → List ℕ → Bool
-goes_on part row = (begins_value part && is_open (behind closed part)) && (begins_alone part || is_inner row)
+goes_on part row = (begins_value part && is_open (after_bytes closed part)) && (begins_alone part || is_inner row)
 
 -- the parts of rows, after what a part begins with
 abbrev pub parts_from : List ℕ → List (List ℕ) → List (List ℕ)

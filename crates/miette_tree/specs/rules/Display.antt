@@ -3,10 +3,10 @@ use Rattle.std.specs.Prelude.{ℕ, Bool, List, [], ◌∷◌, ◌++◌, if◌the
 use Rattle.miette_tree.specs.rules.Tree.{Tree, head, cause_of, causes_of}
 
 -- texts, each with `: ` in front
-abbrev pub behind_colons : List (List ℕ) → List ℕ
-behind_colons [] = []
-behind_colons (t ∷ ts) = 58 ∷ 32 ∷ (t ++ behind_colons ts)
+abbrev pub after_colons : List (List ℕ) → List ℕ
+after_colons [] = []
+after_colons (t ∷ ts) = 58 ∷ 32 ∷ (t ++ after_colons ts)
 
 -- the message; or the chain, joined by `: `
 abbrev pub display_text : Bool → Tree → List ℕ
-display_text alternate t = (head t).message ++ (if alternate then behind_colons (causes_of (cause_of t)) else [])
+display_text alternate t = (head t).message ++ (if alternate then after_colons (causes_of (cause_of t)) else [])

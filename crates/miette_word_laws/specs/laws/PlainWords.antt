@@ -16,9 +16,9 @@ abbrev pub is_point : ℕ → Bool
 is_point c = (c == 46) || (c == 44) || (c == 58) || (c == 59)
 
 -- plain characters, and points that don't stand after a space
-abbrev pub plain_behind : ℕ → List ℕ → Bool
-plain_behind before [] = true
-plain_behind before (c ∷ cs) = (is_plain c || (is_point c && not (is_space before))) && plain_behind c cs
+abbrev pub plain_after : ℕ → List ℕ → Bool
+plain_after before [] = true
+plain_after before (c ∷ cs) = (is_plain c || (is_point c && not (is_space before))) && plain_after c cs
 
 abbrev pub is_plain_text : List ℕ → Bool
-is_plain_text = plain_behind 0
+is_plain_text = plain_after 0

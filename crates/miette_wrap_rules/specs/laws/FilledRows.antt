@@ -17,9 +17,9 @@ abbrev pub IsRow : ℕ → List Word → Type 0
 IsRow room [] = Unit {0}
 IsRow room (w ∷ ws) = Fits room (columns (word_cells w)) ws
 
-abbrev pub used_behind : ℕ → List Word → ℕ
-used_behind used [] = used
-used_behind used (w ∷ ws) = used_behind (used + columns (word_cells w)) ws
+abbrev pub used_after : ℕ → List Word → ℕ
+used_after used [] = used
+used_after used (w ∷ ws) = used_after (used + columns (word_cells w)) ws
 
 -- the first word of the row below doesn't fit after `used` columns
 abbrev pub Overflows : ℕ → ℕ → List Word → Type 0
@@ -28,7 +28,7 @@ Overflows room used (w ∷ ws) = room < used + columns w.letters
 
 abbrev pub row_used : List Word → ℕ
 row_used [] = 0
-row_used (w ∷ ws) = used_behind (columns (word_cells w)) ws
+row_used (w ∷ ws) = used_after (columns (word_cells w)) ws
 
 -- rows below one of `used` columns: the first word of each didn't fit above
 abbrev pub Below : ℕ → ℕ → ℕ → List (List Word) → Type 0

@@ -28,14 +28,14 @@ step Waiting (Character c) = if is_escape c then Escaped else if is_space c || i
 step Broken (Sequence s) = Broken
 step Broken (Character c) = Broken
 
-abbrev pub state_behind : State → List Token → State
-state_behind s [] = s
-state_behind s (t ∷ ts) = state_behind (step s t) ts
+abbrev pub state_after : State → List Token → State
+state_after s [] = s
+state_after s (t ∷ ts) = state_after (step s t) ts
 
 -- Every escape of the text begins a colour or a link's sequence, or is that of `ESC ] .. LF`, `ESC \` or `ESC LF`;
 -- after those with a line feed there is something to see.
 abbrev pub AreTame : List Token → Type 0
-AreTame ts = state_behind Free ts ≡ Free
+AreTame ts = state_after Free ts ≡ Free
 
 abbrev pub IsTame : List ℕ → Type 0
 IsTame text = AreTame (tokens text)

@@ -151,16 +151,16 @@ word_cells w = w.letters ++ w.spaces
 
 -- A word begins a row exactly where the row so far, with its spaces, and the word are wider than the row.
 -- The first of the rows is the rest of the row that has `used` columns in use.
-abbrev pub rows_behind : ℕ → ℕ → ℕ → List Word → List (List Word)
-rows_behind used room further [] = [] ∷ []
-rows_behind used room further (w ∷ ws) =
-    if nat_lt room (used + columns w.letters) then [] ∷ onto w (rows_behind (columns (word_cells w)) further further ws)
-    else onto w (rows_behind (used + columns (word_cells w)) room further ws)
+abbrev pub rows_after : ℕ → ℕ → ℕ → List Word → List (List Word)
+rows_after used room further [] = [] ∷ []
+rows_after used room further (w ∷ ws) =
+    if nat_lt room (used + columns w.letters) then [] ∷ onto w (rows_after (columns (word_cells w)) further further ws)
+    else onto w (rows_after (used + columns (word_cells w)) room further ws)
 
 -- The first word is in the first row, however wide it is.
 abbrev pub rows : ℕ → ℕ → List Word → List (List Word)
 rows room further [] = [] ∷ []
-rows room further (w ∷ ws) = onto w (rows_behind (columns (word_cells w)) room further ws)
+rows room further (w ∷ ws) = onto w (rows_after (columns (word_cells w)) room further ws)
 
 -- ---- what a row prints
 

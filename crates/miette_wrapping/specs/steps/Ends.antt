@@ -54,13 +54,13 @@ letters_len [] = 0
 letters_len (c ∷ cs) = if is_ascii_alphabetic c then suc (letters_len cs) else 0
 
 -- the last of the first n codes, where there is one
-abbrev pub code_behind : ℕ → ℕ → List ℕ → ℕ
-code_behind before zero cs = before
-code_behind before (suc n) [] = before
-code_behind before (suc n) (c ∷ cs) = code_behind c n cs
+abbrev pub code_after : ℕ → ℕ → List ℕ → ℕ
+code_after before zero cs = before
+code_after before (suc n) [] = before
+code_after before (suc n) (c ∷ cs) = code_after c n cs
 
-abbrev pub hyphenated_behind : Cuts → ℕ → List Cell → List (List Cell)
-hyphenated_behind cuts before letters = if cuts.hyphens then hyphen_parts before letters else letters ∷ []
+abbrev pub hyphenated_after : Cuts → ℕ → List Cell → List (List Cell)
+hyphenated_after cuts before letters = if cuts.hyphens then hyphen_parts before letters else letters ∷ []
 
 -- ---- words that end at spaces, cell by cell
 
@@ -83,10 +83,10 @@ spaced_words (c ∷ cs) =
     if is_space c.code then with_space c (spaced_words cs) else with_letter c (spaced_words cs)
 
 -- the parts of such words of what stands after a code
-abbrev pub words_behind : Cuts → ℕ → List Cell → List Word
-words_behind cuts before cells = elim (spaced_words cells) [
+abbrev pub words_after : Cuts → ℕ → List Cell → List Word
+words_after cuts before cells = elim (spaced_words cells) [
   | [] ↦ []
-  | w ∷ ws ↦ with_spaces w.spaces (flat_map (narrow_parts cuts) (hyphenated_behind cuts before w.letters))
+  | w ∷ ws ↦ with_spaces w.spaces (flat_map (narrow_parts cuts) (hyphenated_after cuts before w.letters))
       ++ flat_map (parts cuts) ws
 ]
 
@@ -94,9 +94,9 @@ words_behind cuts before cells = elim (spaced_words cells) [
 
 -- `n` codes and `m` spaces after them are the first part.
 abbrev pub IsPart : (List Cell → List Word) → (List Cell → List Word) → List ℕ → ℕ → ℕ → Type 0
-IsPart left behind codes n m =
+IsPart left after codes n m =
     (cells : List Cell) → codes_of cells ≡ codes →
-    left cells ≡ record { letters = take n cells; spaces = take m (drop n cells) } ∷ behind (drop (n + m) cells)
+    left cells ≡ record { letters = take n cells; spaces = take m (drop n cells) } ∷ after (drop (n + m) cells)
 
 abbrev pub row_cells : List Word → List Cell
 row_cells = flat_map word_cells
@@ -108,9 +108,9 @@ rows_left left room (c ∷ cs) = map row_cells (rows room room (left (c ∷ cs))
 
 -- `n` codes are in the first row.
 abbrev pub IsFirstRow : (List Cell → List Word) → (List Cell → List Word) → ℕ → List ℕ → ℕ → Type 0
-IsFirstRow left behind room codes n =
+IsFirstRow left after room codes n =
     (cells : List Cell) (further : ℕ) → codes_of cells ≡ codes →
-    map row_cells (rows room further (left cells)) ≡ take n cells ∷ rows_left behind further (drop n cells)
+    map row_cells (rows room further (left cells)) ≡ take n cells ∷ rows_left after further (drop n cells)
 
 -- ---- lines, and characters alone
 

@@ -5,7 +5,7 @@ use Rattle.std.specs.Prelude.{◌==◌, if◌then◌else◌, nat_le, not}
 use Rattle.std.specs.Char.{is_whitespace}
 use Rattle.miette_runs.specs.rules.Sequences.{Token, Character, Sequence, after_escape_len, begins, colour_len}
 use Rattle.miette_runs.specs.rules.Sequences.{command_len, control_len, is_final, is_line_feed, spell, tokens}
-use Rattle.miette_runs.specs.rules.Sequences.{tokens_behind}
+use Rattle.miette_runs.specs.rules.Sequences.{tokens_after}
 use Rattle.miette_wrapping.specs.declared.wrap.white.Place.{Place}
 use Rattle.miette_wrapping.specs.declared.wrap.white.Place.TheVariants.{Outside, Escape, Control, Command}
 use Rattle.miette_wrapping.specs.declared.wrap.white.Place.TheVariants.{CommandEscape}
@@ -31,18 +31,18 @@ are_passed blanks (Character c ∷ ts) = (blanks && is_whitespace c) && are_pass
 are_passed blanks (Sequence s ∷ ts) = are_passed blanks ts
 
 -- the same after n codes, which end a sequence; it isn't whole where n is 0
-abbrev pub passed_behind : Bool → ℕ → List ℕ → Bool
-passed_behind blanks zero cs = false
-passed_behind blanks (suc k) cs = are_passed blanks (tokens_behind (suc k) cs)
+abbrev pub passed_after : Bool → ℕ → List ℕ → Bool
+passed_after blanks zero cs = false
+passed_after blanks (suc k) cs = are_passed blanks (tokens_after (suc k) cs)
 
 -- the same of what is left of a text, by where a walk over it stands
 abbrev pub passed_from : Place → Bool → List ℕ → Bool
 passed_from Outside blanks cs = are_passed blanks (tokens cs)
-passed_from Escape blanks cs = passed_behind blanks (after_escape_len cs) cs
-passed_from Control blanks cs = passed_behind blanks (control_len cs) cs
-passed_from Command blanks cs = passed_behind blanks (command_len cs) cs
+passed_from Escape blanks cs = passed_after blanks (after_escape_len cs) cs
+passed_from Control blanks cs = passed_after blanks (control_len cs) cs
+passed_from Command blanks cs = passed_after blanks (command_len cs) cs
 passed_from CommandEscape blanks cs =
-    if begins 92 cs then passed_behind blanks 1 cs else passed_behind blanks (command_len cs) cs
+    if begins 92 cs then passed_after blanks 1 cs else passed_after blanks (command_len cs) cs
 
 -- nowhere, if it was left
 abbrev pub passed_through : Option Place → Bool → List ℕ → Bool

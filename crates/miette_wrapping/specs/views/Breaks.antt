@@ -4,12 +4,12 @@ use Rattle.std.specs.Prelude.{if◌then◌else◌, List, [], ◌∷◌, ◌++◌
 use Rattle.std.specs.Option.{is_some}
 use Rattle.miette_basics.specs.rules.Lists.{onto}
 use Rattle.miette_line_breaks.specs.declared.state.State.{State}
-use Rattle.miette_line_breaks.specs.views.Places.{behind, found_before, is_in_word}
+use Rattle.miette_line_breaks.specs.views.Places.{after_code, found_before, is_in_word}
 use Rattle.miette_runs.specs.rules.Cells.{Cell}
 use Rattle.miette_runs.specs.steps.Cells.{code_columns}
 use Rattle.miette_wrapping.specs.declared.wrap.breaks.Broken.{Broken}
 use Rattle.miette_wrap_rules.specs.rules.Wrapping.{Cuts, Word, is_hyphen, narrow_parts, parts, with_spaces, word_of}
-use Rattle.miette_wrapping.specs.steps.Ends.{hyphenated_behind, letters_len}
+use Rattle.miette_wrapping.specs.steps.Ends.{hyphenated_after, letters_len}
 
 -- no code ends each word
 abbrev pub never : ℕ → Bool
@@ -27,13 +27,13 @@ all_printed (c ∷ cs) = is_printed c && all_printed cs
 abbrev pub state_at : State → ℕ → List ℕ → State
 state_at s zero cs = s
 state_at s (suc n) [] = s
-state_at s (suc n) (c ∷ cs) = state_at (behind s c) n cs
+state_at s (suc n) (c ∷ cs) = state_at (after_code s c) n cs
 
 -- how many codes there are before the next one that begins a word; the first one begins none where that is said
 abbrev pub piece_len : State → Bool → List ℕ → ℕ
 piece_len s joined [] = 0
 piece_len s joined (c ∷ cs) =
-    if not joined && is_some (found_before s c) then 0 else suc (piece_len (behind s c) (is_hyphen c) cs)
+    if not joined && is_some (found_before s c) then 0 else suc (piece_len (after_code s c) (is_hyphen c) cs)
 
 -- how many codes are passed at once: letters after a letter, with no hyphen before them
 abbrev pub passed_len : State → Bool → List ℕ → ℕ
@@ -46,16 +46,16 @@ ends_in s b (c ∷ cs) = not (is_hyphen b) && is_some (found_before s c.code)
 abbrev pub pieces_in : State → List Cell → List (List Cell)
 pieces_in s [] = []
 pieces_in s (c ∷ cs) =
-    if ends_in (behind s c.code) c.code cs then (c ∷ []) ∷ pieces_in (behind s c.code) cs
-    else onto c (pieces_in (behind s c.code) cs)
+    if ends_in (after_code s c.code) c.code cs then (c ∷ []) ∷ pieces_in (after_code s c.code) cs
+    else onto c (pieces_in (after_code s c.code) cs)
 
 abbrev pub words_in : State → List Cell → List Word
 words_in s cells = map word_of (pieces_in s cells)
 
 -- the parts of words of which the first one stands after a code
-abbrev pub parts_behind : Cuts → ℕ → Word → List Word → List Word
-parts_behind cuts before w ws =
-    with_spaces w.spaces (flat_map (narrow_parts cuts) (hyphenated_behind cuts before w.letters))
+abbrev pub parts_after : Cuts → ℕ → Word → List Word → List Word
+parts_after cuts before w ws =
+    with_spaces w.spaces (flat_map (narrow_parts cuts) (hyphenated_after cuts before w.letters))
     ++ flat_map (parts cuts) ws
 
 abbrev pub is_done : Broken → Bool
@@ -65,7 +65,7 @@ is_done it = (it.letters == 0) && (it.spaces == 0)
 abbrev pub rest_in : Broken → Cuts → List Cell → List Word
 rest_in it cuts cells =
     if is_done it then flat_map (parts cuts) (words_in it.state cells)
-    else parts_behind cuts it.before
+    else parts_after cuts it.before
     (record { letters = take it.letters cells; spaces = take it.spaces (drop it.letters cells) })
     (words_in it.state (drop (it.letters + it.spaces) cells))
 

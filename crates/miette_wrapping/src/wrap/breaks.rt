@@ -63,12 +63,12 @@ fn rest_len<C: Codes>(start: State, joined: bool, codes: C) -> (usize, State)
     let mut i: usize = 0;
     'rest: while i < n {
         let code = codes.at(i);
-        let (found, behind) = state.step(code);
+        let (found, after) = state.step(code);
         if !is_joined && found.is_some() {
             return (i, state);
         }
         is_joined = is_hyphen(code);
-        state = behind;
+        state = after;
         let next = i + 1;
         i = next + passed_len(state, is_joined, codes.from(next));
     }
@@ -88,7 +88,7 @@ fn word_len<C: Codes>(start: State, codes: C) -> (usize, State, bool)
         return (0, start, true);
     }
     let first = codes.at(0);
-    let Some(mut place) = Printable::behind(start, first) else {
+    let Some(mut place) = Printable::after_character(start, first) else {
         let (len, state) = rest_len(start, true, codes);
         return (len, state, false);
     };
@@ -175,15 +175,15 @@ fn word_part<C: Codes>(
     requires fits { fits_in word (C.codes codes) }
     requires some { is_done word ≡ false }
     requires printed { is_printed ≡ true → all_printed (take word.letters (C.codes codes)) ≡ true }
-    ensures is { IfOk result (λ (p, behind). IsPart (left_in word (word_cuts UnicodeBreakProperties cuts))
-        (left_in behind (word_cuts UnicodeBreakProperties cuts)) (C.codes codes) p.letters.len p.spaces) }
-    ensures columns { IfOk result (λ (p, behind). p.letters.columns
+    ensures is { IfOk result (λ (p, after). IsPart (left_in word (word_cuts UnicodeBreakProperties cuts))
+        (left_in after (word_cuts UnicodeBreakProperties cuts)) (C.codes codes) p.letters.len p.spaces) }
+    ensures columns { IfOk result (λ (p, after). p.letters.columns
         ≡ code_columns (take p.letters.len (C.codes codes))) }
-    ensures gap { IfOk result (λ (p, behind). code_columns (take p.spaces (drop p.letters.len (C.codes codes)))
+    ensures gap { IfOk result (λ (p, after). code_columns (take p.spaces (drop p.letters.len (C.codes codes)))
         ≡ p.spaces) }
-    ensures some { IfOk result (λ (p, behind). 0 < p.letters.len + p.spaces) }
-    ensures within { IfOk result (λ (p, behind). p.letters.len + p.spaces ≤ length (C.codes codes)) }
-    ensures fits { IfOk result (λ (p, behind). fits_in behind (drop (p.letters.len + p.spaces) (C.codes codes))) }
+    ensures some { IfOk result (λ (p, after). 0 < p.letters.len + p.spaces) }
+    ensures within { IfOk result (λ (p, after). p.letters.len + p.spaces ≤ length (C.codes codes)) }
+    ensures fits { IfOk result (λ (p, after). fits_in after (drop (p.letters.len + p.spaces) (C.codes codes))) }
 {
     let letters = part_letters(word, is_printed, cuts, codes)?;
     if letters.len == word.letters {
@@ -191,20 +191,20 @@ fn word_part<C: Codes>(
             letters,
             spaces: word.spaces,
         };
-        let behind = Broken {
+        let after = Broken {
             letters: 0,
             spaces: 0,
             ..word
         };
-        return Ok((part, behind));
+        return Ok((part, after));
     }
     let part = Part { letters, spaces: 0 };
-    let behind = Broken {
+    let after = Broken {
         before: codes.at(letters.len - 1),
         letters: word.letters - letters.len,
         ..word
     };
-    Ok((part, behind))
+    Ok((part, after))
 }
 
 impl Stop for Broken {

@@ -9,7 +9,7 @@ ghost use Rattle.miette_wrap_rules.specs.declared.options.WordSeparator.{WordSep
 ghost use Rattle.miette_wrap_rules.specs.declared.options.WordSeparator.TheVariants.{AsciiSpace};
 ghost use Rattle.miette_wrapping.specs.steps.Ends.{IsFirstRow, IsPart, bare_len, begins_word, gap_len};
 ghost use Rattle.miette_wrapping.specs.steps.Ends.{is_solid, letters_len, part_len, solid_len};
-ghost use Rattle.miette_wrapping.specs.steps.Ends.{words_behind};
+ghost use Rattle.miette_wrapping.specs.steps.Ends.{words_after};
 ghost use Rattle.miette_wrapping.specs.views.Cutting.{word_cuts};
 ghost use Rattle.miette_runs.specs.rules.Cells.{Cell};
 ghost use Rattle.miette_runs.specs.steps.Cells.{code_columns, plain_cells};
@@ -75,15 +75,15 @@ pub(crate) trait Words: Copy {
     fn part<C: Codes>(self, cuts: Cuts, codes: C) -> Result<(Part, Self), AllocError>
         requires fits { fits self (C.codes codes) }
         requires some { 0 < length (C.codes codes) }
-        ensures is { IfOk result (λ (p, behind). IsPart (left self (word_cuts separator cuts))
-            (left behind (word_cuts separator cuts)) (C.codes codes) p.letters.len p.spaces) }
-        ensures columns { IfOk result (λ (p, behind). p.letters.columns
+        ensures is { IfOk result (λ (p, after). IsPart (left self (word_cuts separator cuts))
+            (left after (word_cuts separator cuts)) (C.codes codes) p.letters.len p.spaces) }
+        ensures columns { IfOk result (λ (p, after). p.letters.columns
             ≡ code_columns (take p.letters.len (C.codes codes))) }
-        ensures gap { IfOk result (λ (p, behind). code_columns (take p.spaces (drop p.letters.len (C.codes codes)))
+        ensures gap { IfOk result (λ (p, after). code_columns (take p.spaces (drop p.letters.len (C.codes codes)))
             ≡ p.spaces) }
-        ensures some { IfOk result (λ (p, behind). 0 < p.letters.len + p.spaces) }
-        ensures within { IfOk result (λ (p, behind). p.letters.len + p.spaces ≤ length (C.codes codes)) }
-        ensures fits { IfOk result (λ (p, behind). fits behind (drop (p.letters.len + p.spaces) (C.codes codes))) };
+        ensures some { IfOk result (λ (p, after). 0 < p.letters.len + p.spaces) }
+        ensures within { IfOk result (λ (p, after). p.letters.len + p.spaces ≤ length (C.codes codes)) }
+        ensures fits { IfOk result (λ (p, after). fits after (drop (p.letters.len + p.spaces) (C.codes codes))) };
 
     /// Where nothing is left, it has no part.
     ghost nothing: { (it : Self) (cuts : rules.Cuts) → left it cuts [] ≡ [] };
@@ -107,10 +107,10 @@ fn begins_word<C: Codes>(codes: C) -> bool
 }
 
 // Whether a word is cut after a code, with another code before it and others after it.
-fn is_cut<C: Codes>(hyphens: bool, before: char, code: char, behind: C) -> bool
-    ensures { result ≡ (hyphens && ((code == 45) && is_alphanumeric before && begins_word (C.codes behind))) }
+fn is_cut<C: Codes>(hyphens: bool, before: char, code: char, after: C) -> bool
+    ensures { result ≡ (hyphens && ((code == 45) && is_alphanumeric before && begins_word (C.codes after))) }
 {
-    hyphens && code == '-' && is_alphanumeric(before) && begins_word(behind)
+    hyphens && code == '-' && is_alphanumeric(before) && begins_word(after)
 }
 
 // A class of codes.
@@ -232,10 +232,10 @@ pub(crate) fn first_part<T: Stop, C: Codes>(
     let most = codes.count().min(cuts.narrow);
     let n = solid_len(codes.front(most));
     if n == 0 {
-        return part_behind::<T, C>(cuts, first, 0, codes);
+        return part_after::<T, C>(cuts, first, 0, codes);
     }
     let last = codes.at(n - 1);
-    let rest = part_behind::<T, C>(cuts, last, n, codes.from(n))?;
+    let rest = part_after::<T, C>(cuts, last, n, codes.from(n))?;
     Ok(Letters {
         len: n + rest.len,
         columns: rest.columns,
@@ -251,7 +251,7 @@ fn is_wide(cuts: Cuts, used: usize, both: usize) -> bool
 
 // The same of what is left of it, after a code and with `columns` columns in use.
 #[inline(always)]
-fn part_behind<T: Stop, C: Codes>(
+fn part_after<T: Stop, C: Codes>(
     cuts: Cuts,
     first: char,
     columns: usize,
@@ -341,7 +341,7 @@ impl Stop for Spaced {
 impl Words for Spaced {
     ghost separator = { AsciiSpace };
 
-    ghost left = { λ it cuts cells. words_behind cuts it.before cells };
+    ghost left = { λ it cuts cells. words_after cuts it.before cells };
 
     ghost fits = { λ _ _. Unit {0} };
 
@@ -367,25 +367,25 @@ pub(crate) fn row_len<W: Words, C: Codes>(
     codes: C,
 ) -> Result<(usize, W), AllocError>
     requires { W.fits first (C.codes codes) }
-    ensures value { IfOk result (λ (n, behind). IsFirstRow (W.left first (word_cuts W.separator cuts))
-        (W.left behind (word_cuts W.separator cuts)) room (C.codes codes) n) }
-    ensures some { IfOk result (λ (n, behind). 0 < length (C.codes codes) → 0 < n) }
-    ensures within { IfOk result (λ (n, behind). n ≤ length (C.codes codes)) }
-    ensures fits { IfOk result (λ (n, behind). W.fits behind (drop n (C.codes codes))) }
+    ensures value { IfOk result (λ (n, after). IsFirstRow (W.left first (word_cuts W.separator cuts))
+        (W.left after (word_cuts W.separator cuts)) room (C.codes codes) n) }
+    ensures some { IfOk result (λ (n, after). 0 < length (C.codes codes) → 0 < n) }
+    ensures within { IfOk result (λ (n, after). n ≤ length (C.codes codes)) }
+    ensures fits { IfOk result (λ (n, after). W.fits after (drop n (C.codes codes))) }
 {
     let n = codes.count();
     let mut end: usize = 0;
     let mut used = 0;
     let mut words = first;
     'rest: while end < n {
-        let (part, behind) = words.part(cuts, codes.from(end))?;
+        let (part, after) = words.part(cuts, codes.from(end))?;
         let wide = sum(used, part.letters.columns)?;
         if 0 < end && room < wide {
             return Ok((end, words));
         }
         used = sum(wide, part.spaces)?;
         end = end + part.letters.len + part.spaces;
-        words = behind;
+        words = after;
     }
     Ok((end, words))
 }

@@ -93,7 +93,7 @@ fn push_rows<S: Sink, W: Words, C: Codes>(
     let mut words = W::start();
     let mut room = under.room;
     'rest: loop {
-        let (n, behind) = row_len(cuts, room, words, line.codes.from(start))?;
+        let (n, after) = row_len(cuts, room, words, line.codes.from(start))?;
         let end = start + n;
         let row = Signed {
             codes: line.codes.front(end),
@@ -105,7 +105,7 @@ fn push_rows<S: Sink, W: Words, C: Codes>(
             return Ok(used);
         }
         push_break(out, under.further)?;
-        words = behind;
+        words = after;
         start = end;
         room = under.further_room;
     }
@@ -167,8 +167,8 @@ pub(crate) fn push_filled<S: Sink, W: Words, C: Lined>(
         if end == all {
             return push_tags(out, &text.tags[used..]);
         }
-        let behind = push_signs(out, end, &text.tags[used..])?;
-        used += behind;
+        let after = push_signs(out, end, &text.tags[used..])?;
+        used += after;
         push_break(out, under.further)?;
         start = end + 1;
         room = under.further_room;

@@ -58,7 +58,7 @@ fn front_len(bytes: &[u8], blanks: bool) -> usize
 }
 
 // A text after the colours that it begins with, and after the spaces where white characters may stand there.
-fn behind_front(text: &str, blanks: bool) -> &str
+fn after_front(text: &str, blanks: bool) -> &str
     ensures { are_passed blanks (tokens (chars result.now)) ≡ are_passed blanks (tokens (chars text.now)) }
 {
     let mut rest = text;
@@ -163,7 +163,7 @@ enum Place {
 }
 
 // After one more character that is in no sequence.
-fn behind_character(c: char, blanks: bool) -> Option<Place>
+fn after_character(c: char, blanks: bool) -> Option<Place>
     ensures { (cs : List ℕ) → passed_from Outside blanks (c ∷ cs) ≡ passed_through result blanks cs }
 {
     if c == '\u{1B}' {
@@ -180,7 +180,7 @@ fn behind_character(c: char, blanks: bool) -> Option<Place>
 }
 
 // After the character after ESC.
-fn behind_escape(c: char) -> Option<Place>
+fn after_escape(c: char) -> Option<Place>
     ensures { (blanks : Bool) (cs : List ℕ) → passed_from Escape blanks (c ∷ cs) ≡ passed_through result blanks cs }
 {
     match c {
@@ -191,7 +191,7 @@ fn behind_escape(c: char) -> Option<Place>
 }
 
 // After one more character of `ESC [`.
-fn behind_control(c: char) -> Option<Place>
+fn after_control(c: char) -> Option<Place>
     ensures { (blanks : Bool) (cs : List ℕ) → passed_from Control blanks (c ∷ cs) ≡ passed_through result blanks cs }
 {
     if c == '\n' {
@@ -204,7 +204,7 @@ fn behind_control(c: char) -> Option<Place>
 }
 
 // After one more character of `ESC ]`.
-fn behind_command(c: char) -> Option<Place>
+fn after_command(c: char) -> Option<Place>
     ensures { (blanks : Bool) (cs : List ℕ) → passed_from Command blanks (c ∷ cs) ≡ passed_through result blanks cs }
 {
     match c {
@@ -220,15 +220,15 @@ fn next_place(place: Place, c: char, blanks: bool) -> Option<Place>
     ensures { (cs : List ℕ) → passed_from place blanks (c ∷ cs) ≡ passed_through result blanks cs }
 {
     match place {
-        Place::Outside => behind_character(c, blanks),
-        Place::Escape => behind_escape(c),
-        Place::Control => behind_control(c),
-        Place::Command => behind_command(c),
+        Place::Outside => after_character(c, blanks),
+        Place::Escape => after_escape(c),
+        Place::Control => after_control(c),
+        Place::Command => after_command(c),
         Place::CommandEscape => {
             if c == '\\' {
                 Some(Place::Outside)
             } else {
-                behind_command(c)
+                after_command(c)
             }
         }
     }
@@ -254,7 +254,7 @@ fn walk_passes(text: &str, blanks: bool) -> bool
 pub(crate) fn is_passed(text: &str, blanks: bool) -> bool
     ensures { result ≡ are_passed blanks (tokens (chars text.now)) }
 {
-    let rest = behind_front(text, blanks);
+    let rest = after_front(text, blanks);
     !begins_seen(rest) && walk_passes(rest, blanks)
 }
 

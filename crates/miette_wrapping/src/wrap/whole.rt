@@ -131,10 +131,10 @@ fn push_further<S: Sink>(
         if len == rest.len() {
             return push_last(out, indent, line.is_white, rest);
         }
-        let (fed, behind) = cut_line(rest, len);
+        let (fed, after) = cut_line(rest, len);
         push_indent(out, indent, printed, line.is_white)?;
         out.push_str(fed)?;
-        rest = behind;
+        rest = after;
     }
 }
 
@@ -184,8 +184,8 @@ pub(crate) fn push_whole<S: Sink>(
     }
     // the indents of most texts are less than half of them
     out.reserve(' ', text.len() + text.len() / 2 + ROOM)?;
-    let (fed, behind) = cut_line(text, len);
+    let (fed, after) = cut_line(text, len);
     push_indent(out, first, None, line.is_white)?;
     out.push_str(fed)?;
-    push_printed(out, alloc, further, behind)
+    push_printed(out, alloc, further, after)
 }

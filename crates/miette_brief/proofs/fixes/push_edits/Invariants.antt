@@ -1,7 +1,7 @@
 use Rattle.std.proofs.Common.{◌≡◌, ◌++◌, false, length, map, string_bytes, drop}
 use Rattle.std.specs.Option.{option_copied}
 use Rattle.std.specs.List.{list_any}
-use Rattle.miette_fixes.specs.rules.Edits.{ends_behind}
+use Rattle.miette_fixes.specs.rules.Edits.{ends_after}
 use Rattle.miette_fixes.specs.views.Ordered.{edits_of}
 use Rattle.miette_brief.specs.rules.Fixes.{edit_row}
 use Rattle.miette_brief.specs.rules.Rows.{rows_text}
@@ -13,5 +13,5 @@ invariant-loop-edit l = record {
       ++ rows_text (map (edit_row (option_copied l.text.name) l.text.lines.now) (edits_of (drop l.edit-index l.edits)))
       ≡ string_bytes l.fn.out
       ++ rows_text (map (edit_row (option_copied l.text.name) l.text.lines.now) (edits_of l.edits));
-  inside : list_any (ends_behind (length l.text.lines.now)) (edits_of (drop l.edit-index l.edits)) ≡ false;
+  inside : list_any (ends_after (length l.text.lines.now)) (edits_of (drop l.edit-index l.edits)) ≡ false;
 }

@@ -53,17 +53,17 @@ returns-in-Some c =
     let code = c.first_character-code.result.0 in
     let size = c.first_character-code.result.1 in
     let next = is_next c.args.text.now bytes code size c.loop-bytes-test.true c.first_character-code.ensures in
-    let behind : from.bytes < bytes = search rules in
+    let after : from.bytes < bytes = search rules in
     let some : overlap_between c.loop-bytes.before c.loop-bytes.last c.loop-bytes.is_half code
     ≡ Some c.in-Some.overlap =
     search rules in
     let at : c.in_ok-place.place.bytes ≡ bytes = c.in_ok-place.ensures.bytes in (
       is_next_place c.args.text.now from c.in_ok-place.place (string_bytes c.loop-bytes.over) _ code
           size c.loop-bytes.widths bytes c.loop-bytes.before c.loop-bytes.last c.loop-bytes.is_half c.in-Some.overlap
-          c.requires c.loop-bytes.invariant.since next.first (c.loop-bytes.invariant.last behind)
+          c.requires c.loop-bytes.invariant.since next.first (c.loop-bytes.invariant.last after)
           c.loop-bytes.invariant.before c.loop-bytes.invariant.flags some
           at c.in_ok-place.ensures.widths c.in_ok-place.ensures.overlap
           (c.in_ok-place.ensures.column ∙ ap (λ t. (from.column + str_width false (chars t)) - from.twice)
           c.as_str.ensures.value) c.in_ok-place.ensures.twice,
-      omega (arith, at, behind),
+      omega (arith, at, after),
     )

@@ -8,7 +8,7 @@ pub loop-trail-preserved : goal.loop-trail-preserved
 loop-trail-preserved c =
     let P = IsTrail c.args.text.now in
     let l = c.loop-trail in (
-      c.behind_first-trail.ensures.trail,
+      c.after_first-trail.ensures.trail,
       elim c.if-trail-next.branch [
         | then-trail-next+in_ok-push w ↦ All-same P _ _ (ap (λ v. v.items) w.trails-is ∙ w.in_ok-push.ensures.items)
             (All-push P l.trails.items l.trail l.invariant.1 l.invariant.0)

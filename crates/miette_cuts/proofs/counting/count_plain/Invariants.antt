@@ -4,7 +4,7 @@ use Rattle.miette_cells.specs.rules.Cells.{Cell}
 use Rattle.miette_cells.specs.views.Printable.{is_printable, plain_cells}
 use Rattle.miette_cuts.specs.steps.Counting.{whole_count}
 use Rattle.miette_cuts.specs.steps.Nearness.{near_by}
-use Rattle.miette_cuts.proofs.CountedColumns.{cells_behind}
+use Rattle.miette_cuts.proofs.CountedColumns.{cells_after}
 use Rattle.miette_cuts.proofs.counting.count_plain.Given as goal
 
 abbrev pub invariant-loop-column : goal.invariant-loop-column
@@ -14,7 +14,7 @@ invariant-loop-column l = record {
   from : l.plain.from ≤ l.column;
   told : (bytes : List ℕ) (rest : List Cell) → list_all is_printable bytes ≡ true → length bytes ≡ l.plain.many →
       whole_count l.room.dots (near_by l.fn.nearness.room l.fn.nearness.ends) l.count
-      (cells_behind l.plain bytes rest l.column)
+      (cells_after l.plain bytes rest l.column)
       ≡ whole_count l.room.dots (near_by l.fn.nearness.room l.fn.nearness.ends) l.fn.count
       (plain_cells l.plain.start l.plain.from bytes ++ rest);
 }

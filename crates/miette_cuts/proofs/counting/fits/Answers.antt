@@ -6,7 +6,7 @@ use Rattle.miette_cuts.specs.steps.Counting.{whole_count}
 use Rattle.miette_cuts.specs.steps.Nearness.{LineEnds, near_by}
 use Rattle.miette_cuts.specs.steps.Windows.{StandTogether}
 use Rattle.miette_cuts.proofs.CountedColumns.{counts_plain, line_counted, line_done, line_more, line_over}
-use Rattle.miette_cuts.proofs.WindowColumns.{line_past, stand_behind, stand_later}
+use Rattle.miette_cuts.proofs.WindowColumns.{line_past, stand_after, stand_later}
 use Rattle.miette_cuts.proofs.counting.fits.Goals as goal
 
 pub loop-cell-init : goal.loop-cell-init
@@ -15,7 +15,7 @@ loop-cell-init c =
     let none : Count = record { shown = 0; passed = c.args.window.now.column } in
     record {
       nearness = c.in_ok-count.ensures.same ∙ c.new-nearness.ensures;
-      stands = stand_behind c.in_ok-plain.plain c.copy-walk.result c.pass_plain.new.self c.in_ok-plain.ensures.passed
+      stands = stand_after c.in_ok-plain.plain c.copy-walk.result c.pass_plain.new.self c.in_ok-plain.ensures.passed
           (subst (λ (cs : List Cell). StandTogether cs) (sym c.copy-walk.ensures) c.requires.stands);
       counted = line_counted line.room.dots (near_by line.room line.ends) line.room.limit c.in_ok-plain.plain
           c.copy-walk.result c.pass_plain.new.self none c.in_ok-count.count _ c.in_ok-plain.ensures.passed
@@ -31,7 +31,7 @@ loop-cell-preserved c =
     let same : c.count_cell.new.nearness ≡ line = c.in_ok-next.ensures.same ∙ c.loop-cell.invariant.nearness in
     record {
       nearness = c.in_ok-count-2.ensures.same ∙ same;
-      stands = stand_behind c.in_ok-plain-2.plain c.next.new.self c.pass_plain-in-Some.new.self
+      stands = stand_after c.in_ok-plain-2.plain c.next.new.self c.pass_plain-in-Some.new.self
           c.in_ok-plain-2.ensures.passed (stand_later (cell_of c.in-Some.cell) c.loop-cell.walk c.next.new.self step
           c.loop-cell.invariant.stands);
       counted = line_counted line.room.dots (near_by line.room line.ends) line.room.limit c.in_ok-plain-2.plain

@@ -18,8 +18,8 @@ returns c =
     (cell_of c.in-Some.cell)) (cell_of c.in-Some.cell) = c.lone_stretch-first.ensures.lone
     ∙ ap (λ (v : LineEnds). lone (passes_after (near_by v.room v.ends) false (cell_of c.in-Some.cell))
     (cell_of c.in-Some.cell)) c.new-nearness.ensures in
-    IfOk-weaker c.stretches_behind.result _ _ (λ _ h. h
+    IfOk-weaker c.stretches_after.result _ _ (λ _ h. h
     ∙ ap (λ (v : LineEnds). onto_made c.lone_stretch-first.result (map measure
     (stretches (near_by v.room v.ends) c.lone_stretch-first.result.shown c.next.new.self))) same
     ∙ first_stretch (near_by c.args.room.now c.args.ends.now) false (cell_of c.in-Some.cell)
-    c.args.walk c.next.new.self c.lone_stretch-first.result step first) c.stretches_behind.ensures
+    c.args.walk c.next.new.self c.lone_stretch-first.result step first) c.stretches_after.ensures

@@ -168,7 +168,7 @@ loop-at-preserved g c =
     c.in_ok-push_line_or_break.ensures in
     let sums : c.in_ok-number.number + 1 ≡ c.args.body.now.before + (c.loop-at.place + 1) + 1 =
     omega (arith, c.in_ok-number.ensures) in
-    let behind = subst (λ (n : ℕ). AreLined (left_out (settings_of body.frame.settings) body.before
+    let after = subst (λ (n : ℕ). AreLined (left_out (settings_of body.frame.settings) body.before
     (lines_from body.start body.bytes.now) (map spread_of c.args.body.now.spreads.now))
     c.leaves_out-left_out.result (settings_of body.frame.settings) body.frame.number_width
     body.gutter (map drawn_of placed) body.start body.bytes.now (body.before + 1)
@@ -204,7 +204,7 @@ loop-at-preserved g c =
           (λ k other h. next_outs start bytes spreads folds c.args.body.now.frame.settings.layout.now.label_lines place
           l jumps passed (λ t. sym is ∙ c.may_pass.ensures.out t) k other
           (subst (λ (x : LineStart). IsBetween near x k other) c.next_start-next.ensures h))
-          behind;
+          after;
       before = subst (λ (x : LineStart). c.leaves_out-left_out.result
           ≡ leaves_out c.args.body.now.frame.settings.layout.now.label_lines (lines_from start bytes)
           (map spread_of spreads) (x.place - 1) (line_at (lines_from start bytes) (x.place - 1)))

@@ -32,9 +32,9 @@ loop-edit-preserved c =
     let items : drop i edits ≡ c.edit-item.result ∷ drop (i + 1) edits =
     item_first edits i c.edit-item.result c.loop-edit-test.true c.edit-item.is in
     let start : c.into.result ≡ c.in_ok-offset.offset = search rules in
-    let behind : c.in_ok-old.old ≡ end_of edit =
+    let after : c.in_ok-old.old ≡ end_of edit =
     c.in_ok-old.ensures ∙ ap₂ (λ n k. n + k) c.offset-in-loop-edit.ensures c.len.ensures in
-    ap (λ n. c.push.new.self.items ++ inserted_from n c.in_ok-new.new es) behind
+    ap (λ n. c.push.new.self.items ++ inserted_from n c.in_ok-new.new es) after
     ∙ inserted_more made _ c.push.new.self.items c.loop-edit.old c.loop-edit.new c.in_ok-offset.offset c.in_ok-new.new
     edit es c.new.result
     (c.in_ok-offset.ensures ∙ ap (λ n. c.loop-edit.new + n) (c.saturating_sub.ensures

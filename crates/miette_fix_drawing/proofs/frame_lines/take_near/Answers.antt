@@ -1,5 +1,5 @@
 use Rattle.std.proofs.Common.{◌≡◌, ◌+◌, ap, subst, sym, ◌∙◌, ◌∷◌, ◌++◌, drop, true, false, arith}
-use Rattle.miette_fix_rows.specs.rules.DiffFrames.{behind_hunk, frames_from, is_near}
+use Rattle.miette_fix_rows.specs.rules.DiffFrames.{after_hunk, frames_from, is_near}
 use Rattle.miette_fix_rows.specs.laws.Frames.{past_lines}
 use Rattle.miette_fix_drawing.specs.steps.Framing.{IsFar}
 use Rattle.miette_fix_drawing.specs.views.Hunks.{hunk_of, hunks_of}
@@ -21,10 +21,10 @@ loop-i-preserved c =
     (omega (arith, c.loop-i-test.true, c.loop-i.auto.i-end))
     c.index-hunks-i.is) in
     record {
-      lines = λ behind. near_lines context behind hunk more made next near c.in_ok-push_hunk.ensures
-          ∙ ap (λ hs. made ++ behind_hunk context behind hs) (sym items) ∙ c.loop-i.invariant.lines behind;
-      frames = λ behind at. near_standing context behind at hunk more made next near c.in_ok-push_hunk.ensures
-          ∙ ap (frames_from context behind true (past_lines at made)) (sym items) ∙ c.loop-i.invariant.frames behind at;
+      lines = λ after. near_lines context after hunk more made next near c.in_ok-push_hunk.ensures
+          ∙ ap (λ hs. made ++ after_hunk context after hs) (sym items) ∙ c.loop-i.invariant.lines after;
+      frames = λ after at. near_standing context after at hunk more made next near c.in_ok-push_hunk.ensures
+          ∙ ap (frames_from context after true (past_lines at made)) (sym items) ∙ c.loop-i.invariant.frames after at;
     }
 
 pub returns-then-not-is_near-clause-lines : goal.returns-then-not-is_near-clause-lines

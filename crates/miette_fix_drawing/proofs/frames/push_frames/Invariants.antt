@@ -13,10 +13,10 @@ use Rattle.miette_fix_drawing.proofs.frames.push_frames.Given as goal
 abbrev pub invariant-loop-done : goal.invariant-loop-done
 invariant-loop-done g l = record {
   rows : l.page ⊕ rows_tokens (drawn_frames l.drawing
-      (frames_from l.drawing.settings.layout.now.context_lines (line_texts l.behind) false (standing_of l.progress.at)
-      (hunks_of (drop l.done l.hunks))))
+      (frames_from l.drawing.settings.layout.now.context_lines (line_texts l.kept_after) false
+      (standing_of l.progress.at) (hunks_of (drop l.done l.hunks))))
       ≡ l.fn.page ⊕ rows_tokens (drawn_frames l.drawing
-      (frames_from l.drawing.settings.layout.now.context_lines (line_texts l.behind) false start_standing
+      (frames_from l.drawing.settings.layout.now.context_lines (line_texts l.kept_after) false start_standing
       (hunks_of l.hunks)));
   within : l.done ≤ length l.hunks;
   cursor : IsCursor g.S.SourceCode.source l.drawing.source.now l.progress.cursor;

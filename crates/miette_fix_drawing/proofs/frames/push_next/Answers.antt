@@ -8,7 +8,7 @@ use Rattle.miette_fix_drawing.specs.views.Frames.{frame_of}
 use Rattle.miette_fix_drawing.specs.views.Hunks.{hunk_of, hunks_of}
 use Rattle.miette_fix_drawing.specs.views.Standings.{standing_of}
 use Rattle.miette_fix_drawing.proofs.FrameRows.{frames_go_on}
-use Rattle.miette_fix_drawing.proofs.Framing.{item_first, left_behind}
+use Rattle.miette_fix_drawing.proofs.Framing.{item_first, left_after}
 use Rattle.miette_fix_drawing.proofs.frames.push_next.Goals as goal
 
 pub returns-clause-rows : goal.returns-clause-rows
@@ -20,14 +20,15 @@ returns-clause-rows g c =
     ∙ ap (λ x. c.index-hunks-0.result ∷ x) (sym (take_rest hunks 1))) in
     let later : hunks_of (drop taken (take (length hunks - 1) (drop 1 hunks))) ≡ hunks_of (drop (taken + 1) hunks) =
     let sum : 1 + taken ≡ taken + 1 = omega arith in
-    ap hunks_of (left_behind hunks 1 taken ∙ ap (λ n. drop n hunks) sum) in
-    frames_go_on c.args.drawing.now c.args.drawing.now.settings.layout.now.context_lines (line_texts c.args.behind.now)
-    (standing_of c.args.progress.now.at) (standing_of c.next_frame.new.progress.at) (hunk_of c.index-hunks-0.result)
+    ap hunks_of (left_after hunks 1 taken ∙ ap (λ n. drop n hunks) sum) in
+    frames_go_on c.args.drawing.now c.args.drawing.now.settings.layout.now.context_lines
+    (line_texts c.args.kept_after.now) (standing_of c.args.progress.now.at)
+    (standing_of c.next_frame.new.progress.at) (hunk_of c.index-hunks-0.result)
     (hunks_of (take (length hunks - 1) (drop 1 hunks))) (hunks_of (drop (taken + 1) hunks)) (hunks_of hunks)
     (frame_of c.in_ok-frame.frame) c.args.page.now c.push_frame.new.page items c.in_ok-frame.ensures.frame
     (c.in_ok-frame.ensures.rest
-    ∙ ap (λ hs. frames_from c.args.drawing.now.settings.layout.now.context_lines (line_texts c.args.behind.now) false
-    (standing_of c.next_frame.new.progress.at) hs) later) c.in_ok-push_frame.ensures
+    ∙ ap (λ hs. frames_from c.args.drawing.now.settings.layout.now.context_lines (line_texts c.args.kept_after.now)
+    false (standing_of c.next_frame.new.progress.at) hs) later) c.in_ok-push_frame.ensures
 
 pub next_frame-requires-clause-stands : goal.next_frame-requires-clause-stands
 next_frame-requires-clause-stands g c =

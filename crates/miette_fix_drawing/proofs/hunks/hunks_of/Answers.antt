@@ -3,7 +3,7 @@ use Rattle.std.proofs.lemmas.List.{drop-drop, length-drop, take_all}
 use Rattle.miette_fix_rows.specs.rules.Hunks.{diff_from}
 use Rattle.miette_fix_drawing.specs.steps.Rising.{AreRising, joined, joined_end}
 use Rattle.miette_fix_drawing.specs.views.Hunks.{hunks_of}
-use Rattle.miette_fix_drawing.proofs.HunkLists.{behind_put, first_from, first_within, from_first, hunk_put, rising_put}
+use Rattle.miette_fix_drawing.proofs.HunkLists.{after_put, first_from, first_within, from_first, hunk_put, rising_put}
 use Rattle.miette_fix_drawing.proofs.HunkPlaces.{stand_put}
 use Rattle.miette_fix_drawing.proofs.hunks.hunks_of.Goals as goal
 
@@ -38,8 +38,8 @@ loop-low-preserved c =
       stand = stand_put source c.loop-low.at c.from-from.result c.loop-low.list.items c.push.new.self.items _
           (omega (arith, first.0, f)) (omega (arith, first.1, f)) refl refl c.loop-low.invariant.stand
           c.in_ok-push.ensures.items;
-      behind = ap (λ cs. (diff_from source c.joined-many.result.1 cs).behind) (sym more)
-          ∙ behind_put source c.loop-low.at c.from-from.result n c.joined-many.result.1 xs (diff_from source 0 all)
+      behind = ap (λ cs. (diff_from source c.joined-many.result.1 cs).after_hunks) (sym more)
+          ∙ after_put source c.loop-low.at c.from-from.result n c.joined-many.result.1 xs (diff_from source 0 all)
           c.loop-low.invariant.rising some f many last
           c.loop-low.invariant.behind;
     }

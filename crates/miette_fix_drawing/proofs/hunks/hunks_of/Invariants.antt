@@ -13,7 +13,7 @@ invariant-loop-low l = record {
   hunks : hunks_of l.list.items ++ (diff_from l.source l.at (drop l.low l.changes)).hunks
       ≡ (diff_from l.source 0 l.changes).hunks;
   stand : AllByRecursion (StandsIn l.source) l.list.items;
-  behind : (diff_from l.source l.at (drop l.low l.changes)).behind ≡ (diff_from l.source 0 l.changes).behind;
+  behind : (diff_from l.source l.at (drop l.low l.changes)).after_hunks ≡ (diff_from l.source 0 l.changes).after_hunks;
 }
 
 abbrev pub decreases-loop-low : goal.decreases-loop-low

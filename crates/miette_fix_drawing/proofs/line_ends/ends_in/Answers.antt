@@ -4,7 +4,7 @@ use Rattle.std.proofs.lemmas.List.{at_drop_all}
 use Rattle.miette_protocol.specs.rules.Reading.{Span}
 use Rattle.miette_fix_rows.specs.rules.DiffTexts.{is_on}
 use Rattle.miette_fix_drawing.specs.steps.Ends.{all_ends, span_ends}
-use Rattle.miette_fix_drawing.proofs.Apart.{nothing_behind, on_before}
+use Rattle.miette_fix_drawing.proofs.Apart.{nothing_after, on_before}
 use Rattle.miette_fix_drawing.proofs.LineEnds.{ends_end, ends_more}
 use Rattle.miette_fix_drawing.proofs.line_ends.ends_in.Goals as goal
 
@@ -26,7 +26,7 @@ returns-then-end-offset c =
     let own : List Span → List ℕ = λ ss. all_ends c.args.columns.now start (length line) (filter (is_on start line) ss)
     in
     ends_end c.loop-span.ends.items _ _
-    (nothing_behind own (start + length line) refl
+    (nothing_after own (start + length line) refl
     (λ s ss lt. ap (all_ends c.args.columns.now start (length line)) (on_before start line s ss lt))
     c.args.line.now.spans.now c.loop-span.span-index c.span-item.result c.requires.apart c.loop-span-test.true
     (subst (λ (n : ℕ). start + length line < n) (c.offset.ensures ∙ ap (λ (s : Span). s.offset) c.span-item.is)

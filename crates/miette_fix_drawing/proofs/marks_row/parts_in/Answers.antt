@@ -2,7 +2,7 @@ use Rattle.std.proofs.Common.{ℕ, ◌+◌, ◌<◌, ◌∙◌, ap, length, refl
 use Rattle.std.proofs.lemmas.List.{at_drop_all}
 use Rattle.miette_protocol.specs.rules.Reading.{Span}
 use Rattle.miette_fix_rows.specs.rules.DiffTexts.{part_in, parts_in}
-use Rattle.miette_fix_drawing.proofs.Apart.{nothing_behind, parts_before}
+use Rattle.miette_fix_drawing.proofs.Apart.{nothing_after, parts_before}
 use Rattle.miette_fix_drawing.proofs.MarkRows.{parts_end, parts_more}
 use Rattle.miette_fix_drawing.proofs.marks_row.parts_in.Goals as goal
 
@@ -21,7 +21,7 @@ returns-then-end-offset c =
     let bytes : ℕ = length c.args.line.now.text.now in
     let style = c.args.line.now.style in
     parts_end c.loop-span.parts.items _ _
-    (nothing_behind (parts_in start bytes style) (start + bytes) refl (parts_before start bytes style)
+    (nothing_after (parts_in start bytes style) (start + bytes) refl (parts_before start bytes style)
     c.args.line.now.spans.now c.loop-span.span-index c.span-item.result c.requires.apart c.loop-span-test.true
     (subst (λ (n : ℕ). start + bytes < n) (c.offset.ensures ∙ ap (λ (s : Span). s.offset) c.span-item.is)
     c.if-end-offset.true))

@@ -8,8 +8,8 @@ use Rattle.miette_fix_drawing.specs.steps.Pieces.{told}
 use Rattle.miette_fix_drawing.proofs.PaintedCells.{come_next, painted_next}
 use Rattle.miette_fix_drawing.proofs.paint.pieces_of.Goals as goal
 
-pub pieces_behind-requires-clause-come : goal.pieces_behind-requires-clause-come
-pieces_behind-requires-clause-come c =
+pub pieces_after-requires-clause-come : goal.pieces_after-requires-clause-come
+pieces_after-requires-clause-come c =
     let step : text_cells c.args.text.now ≡ cell_of c.in-Some.cell ∷ c.next.new.self = search rules in
     come_next (cell_of c.in-Some.cell) (text_cells c.args.text.now) c.next.new.self step
     (cells_come width_of c.args.text.now.tab false c.args.text.now.start 0 c.args.text.now.bytes.now)
@@ -17,8 +17,8 @@ pieces_behind-requires-clause-come c =
 pub returns : goal.returns
 returns c =
     let step : text_cells c.args.text.now ≡ cell_of c.in-Some.cell ∷ c.next.new.self = search rules in
-    IfOk-weaker c.pieces_behind.result _ _ (λ _ h. h
+    IfOk-weaker c.pieces_after.result _ _ (λ _ h. h
     ∙ ap (told c.args.style) (painted_next c.args.spans.now c.args.spans.now (cell_of c.in-Some.cell)
     (text_cells c.args.text.now) c.next.new.self c.painted_cell-first.result step
     (cells_come width_of c.args.text.now.tab false c.args.text.now.start 0 c.args.text.now.bytes.now)
-    (λ cell le. refl) c.painted_cell-first.ensures.changed c.painted_cell-first.ensures.bytes)) c.pieces_behind.ensures
+    (λ cell le. refl) c.painted_cell-first.ensures.changed c.painted_cell-first.ensures.bytes)) c.pieces_after.ensures

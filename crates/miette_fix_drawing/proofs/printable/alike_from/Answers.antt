@@ -3,7 +3,7 @@ use Rattle.std.proofs.lemmas.Bool.{le-leb}
 use Rattle.miette_protocol.specs.rules.Reading.{Span}
 use Rattle.miette_fix_rows.specs.rules.DiffTexts.{holds_byte}
 use Rattle.miette_fix_drawing.specs.steps.Printable.{byte_at}
-use Rattle.miette_fix_drawing.proofs.Apart.{any_at, behind_at, ended, held_at, none_at}
+use Rattle.miette_fix_drawing.proofs.Apart.{after_at, any_at, ended, held_at, none_at}
 use Rattle.miette_fix_drawing.proofs.ChangedTexts.{held_in}
 use Rattle.miette_fix_drawing.proofs.printable.alike_from.Goals as goal
 
@@ -19,7 +19,7 @@ loop-span-preserved c = λ x lo.
 pub returns-then-at-start-clause-alike : goal.returns-then-at-start-clause-alike
 returns-then-at-start-clause-alike c = λ x lo lt.
     sym (c.loop-span.invariant x lo)
-    ∙ behind_at (byte_at x) c.args.spans.now c.loop-span.span-index c.span-item.result c.requires.apart
+    ∙ after_at (byte_at x) c.args.spans.now c.loop-span.span-index c.span-item.result c.requires.apart
     c.loop-span-test.true
     (subst (λ (n : ℕ). x + 1 ≤ n) (c.offset-start.ensures ∙ ap (λ (s : Span). s.offset) c.span-item.is)
     (omega (arith, lo, lt, c.min.ensures)))

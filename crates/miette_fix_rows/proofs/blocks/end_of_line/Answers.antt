@@ -1,5 +1,5 @@
 use Rattle.std.proofs.lemmas.List.{take_rest}
-use Rattle.miette_fix_rows.proofs.Places.{line_end_behind, line_end_last}
+use Rattle.miette_fix_rows.proofs.Places.{rest_line_end, line_end_last}
 use Rattle.miette_fix_rows.proofs.blocks.end_of_line.Goals as goal
 
 pub returns-then-offset-source-clause-end : goal.returns-then-offset-source-clause-end
@@ -8,5 +8,5 @@ returns-then-offset-source-clause-end c =
 
 pub returns-clause-end : goal.returns-clause-end
 returns-clause-end c =
-    line_end_behind c.args.source.now _ c.args.offset c.first_line.result c.requires
+    rest_line_end c.args.source.now _ c.args.offset c.first_line.result c.requires
     (take_rest c.args.source.now c.args.offset) c.first_line.ensures

@@ -2,7 +2,7 @@ use Rattle.std.proofs.Common.{map}
 use Rattle.miette_source_lines.specs.views.Walking.{line_of_text}
 use Rattle.miette_folds.specs.views.Spreads.{spread_of}
 use Rattle.miette_folds.specs.views.LeftOut.{lines_of_bytes}
-use Rattle.miette_folds.proofs.HiddenLines.{beside_before, beside_behind}
+use Rattle.miette_folds.proofs.HiddenLines.{beside_after, beside_before}
 use Rattle.miette_folds.proofs.left_out.is_beside_hidden.Goals as goal
 
 pub returns-then-gap : goal.returns-then-gap
@@ -14,5 +14,5 @@ returns-then-gap c = λ labels among before own.
 pub returns : goal.returns
 returns c = λ labels among before own.
     let it = c.args.at.now in
-    beside_behind c.args.limit (lines_of_bytes it) _ (map spread_of labels) it.place (line_of_text it.line) c.args.gap
+    beside_after c.args.limit (lines_of_bytes it) _ (map spread_of labels) it.place (line_of_text it.line) c.args.gap
     c.is_next_hidden.result c.requires.there before own c.if-gap.false (c.is_next_hidden.ensures labels among)

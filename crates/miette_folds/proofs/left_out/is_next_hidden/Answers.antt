@@ -7,8 +7,8 @@ use Rattle.miette_snippet_rules.proofs.NeverHidden.{none_hidden}
 use Rattle.miette_folds.proofs.HiddenLines.{next_is, none_is}
 use Rattle.miette_folds.proofs.left_out.is_next_hidden.Goals as goal
 
-pub returns-then-behind-at : goal.returns-then-behind-at
-returns-then-behind-at c = λ labels among.
+pub returns-then-after-at : goal.returns-then-after-at
+returns-then-after-at c = λ labels among.
     let it = c.args.at.now in
     c.is_hidden.ensures it.start it.bytes.now labels among
     ∙ ap (is_hidden c.args.limit (lines_of_bytes it) (map spread_of labels) (it.place + 1))
@@ -19,5 +19,5 @@ pub returns : goal.returns
 returns c = λ labels among.
     let it = c.args.at.now in
     sym (ap (is_hidden c.args.limit (lines_of_bytes it) (map spread_of labels) (it.place + 1))
-    (none_is it.start it.bytes.now it.place (line_of_text it.line) c.if-behind-at.false c.requires.there)
+    (none_is it.start it.bytes.now it.place (line_of_text it.line) c.if-after-at.false c.requires.there)
     ∙ none_hidden c.args.limit (lines_of_bytes it) (map spread_of labels) (it.place + 1))

@@ -7,9 +7,9 @@ use Rattle.miette_folds.proofs.spreads.line_from_front.Goals as goal
 
 pub returns : goal.returns
 returns c =
-    IfOk-weaker c.line_behind.result (λ line. line ≡ c.args.contents.now.line + c.line_of.result)
+    IfOk-weaker c.line_after.result (λ line. line ≡ c.args.contents.now.line + c.line_of.result)
     (IsLineIn c.args.contents.now c.args.offset)
     (λ line e. front_is c.args.contents.now c.args.offset c.bytes_before.result c.line_of.result line
     c.bytes_before.ensures
     (c.line_of.ensures ∙ ap (λ (xs : List ℕ). line_of xs c.bytes_before.result) c.data.ensures) e)
-    c.line_behind.ensures
+    c.line_after.ensures

@@ -7,6 +7,6 @@ use Rattle.miette_frames.proofs.label_text.push_part.Goals as goal
 pub returns : goal.returns
 returns g c =
     on_ok_weaker c.end_row.result (λ h.
-    part_put (record { start = 0; after = 0; style = c.args.style; parts = []; behind = false }) c.args.bar
+    part_put (record { start = 0; after = 0; style = c.args.style; parts = []; after_text = false }) c.args.bar
     (chars c.args.part.now) c.args.page.now c.push_line.new.self c.push_str.new.self c.end_row.new.self
     c.in_ok-push_line.ensures c.in_ok-push_str.ensures h) c.end_row.ensures

@@ -13,7 +13,7 @@ pub loop-mark-preserved : goal.loop-mark-preserved
 loop-mark-preserved g c =
     ap (λ n. c.push_line.new.self ⊕ row_tokens (lead_runs (settings c.args.context.now)
     n (map mark_of (drop (c.loop-mark.mark-index + 1) c.args.earlier.now))
-    c.args.column)) c.behind_anchor-reached.ensures
+    c.args.column)) c.after_anchor-reached.ensures
     ∙ lead_more (settings c.args.context.now)
     c.args.earlier.now c.loop-mark.mark-index c.loop-mark.reached c.saturating_sub.result _ c.args.column no_mark
     c.loop-mark.page c.push_blank.new.self c.push_line.new.self _ c.loop-mark-test.true refl c.saturating_sub.ensures

@@ -1,7 +1,7 @@
 use Rattle.std.proofs.Common.{◌≡◌, ◌≤◌, ◌-◌, ◌∙◌, ap, length, subst, ℕ}
 use Rattle.miette_protocol.specs.rules.Reading.{Source, Span}
 use Rattle.miette_label_rules.specs.rules.Contexts.{contents}
-use Rattle.miette_layout.proofs.AskedEnds.{refused_there, told_behind, told_first}
+use Rattle.miette_layout.proofs.AskedEnds.{refused_there, told_after, told_first}
 use Rattle.miette_layout.proofs.ends.ends_at.Goals as goal
 
 pub returns-then-before-gt0 : goal.returns-then-before-gt0
@@ -10,7 +10,7 @@ returns-then-before-gt0 g c =
     let offset : ℕ = c.args.offset in
     let placed : c.new-place.result ≡ record { offset = offset; len = 0 } =
     c.new-place.ensures ∙ ap (λ o. record { offset = o; len = 0 }) c.from.ensures in
-    told_behind source offset c.saturating_sub-before.result c.len.result c.in-Ok.contents
+    told_after source offset c.saturating_sub-before.result c.len.result c.in-Ok.contents
     (subst (λ (s : Span). s.offset ≤ length source.bytes) placed c.in-Ok.ensures.0.begins)
     (c.in-Ok.ensures.1 ∙ ap (contents 1 source) placed)
     (c.saturating_sub-before.ensures

@@ -27,8 +27,9 @@ use Rattle.miette_layout.proofs.SnippetSequence.{placed_rise, place_ordered, gro
 use Rattle.miette_layout.proofs.SnippetSequence.{gives_unread}
 use Rattle.miette_layout.proofs.snippets.read_snippets.Goals as goal
 
-pub near-requires : goal.near-requires
-near-requires g c = reads_rise c.args.settings.now.layout.now.context_lines (g.S.SourceCode.source c.args.source.now)
+pub reads_near-requires : goal.reads_near-requires
+reads_near-requires g c =
+    reads_rise c.args.settings.now.layout.now.context_lines (g.S.SourceCode.source c.args.source.now)
     c.args.given.now.labels.now c.args.given.now.reads.now c.requires.order c.requires.each
 
 pub place_of-requires-clause-first : goal.place_of-requires-clause-first

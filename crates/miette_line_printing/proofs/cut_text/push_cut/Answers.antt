@@ -7,12 +7,12 @@ use Rattle.miette_line_printing.proofs.cut_text.push_cut.Goals as goal
 
 pub loop-stretch-preserved : goal.loop-stretch-preserved
 loop-stretch-preserved g c =
-    cut_more (dots (theme_of c.args.theme.now)) (map highlight_of c.pieces_behind-behind.result.pieces.now)
+    cut_more (dots (theme_of c.args.theme.now)) (map highlight_of c.pieces_after-after.result.pieces.now)
     c.args.cut.now c.loop-stretch.stretch-index
-    c.pieces_behind-behind.result.before c.in_ok-before.before _ c.loop-stretch.walk c.push_stretch.new.walk
+    c.pieces_after-after.result.before c.in_ok-before.before _ c.loop-stretch.walk c.push_stretch.new.walk
     c.loop-stretch.page c.push_stretch.new.page _ c.loop-stretch-test.true
     c.in_ok-push_stretch.ensures.told c.in_ok-push_stretch.ensures.later c.in_ok-before.ensures
-    (c.pieces_behind-behind.ensures (dots (theme_of c.args.theme.now))
+    (c.pieces_after-after.ensures (dots (theme_of c.args.theme.now))
     (drop c.loop-stretch.stretch-index c.args.cut.now) c.loop-stretch.walk c.loop-stretch.page
     ∙ c.loop-stretch.invariant)
 

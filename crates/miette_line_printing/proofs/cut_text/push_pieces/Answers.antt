@@ -13,10 +13,10 @@ returns-then-bytes-eq0-clause-told g c =
 pub loop-piece-preserved : goal.loop-piece-preserved
 loop-piece-preserved g c = record {
   told = piece_cut c.args.all.now.pieces.now c.loop-piece.piece-index c.loop-piece.before c.loop-piece.bytes
-      c.saturating_sub-behind.result c.min.result _ (take c.loop-piece.many c.loop-piece.walk)
+      c.saturating_sub-after.result c.min.result _ (take c.loop-piece.many c.loop-piece.walk)
       (take c.in_ok-many.many c.push_some.new.walk)
       c.loop-piece.page c.begin.new.self c.push_some.new.page _ c.saturating_sub-before.result
-      c.saturating_sub-bytes.result c.loop-piece-test.true c.saturating_sub-behind.ensures c.min.ensures
+      c.saturating_sub-bytes.result c.loop-piece-test.true c.saturating_sub-after.ensures c.min.ensures
       c.saturating_sub-before.ensures c.saturating_sub-bytes.ensures
       c.in_ok-begin.ensures c.in_ok-many.ensures.within c.in_ok-many.ensures.beyond c.loop-piece.invariant.told;
   later = c.in_ok-many.ensures.later ∙ c.loop-piece.invariant.later;

@@ -8,10 +8,10 @@ use Rattle.std.specs.Fmt.{digits}
 use Rattle.std.specs.Str.{chars, is_utf8}
 use Rattle.std.specs.Str.Lossy.{utf8_lossy as lossy, utf8_valid_len as valid}
 use Rattle.miette_json.specs.rules.Json.{numeral}
-use Rattle.miette_sarif_reader.specs.rules.Uris.{behind}
+use Rattle.miette_sarif_reader.specs.rules.Uris.{after_front}
 use Rattle.miette_log_reading_laws.proofs.laws.worked_reports_read_back.Goals as goal
 
 pub returns : goal.returns
 unfolding encoded encoded_byte is_encoded decoded lossy valid numeral digits chars pieces_from escape_byte is_utf8
-    behind lib.Utf8.encode
+    after_front lib.Utf8.encode
 returns c = refl

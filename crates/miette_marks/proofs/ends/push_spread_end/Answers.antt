@@ -11,10 +11,10 @@ returns-then-begins c =
 
 pub returns-then-stops : goal.returns-then-stops
 returns-then-stops c =
-    end_put (line_of_text c.args.line.now) c.args.columns.now c.args.label.now c.in_ok-behind.behind
+    end_put (line_of_text c.args.line.now) c.args.columns.now c.args.label.now c.in_ok-after.after
     c.saturating_sub.result c.args.ends.now.items c.push-then-stops.new.self.items
     (sym c.begins.ensures ∙ c.if-begins.false) (sym c.stops.ensures ∙ c.if-stops.true)
-    c.in_ok-behind.ensures c.saturating_sub.ensures c.in_ok-push-2.ensures.items
+    c.in_ok-after.ensures c.saturating_sub.ensures c.in_ok-push-2.ensures.items
 
 pub returns : goal.returns
 returns c =

@@ -6,7 +6,7 @@ pub loop-row-preserved : goal.loop-row-preserved
 loop-row-preserved c =
     let l = c.loop-row in
     begins_on c.args.rows.now l.row-index c.row-item.result l.rest.now c.loop-row-test.true c.row-item.is
-    c.in-Some.behind.now (search rules) ∙ l.invariant
+    c.in-Some.after.now (search rules) ∙ l.invariant
 
 pub returns-in-None : goal.returns-in-None
 returns-in-None c =

@@ -3,7 +3,7 @@ use Rattle.miette_page.specs.views.Printouts.{printout_of}
 use Rattle.miette_picture_rules.specs.rules.Snippets.{snippet_settings}
 use Rattle.miette_painting.specs.steps.FixSources.{fix_rows_over}
 use Rattle.miette_painting.specs.views.Painting.{settings_of}
-use Rattle.miette_painting.proofs.ShownFixes.{fix_behind, rows_behind}
+use Rattle.miette_painting.proofs.ShownFixes.{fix_after, rows_after}
 use Rattle.miette_painting.proofs.fixes.push_fix.Goals as goal
 
 pub returns-clause-text : goal.returns-clause-text
@@ -12,7 +12,7 @@ returns-clause-text g c = λ source fails given.
     let told = c.push_text.new.painter in
     let rows = fix_rows_over (snippet_settings (settings_of told)) source fails c.args.fix.now.edits in
     let over : c.over-page.result ≡ printout_of told.out = search rules in
-    fix_behind (settings_of old) (settings_of told) source fails c.args.fix.now _ old.out told.out _ c.message.ensures
+    fix_after (settings_of old) (settings_of told) source fails c.args.fix.now _ old.out told.out _ c.message.ensures
     c.in_ok-push_text.ensures.text c.push_text.ensures.stays.0
-    (rows_behind told.out rows c.over-page.result c.push_changes.new.page _ over
+    (rows_after told.out rows c.over-page.result c.push_changes.new.page _ over
     (c.in_ok-push_changes.ensures source fails given) c.in_ok-painter.ensures)

@@ -3,7 +3,7 @@ use Rattle.std.specs.Prelude.{chars}
 use Rattle.miette_wrap_rules.specs.views.Plans.{cuts_hyphens}
 use Rattle.miette_runs.specs.rules.Sequences.{spell}
 use Rattle.miette_painting.specs.views.Painting.{settings_of}
-use Rattle.miette_picture_rules.specs.rules.Indents.{wrapped_behind}
+use Rattle.miette_picture_rules.specs.rules.Indents.{wrapped_after}
 use Rattle.miette_painting.proofs.indents.push_row.Goals as goal
 
 pub returns-clause-fits : goal.returns-clause-fits
@@ -20,5 +20,5 @@ returns-clause-fits g c = λ h further.
       separator = s.wrapping.word_separator;
       hyphens = cuts_hyphens s.wrapping.word_splitter;
     }) refl (sym c.saturating_sub-width.ensures) refl)
-    ∙ append_assoc c.args.painter.now.out (wrapped_behind s (spell c.args.first.now) further (chars c.args.text.now))
+    ∙ append_assoc c.args.painter.now.out (wrapped_after s (spell c.args.first.now) further (chars c.args.text.now))
     (10 ∷ [])

@@ -3,7 +3,7 @@ use Rattle.std.specs.Prelude.{chars}
 use Rattle.std.proofs.lemmas.Result.{on_ok_weaker}
 use Rattle.miette_runs.specs.rules.Runs.{print}
 use Rattle.miette_painting.specs.views.Painting.{settings_of}
-use Rattle.miette_picture_rules.specs.rules.Indents.{wrapped_behind, wrapped_under}
+use Rattle.miette_picture_rules.specs.rules.Indents.{wrapped_after, wrapped_under}
 use Rattle.miette_painting.specs.steps.TextKinds.{initial_indent, subsequent_indent}
 use Rattle.miette_painting.proofs.indents.push_text.Goals as goal
 
@@ -12,7 +12,7 @@ returns-then-branch-clause-text g c =
     let s = settings_of c.args.painter.now in
     let further = print (subsequent_indent s c.args.kind) in
     c.in_ok-push_row.ensures.fits c.if-branch.true further
-    ∙ ap (λ first. c.args.painter.now.out ++ (wrapped_behind s first further (chars c.args.text.now) ++ 10 ∷ []))
+    ∙ ap (λ first. c.args.painter.now.out ++ (wrapped_after s first further (chars c.args.text.now) ++ 10 ∷ []))
     c.in_ok-first.ensures
 
 pub push_rows-requires : goal.push_rows-requires

@@ -4,7 +4,7 @@ use Rattle.miette_tree.specs.views.Report.{tree_of}
 use Rattle.miette_picture_rules.specs.rules.DiagnosticText.{help_text}
 use Rattle.miette_painting.specs.views.PartTexts.{AppendsFixes}
 use Rattle.miette_painting.specs.views.Painting.{settings_of, source_shown}
-use Rattle.miette_painting.proofs.Steps.{own_behind}
+use Rattle.miette_painting.proofs.Steps.{own_after}
 use Rattle.miette_painting.proofs.own.push_own.Goals as goal
 
 pub returns-clause-ok : goal.returns-clause-ok
@@ -14,7 +14,7 @@ returns-clause-ok g c =
     let new = c.push_fixes.new.painter in
     let source = source_shown g.S.SourceCode.source c.args.source in
     let m = head (tree_of g.D.Diagnostic.meaning g.S.SourceCode.source c.args.report.now) in
-    own_behind g.H.Highlighter.is_blank g.H.Highlighter.may_follow source m c.args.painter.now drawn helped new
+    own_after g.H.Highlighter.is_blank g.H.Highlighter.may_follow source m c.args.painter.now drawn helped new
     c.in_ok-push_rows.ensures.ok c.push_rows.ensures.keeps
     (subst (λ o. helped.out ≡ drawn.out ++ help_text (settings_of drawn) o) c.help.ensures
     c.in_ok-push_help.ensures.text) c.push_help.ensures.stays

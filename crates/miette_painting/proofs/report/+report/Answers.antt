@@ -21,8 +21,8 @@ use Rattle.miette_painting.proofs.Remaining.{all_printed, all_remain, cause_prin
 use Rattle.miette_painting.proofs.Remaining.{related_printed, related_under}
 use Rattle.miette_painting.proofs.Painted.{arrow_after, paints_after, paints_before}
 use Rattle.miette_painting.proofs.Sizes.{tree_size, cause_size, trees_size, related_falls}
-use Rattle.miette_painting.proofs.Steps.{cause_texts_behind, no_related_behind, below_behind, inner_whole}
-use Rattle.miette_painting.proofs.Steps.{sibling_behind, first_and_more, one_cause_fails, inner_rows_fail}
+use Rattle.miette_painting.proofs.Steps.{cause_texts_after, no_related_after, below_after, inner_whole}
+use Rattle.miette_painting.proofs.Steps.{sibling_after, first_and_more, one_cause_fails, inner_rows_fail}
 use Rattle.miette_painting.proofs.Steps.{inner_related_fail, sibling_causes_fail, sibling_below_fails}
 use Rattle.miette_painting.proofs.Steps.{one_related_fails}
 use Rattle.miette_painting.proofs.report.+report.Goals as goal
@@ -88,7 +88,7 @@ push_causes-returns-clause-ok g t c =
     all_printed is_blank may (causes_under outer inherited) old now new all left c.loop-next.invariant
     c.push_cause_texts.ensures.stays
     (subst (λ x. AppendsOne (AreCauses outer inherited x (printing s blank was was)) now.out new.out)
-    last (cause_texts_behind s blank was outer inherited ts now.out new.out told))
+    last (cause_texts_after s blank was outer inherited ts now.out new.out told))
 
 pub push_one_cause-returns-clause-ok : goal.push_one_cause-returns-clause-ok
 push_one_cause-returns-clause-ok g t c =
@@ -180,7 +180,7 @@ push_below-returns-clause-ok g t c =
     let source = source_shown g.S.SourceCode.source c.args.source in
     let value = tree_of g.D.Diagnostic.meaning g.S.SourceCode.source c.args.report.now in
     on_ok_weaker c.push_related.result (λ h.
-    below_behind is_blank may source value c.args.painter.now drawn new c.in_ok-push_own.ensures.ok
+    below_after is_blank may source value c.args.painter.now drawn new c.in_ok-push_own.ensures.ok
     c.push_own.ensures.keeps
     (subst (λ v. Paints is_blank may (AreRelated v source (related_of value)) drawn new) c.severity.ensures
     (subst (λ r. Paints is_blank may (AreRelated c.severity.result source r) drawn new) c.related.ensures.value h)))
@@ -210,7 +210,7 @@ push_sibling-returns-clause-ok g t c =
     let caused = c.push_causes.new.painter in
     let source = source_shown g.S.SourceCode.source c.args.source in
     let value = tree_of g.D.Diagnostic.meaning g.S.SourceCode.source c.args.report.now in
-    on_ok_weaker c.push_below.result (sibling_behind is_blank may source value c.args.painter.now told caused
+    on_ok_weaker c.push_below.result (sibling_after is_blank may source value c.args.painter.now told caused
     c.push_below.new.painter c.in_ok-push_sibling_start.ensures.text c.push_sibling_start.ensures.stays
     (subst (λ v. Paints is_blank may (AreCauses v source (cause_of value)) told caused) c.severity.ensures
     c.in_ok-push_causes.ensures.ok) c.push_causes.ensures.keeps) c.push_below.ensures.ok
@@ -307,5 +307,5 @@ push_related-returns-clause-ok g t c =
     let rest = c.loop-rest.rest.now in
     all_printed is_blank may (related_under outer inherited) old now now (trees (map value c.args.reports.now))
     (trees (map value rest)) c.loop-rest.invariant (refl, refl)
-    (no_related_behind (settings_of old) (leaves_plain is_blank old.highlighter) (follows may now.highlighter) outer
+    (no_related_after (settings_of old) (leaves_plain is_blank old.highlighter) (follows may now.highlighter) outer
     inherited value rest now.out c.in_default.len_below)

@@ -5,7 +5,7 @@ use Rattle.miette_picture_rules.specs.rules.Sources.{labelled}
 use Rattle.miette_painting.specs.views.PartTexts.{IsSourceDrawn}
 use Rattle.miette_painting.specs.views.Painting.{printing_of, settings_of, settings_with}
 use Rattle.miette_painting.proofs.DrawnRows.{drawn_unlabelled, empty_list}
-use Rattle.miette_painting.proofs.Steps.{nothing_behind}
+use Rattle.miette_painting.proofs.Steps.{nothing_after}
 use Rattle.miette_painting.proofs.sources.push_shown.Goals as goal
 
 pub returns-in-empty-clause-ok : goal.returns-in-empty-clause-ok
@@ -15,6 +15,6 @@ returns-in-empty-clause-ok g c =
     let s = settings_with (settings_of old) c.args.look.now in
     let source = shown_source g.S.SourceCode.source c.args.source in
     let labels = c.args.labels.now in
-    nothing_behind (IsSourceDrawn s (labelled (Some source) labels) by) old.out
+    nothing_after (IsSourceDrawn s (labelled (Some source) labels) by) old.out
     (drawn_unlabelled by.settings s by.blank (follows g.H.Highlighter.may_follow old.highlighter) source labels
     (empty_list labels c.in-empty.len_below))

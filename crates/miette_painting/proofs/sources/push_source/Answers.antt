@@ -4,7 +4,7 @@ use Rattle.miette_picture_rules.specs.rules.Sources.{labelled}
 use Rattle.miette_painting.specs.views.PartTexts.{IsSourceDrawn}
 use Rattle.miette_painting.specs.views.Painting.{printing_of, settings_of, settings_with, source_shown}
 use Rattle.miette_painting.proofs.DrawnRows.{drawn_nowhere}
-use Rattle.miette_painting.proofs.Steps.{nothing_behind}
+use Rattle.miette_painting.proofs.Steps.{nothing_after}
 use Rattle.miette_painting.proofs.sources.push_source.Goals as goal
 
 pub returns-in-None-clause-ok : goal.returns-in-None-clause-ok
@@ -13,6 +13,6 @@ returns-in-None-clause-ok g c =
     let by = printing_of g.H.Highlighter.is_blank g.H.Highlighter.may_follow old old in
     let s = settings_with (settings_of old) c.args.look.now in
     let labels = c.args.labels.now in
-    nothing_behind (IsSourceDrawn s (labelled (source_shown g.S.SourceCode.source c.args.source) labels) by) old.out
+    nothing_after (IsSourceDrawn s (labelled (source_shown g.S.SourceCode.source c.args.source) labels) by) old.out
     (subst (λ o. IsSourceDrawn s (labelled (source_shown g.S.SourceCode.source o) labels) by []) (sym c.in-None.is)
     (drawn_nowhere by.settings s by.blank (follows g.H.Highlighter.may_follow old.highlighter) labels))

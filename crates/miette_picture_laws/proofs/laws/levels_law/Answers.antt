@@ -1,4 +1,4 @@
-use Rattle.miette_picture_laws.proofs.Barred.{have-room, shipped-bars, stand-behind}
+use Rattle.miette_picture_laws.proofs.Barred.{have-room, shipped-bars, stand-after}
 use Rattle.miette_picture_laws.proofs.Levels.{levels-hold, levels-stand}
 use Rattle.miette_picture_laws.proofs.laws.levels_law.Goals as goal
 
@@ -12,7 +12,7 @@ pub returns-clause-room : goal.returns-clause-room
 returns-clause-room c = λ s arrows rows bars. have-room s arrows rows bars
 
 pub returns-clause-bars : goal.returns-clause-bars
-returns-clause-bars c = λ s arrows rows bars. stand-behind s arrows rows bars
+returns-clause-bars c = λ s arrows rows bars. stand-after s arrows rows bars
 
 pub returns-clause-shipped : goal.returns-clause-shipped
 returns-clause-shipped c = λ s shipped. shipped-bars s shipped

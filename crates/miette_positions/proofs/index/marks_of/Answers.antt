@@ -1,17 +1,17 @@
 use Rattle.std.proofs.Common.{arith}
 use Rattle.std.proofs.lemmas.List.Elements.{All-push, All-same}
 use Rattle.miette_positions.specs.steps.Marks.{IsMark}
-use Rattle.miette_positions.proofs.Passing.{mark_behind}
+use Rattle.miette_positions.proofs.Passing.{mark_after}
 use Rattle.miette_positions.proofs.index.marks_of.Goals as goal
 
 pub loop-next-preserved-then-here-last-ge-APART : goal.loop-next-preserved-then-here-last-ge-APART
 loop-next-preserved-then-here-last-ge-APART c =
     let source = c.args.source.now in
-    let result = c.behind_plain-here.result in
-    let here = mark_behind c.args.encoding source _ c.loop-next.here c.in-Some.next result c.loop-next.invariant.here
+    let result = c.after_plain-here.result in
+    let here = mark_after c.args.encoding source _ c.loop-next.here c.in-Some.next result c.loop-next.invariant.here
     c.in-Some.ensures.next c.in-Some.ensures.within
     (record { offset = c.in-Some.ensures.order; position = c.in-Some.ensures.rise })
-    c.behind_plain-here.ensures.passed in
+    c.after_plain-here.ensures.passed in
     record {
       here = here;
       marks = All-same (IsMark c.args.encoding source) _ _ c.in_ok-push.ensures.items
@@ -23,10 +23,10 @@ loop-next-preserved-then-here-last-ge-APART c =
 pub loop-next-preserved : goal.loop-next-preserved
 loop-next-preserved c =
     record {
-      here = mark_behind c.args.encoding c.args.source.now _ c.loop-next.here c.in-Some.next c.behind_plain-here.result
+      here = mark_after c.args.encoding c.args.source.now _ c.loop-next.here c.in-Some.next c.after_plain-here.result
           c.loop-next.invariant.here c.in-Some.ensures.next c.in-Some.ensures.within
           (record { offset = c.in-Some.ensures.order; position = c.in-Some.ensures.rise })
-          c.behind_plain-here.ensures.passed;
+          c.after_plain-here.ensures.passed;
       marks = c.loop-next.invariant.marks;
-      last = omega (arith, c.loop-next.invariant.last, c.in-Some.ensures.order, c.behind_plain-here.ensures.order);
+      last = omega (arith, c.loop-next.invariant.last, c.in-Some.ensures.order, c.after_plain-here.ensures.order);
     }

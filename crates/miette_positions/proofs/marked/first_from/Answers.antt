@@ -13,9 +13,9 @@ loop-here-preserved c =
     let at = c.args.at in
     let next = c.in-Some.next in
     record {
-      within = c.behind_plain-here.ensures.within;
-      same = sym (first_passed e source (λ s. leb at s.offset) c.saturating_sub.result next c.behind_plain-here.result
-          c.behind_plain-here.ensures.passed
+      within = c.after_plain-here.ensures.within;
+      same = sym (first_passed e source (λ s. leb at s.offset) c.saturating_sub.result next c.after_plain-here.result
+          c.after_plain-here.ensures.passed
           (λ k few. lt-leb at (onward k next).offset (omega (arith, few, c.saturating_sub.ensures))))
           ∙ sym (first_on (λ s. leb at s.offset) c.loop-here.here next (stops_from e source c.loop-here.here)
           (stops_from e source next) c.in-Some.ensures.next (lt-leb at c.loop-here.here.offset c.loop-here-test.true))

@@ -11,9 +11,9 @@ loop-next-preserved c =
     let e = c.args.encoding in
     let next = c.in-Some.next in
     record {
-      within = c.behind_plain-here.ensures.within;
+      within = c.after_plain-here.ensures.within;
       same = sym (last_passed e source (is_reached c.args.target) c.columns_before.result next
-          c.behind_plain-here.result c.behind_plain-here.ensures.passed c.columns_before.ensures)
+          c.after_plain-here.result c.after_plain-here.ensures.passed c.columns_before.ensures)
           ∙ sym (last_on (is_reached c.args.target) c.loop-next.here next (stops_from e source c.loop-next.here)
           (stops_from e source next) c.in-Some.ensures.next (sym c.is_reached.ensures ∙ c.if-not-is_reached.false))
           ∙ c.loop-next.invariant.same;

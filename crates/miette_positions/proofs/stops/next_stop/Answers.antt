@@ -43,7 +43,7 @@ returns-then-is_pair-clause-next c =
     c.character-newline.ensures.code c.character-newline.ensures.size in
     stops_two c.args.encoding source rest left end c.args.from code size newline more c.rest_from-rest.ensures refl f g
     parts.0 (lf_is left end newline more g parts.2)
-    ∙ ap (λ (s : Stop). s ∷ stops_from c.args.encoding source s) (sym c.behind.ensures)
+    ∙ ap (λ (s : Stop). s ∷ stops_from c.args.encoding source s) (sym c.stop_past.ensures)
 
 pub returns-then-is_pair-clause-within : goal.returns-then-is_pair-clause-within
 returns-then-is_pair-clause-within c =
@@ -54,7 +54,7 @@ returns-then-is_pair-clause-within c =
     c.rest_from-rest.ensures in
     let both = part_within source _ (c.args.from.offset + size) more first c.character-newline.ensures.within
     c.rest_from-left.ensures in
-    subst (IsWithin source) (sym c.behind.ensures)
+    subst (IsWithin source) (sym c.stop_past.ensures)
     (within_one c.args.encoding source (moved_by size c.args.from) (made c.character-newline.result.0 more)
     c.character-newline.ensures.some both (within_moved source size c.args.from first c.requires))
 
@@ -70,7 +70,7 @@ returns-clause-next c =
     some c.character-code.ensures.code c.character-code.ensures.size in
     stops_one c.args.encoding source rest left c.args.from code size c.rest_from-rest.ensures c.rest_from-left.ensures f
     (sym c.is_pair.ensures ∙ c.if-is_pair.false)
-    ∙ ap (λ (s : Stop). s ∷ stops_from c.args.encoding source s) (sym c.behind-2.ensures)
+    ∙ ap (λ (s : Stop). s ∷ stops_from c.args.encoding source s) (sym c.stop_past-2.ensures)
 
 pub returns-clause-within : goal.returns-clause-within
 returns-clause-within c =
@@ -78,6 +78,6 @@ returns-clause-within c =
     let size = c.character-code.result.1 in
     let first = part_within source _ c.args.from.offset size c.requires.offset c.character-code.ensures.within
     c.rest_from-rest.ensures in
-    subst (IsWithin source) (sym c.behind-2.ensures)
+    subst (IsWithin source) (sym c.stop_past-2.ensures)
     (within_one c.args.encoding source c.args.from (made c.character-code.result.0 size) c.character-code.ensures.some
     first c.requires)

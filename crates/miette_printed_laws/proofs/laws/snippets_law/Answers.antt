@@ -16,7 +16,7 @@ use Rattle.miette_picture_rules.specs.rules.Answers.{pieces_listed}
 use Rattle.miette_picture_rules.specs.rules.Settings.{Settings}
 use Rattle.miette_printed_laws.specs.laws.Headline.{EndsAreDrawn, LabelsAreFolded, LinesAreShown, MarksAreApart}
 use Rattle.miette_printed_laws.specs.laws.Headline.{TextsHang}
-use Rattle.miette_printed_laws.specs.laws.Headline.{EndsBehind, SnippetHangs, context_of, drawn_labels, groups_of}
+use Rattle.miette_printed_laws.specs.laws.Headline.{EndsAfter, SnippetHangs, context_of, drawn_labels, groups_of}
 use Rattle.miette_printed_laws.specs.laws.Headline.{group_settings, label_settings}
 use Rattle.miette_printed_laws.specs.laws.Headline.{shown_lines, CutsAreExact, LinesThatFitStay, SnippetStays}
 use Rattle.miette_printed_laws.specs.laws.Headline.{cells_under}
@@ -155,14 +155,14 @@ pub returns-clause-ends : goal.returns-clause-ends
 returns-clause-ends c = λ s t. everywhere EndsAreDrawn (λ s p.
     let labels = p.labels in
     if_some _ (λ source.
-    let behind : draws_ends (group_settings s source labels) (length source.bytes) (in_order labels) ≡ true
-    → EndsBehind s source labels = λ drawn. record {
+    let after : draws_ends (group_settings s source labels) (length source.bytes) (in_order labels) ≡ true
+    → EndsAfter s source labels = λ drawn. record {
       lines = c.ends_are_drawn.ensures.lines (group_settings s source labels) source.bytes (in_order labels) drawn;
       marks = λ k pieces. c.ends_are_drawn.ensures.row (snippet_settings s) (drawn_labels s source labels)
           source.bytes (line_of source k) pieces;
     } in (
-      behind,
-      end_shown s source labels behind,
+      after,
+      end_shown s source labels after,
       λ none pieces. ap (λ lines. shown_rows (snippet_rows (record (snippet_settings s) {
         layout = record s.layout { context_lines = lines };
       }) source labels (pieces_listed pieces))) (context_set s source labels none)

@@ -7,8 +7,8 @@ use Rattle.miette_readers.proofs.offering.any_in.Goals as goal
 
 pub returns : goal.returns
 returns c =
-    let behind = λ (e : Bor FileEdit). e.now in
+    let after = λ (e : Bor FileEdit). e.now in
     let edits = c.args.edits.now in
-    any_from_yields_List (λ e. is_in c.args.name.now (behind e)) _ _ _ c.any.ensures.ran
+    any_from_yields_List (λ e. is_in c.args.name.now (after e)) _ _ _ c.any.ensures.ran
     (YieldsList-from_slice edits cc) (λ x b q k. search (rules, tests))
-    ∙ any_of behind (is_in c.args.name.now) edits
+    ∙ any_of after (is_in c.args.name.now) edits

@@ -16,7 +16,7 @@ use Rattle.miette_tool_rows.specs.rules.Parts.{ends_in}
 use Rattle.miette_row_reports.specs.rules.Shown.{passed_on}
 use Rattle.miette_tool_rows.proofs.Beginnings.{all_taken, none_taken}
 use Rattle.miette_row_reports.proofs.Logging as logging
-use Rattle.miette_row_reports.proofs.Logging.{Gathering, one_more_taken, parted_at, parted_behind}
+use Rattle.miette_row_reports.proofs.Logging.{Gathering, one_more_taken, parted_after, parted_at}
 use Rattle.miette_tool_rows.proofs.NoteEnds.{not_failed, on_err_of}
 use Rattle.miette_row_reports.proofs.parts.all_reports.Goals as goal
 
@@ -123,7 +123,7 @@ returns-in_err-pass_on-clause-beginning g c =
     (map tree l.list.items) made (g.E.Write.contents c.args.faults.now.inner) before
     (g.E.Write.contents c.pass_on.new.faults.inner) l.number l.verdict row kind
     (ap (map items_of) (sym c.as_slice-part-items.ensures.value)
-    ∙ parted_behind items_of parts l.part-index c.part-item.result c.loop-part-test.true c.part-item.is)
+    ∙ parted_after items_of parts l.part-index c.part-item.result c.loop-part-test.true c.part-item.is)
     l.invariant.gathering (subst (λ (r : List ℕ). IsRowTrees from files r kind made) slice c.in_ok-kind.ensures.trees)
     taken)
 
@@ -148,7 +148,7 @@ returns-in_err-push_all-clause-beginning g c =
     (map items_of (drop (l.part-index + 1) parts)) (map items_of c.args.held.now.parts.items)
     (map tree l.list.items) made (g.E.Write.contents c.args.faults.now.inner) before later l.number l.verdict row kind
     (ap (map items_of) (sym c.as_slice-part-items.ensures.value)
-    ∙ parted_behind items_of parts l.part-index c.part-item.result c.loop-part-test.true c.part-item.is)
+    ∙ parted_after items_of parts l.part-index c.part-item.result c.loop-part-test.true c.part-item.is)
     l.invariant.gathering (subst (λ (r : List ℕ). IsRowTrees from files r kind made) slice c.in_ok-kind.ensures.trees)
     (all_taken before later (passed_on l.number kind row) said))
 
@@ -173,6 +173,6 @@ returns-in_err-following-clause-beginning g c =
     (map items_of (drop (l.part-index + 1) parts)) (map items_of c.args.held.now.parts.items)
     (map tree l.list.items) made (g.E.Write.contents c.args.faults.now.inner) before later l.number l.verdict row kind
     (ap (map items_of) (sym c.as_slice-part-items.ensures.value)
-    ∙ parted_behind items_of parts l.part-index c.part-item.result c.loop-part-test.true c.part-item.is)
+    ∙ parted_after items_of parts l.part-index c.part-item.result c.loop-part-test.true c.part-item.is)
     l.invariant.gathering (subst (λ (r : List ℕ). IsRowTrees from files r kind made) slice c.in_ok-kind.ensures.trees)
     (all_taken before later (passed_on l.number kind row) said))

@@ -1,7 +1,7 @@
 use Rattle.std.proofs.Common.{◌<◌, ◌-◌, Bor, Option, ap, sym, ◌∙◌, arith, option_map, string_bytes}
 use Rattle.serde_json.specs.View.{view}
 use Rattle.serde_json.specs.declared.value.Value.{Value}
-use Rattle.miette_sarif_reader.specs.rules.Bases.{base_uri, behind_base, in_folder}
+use Rattle.miette_sarif_reader.specs.rules.Bases.{after_base, base_uri, in_folder}
 use Rattle.miette_sarif_reader.proofs.BaseSteps.{base_step}
 use Rattle.miette_sarif_reader.proofs.Returned.{returned}
 use Rattle.miette_sarif_reader.proofs.bases.+base_uri.Goals as goal
@@ -15,8 +15,8 @@ returns t c =
     let some : 0 < most = omega (arith, c.if-most-eq0.false) in
     returned c.in_folder.result (λ uri. string_bytes uri) _ _
     (ap in_folder (c.in_ok-uri.ensures
-    ∙ ap (λ front. behind_base front c.own_uri.result.now)
+    ∙ ap (λ front. after_base front c.own_uri.result.now)
     (c.in_ok-front.ensures ∙ ap (base_uri (most - 1) bases) c.base_of.ensures)
-    ∙ ap (behind_base (base_uri (most - 1) bases _)) c.own_uri.ensures)
+    ∙ ap (after_base (base_uri (most - 1) bases _)) c.own_uri.ensures)
     ∙ sym (base_step most bases base some)
     ∙ ap (λ (o : Option (Bor Value)). base_uri most bases (option_map look o)) (sym c.in-Some.is)) c.in_folder.ensures

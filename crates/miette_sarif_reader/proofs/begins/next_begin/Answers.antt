@@ -25,10 +25,10 @@ returns-clause-value c =
     subst (λ (bs : List ℕ). skipped ≤ length bs) rest c.bytes_before.ensures.within
     in
     let on = text_skips test newlines all skipped (drop at bytes) within none in
-    let behind : text_size newlines (drop skipped (drop at bytes)) ≡ text_size newlines (drop (at + skipped) bytes) =
+    let after : text_size newlines (drop skipped (drop at bytes)) ≡ text_size newlines (drop (at + skipped) bytes) =
     ap (text_size newlines) (drop-drop skipped at bytes)
     in
-    omega (arith, on, behind)
+    omega (arith, on, after)
 
 pub returns-clause-within : goal.returns-clause-within
 returns-clause-within c =

@@ -15,5 +15,5 @@ returns-in-Some c =
 pub returns-in-None : goal.returns-in-None
 returns-in-None c =
     let items = c.args.items.now in
-    let behind : length items ≤ c.args.index = search rules in
-    no_item (λ (v : Bor Value). view v.now) items c.args.index behind
+    let after : length items ≤ c.args.index = search rules in
+    no_item (λ (v : Bor Value). view v.now) items c.args.index after

@@ -16,5 +16,5 @@ returns-in-Some c =
 pub returns-in-None : goal.returns-in-None
 returns-in-None c =
     let arguments = c.args.arguments.now in
-    let behind : length arguments ≤ c.args.number = search rules in
-    ap (option_and_then as_str) (no_item view arguments c.args.number behind)
+    let after : length arguments ≤ c.args.number = search rules in
+    ap (option_and_then as_str) (no_item view arguments c.args.number after)

@@ -2,7 +2,7 @@ use Rattle.std.proofs.Common.{◌≡◌, ℕ, List, ◌++◌, ap, ◌∙◌, get
 use Rattle.std.specs.Prelude.{slice_index}
 use Rattle.std.proofs.lemmas.Str.{IsCharBoundary-before_ascii}
 use Rattle.miette_readers.specs.views.Values.{viewed}
-use Rattle.miette_sarif_reader.specs.rules.Messages.{is_mark, piece_of, shown, shown_behind}
+use Rattle.miette_sarif_reader.specs.rules.Messages.{is_mark, piece_of, shown, shown_after}
 use Rattle.miette_sarif_reader.specs.views.Pieces.{Cut, cut}
 use Rattle.miette_sarif_reader.proofs.PieceSteps.{next_mark, none_left, piece_written}
 use Rattle.miette_sarif_reader.proofs.messages.shown.Goals as goal
@@ -40,7 +40,7 @@ loop-at-preserved c =
     (c.in_ok-push_str-2.ensures.bytes ∙ ap (λ (p : Cut). string_bytes c.push_str.new.self ++ p.shown) made)
     (c.left-rest.ensures ∙ ap (λ (p : Cut). p.rest) is) in (
       ap (λ (p : Cut). string_bytes c.push_str-in-Some.new.self
-          ++ shown_behind arguments p.in_link 0 c.left-rest.result.now) made
+          ++ shown_after arguments p.in_link 0 c.left-rest.result.now) made
           ∙ written,
       c.left-rest.utf8,
     )
@@ -48,6 +48,6 @@ loop-at-preserved c =
 pub returns : goal.returns
 returns c =
     let rest = c.loop-at.rest.now in
-    let same : shown_behind (viewed c.args.arguments.now) c.loop-at.in_link 0 rest ≡ rest =
+    let same : shown_after (viewed c.args.arguments.now) c.loop-at.in_link 0 rest ≡ rest =
     none_left (viewed c.args.arguments.now) c.loop-at.in_link rest c.in_default.ensures in
     search rules

@@ -2,7 +2,7 @@ use Rattle.std.proofs.Common.{◌≡◌, ◌++◌, string_bytes, length}
 use denote.Shadow.{shadow}
 use denote.Text.{Utf8}
 use Rattle.miette_readers.specs.views.Values.{viewed}
-use Rattle.miette_sarif_reader.specs.rules.Messages.{shown, shown_behind}
+use Rattle.miette_sarif_reader.specs.rules.Messages.{shown, shown_after}
 use Rattle.miette_sarif_reader.proofs.messages.shown.Given as goal
 
 abbrev pub decreases-loop-at : goal.decreases-loop-at
@@ -11,5 +11,5 @@ decreases-loop-at l = length l.rest
 -- what was written, and what is shown of the rest after it
 abbrev pub invariant-loop-at : goal.invariant-loop-at
 invariant-loop-at l =
-    (string_bytes l.out ++ shown_behind (viewed l.arguments) l.in_link 0 l.rest ≡ shown (viewed l.arguments) l.text)
+    (string_bytes l.out ++ shown_after (viewed l.arguments) l.in_link 0 l.rest ≡ shown (viewed l.arguments) l.text)
     × shadow (Utf8 l.rest)

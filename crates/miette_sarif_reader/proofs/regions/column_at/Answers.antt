@@ -1,10 +1,10 @@
 use Rattle.std.proofs.Common.{ℕ, List, Option, ◌∙◌, ap, arith, length, length-take-le}
 use Rattle.std.specs.Prelude.{unwrap_or}
-use Rattle.miette_sarif_reader.specs.rules.Regions.{column_before, units_behind}
+use Rattle.miette_sarif_reader.specs.rules.Regions.{column_before, units_after}
 use Rattle.miette_sarif_reader.proofs.regions.column_at.Goals as goal
 
-pub units_behind-requires : goal.units_behind-requires
-units_behind-requires c =
+pub units_after-requires : goal.units_after-requires
+units_after-requires c =
     omega (
       arith,
       c.text_end-stop.ensures.order,
@@ -20,5 +20,5 @@ returns c =
     let columns = c.args.columns in
     c.unwrap_or.ensures
     ∙ ap (λ (o : Option ℕ). unwrap_or o c.text_end-stop.result)
-    (c.units_behind.ensures.value ∙ ap (λ (bs : List ℕ). units_behind e bs start columns) c.front_to.ensures)
+    (c.units_after.ensures.value ∙ ap (λ (bs : List ℕ). units_after e bs start columns) c.front_to.ensures)
     ∙ ap (λ stop. column_before e bytes start stop columns) c.text_end-stop.ensures.value

@@ -25,7 +25,7 @@ returns-clause-passed c =
     let plain : list_all is_printable (take many rest) ≡ true =
     ap (λ n. list_all is_printable (take n rest)) c.plain_len-many.ensures.len
     ∙ prefix_taken is_printable c.min.result rest in
-    let behind : Bool → ℕ → List ℕ → List Cell = λ hidden at bytes. plain_cells offset column (take many rest)
+    let after : Bool → ℕ → List ℕ → List Cell = λ hidden at bytes. plain_cells offset column (take many rest)
     ++ cells_from width_of tab hidden (offset + many) at (characters bytes) in
     record {
       bytes = take many rest;
@@ -34,7 +34,7 @@ returns-clause-passed c =
       cells_are = sym c.self.view_is
           ∙ ap (λ hidden. cells_from width_of tab hidden offset column (characters rest)) c.if-self.false
           ∙ printable_then tab offset column many rest within plain
-          ∙ ap (λ hidden. behind hidden (column + many) (drop many rest)) (sym c.if-self.false)
-          ∙ ap (λ at. behind c.self.inside.hidden at (drop many rest)) (sym column_is)
-          ∙ ap (behind c.self.inside.hidden c.in_ok-after.after) (sym (take_rest rest many));
+          ∙ ap (λ hidden. after hidden (column + many) (drop many rest)) (sym c.if-self.false)
+          ∙ ap (λ at. after c.self.inside.hidden at (drop many rest)) (sym column_is)
+          ∙ ap (after c.self.inside.hidden c.in_ok-after.after) (sym (take_rest rest many));
     }

@@ -14,11 +14,11 @@ returns-clause-around c = λ test.
     let line = line_of_text c.args.line.now in
     let all = c.self.inside.all.items in
     let first = c.touching-near.result.first in
-    let behind = c.touching-near.result.behind in
-    around_near line all (take (behind - first) (drop first c.deref.result.now)) first behind test
-    (near_window line all first behind
+    let after = c.touching-near.result.after in
+    around_near line all (take (after - first) (drop first c.deref.result.now)) first after test
+    (near_window line all first after
     (c.touching-near.ensures (map (λ (f : Fold). f.label) all) c.self.invariant.bounds))
-    (ap (λ xs. take (behind - first) (drop first xs)) c.deref.ensures.value)
+    (ap (λ xs. take (after - first) (drop first xs)) c.deref.ensures.value)
     ∙ ap (list_any (λ (f : Fold). is_around_fold line f && test f)) c.self.view_is
 
 pub returns-clause-stop : goal.returns-clause-stop
@@ -26,11 +26,11 @@ returns-clause-stop c =
     let line = line_of_text c.args.line.now in
     let all = c.self.inside.all.items in
     let first = c.touching-near.result.first in
-    let behind = c.touching-near.result.behind in
-    stop_near line all (take (behind - first) (drop first c.deref.result.now)) first behind c.stop_behind.result
-    (near_window line all first behind
+    let after = c.touching-near.result.after in
+    stop_near line all (take (after - first) (drop first c.deref.result.now)) first after c.stop_after.result
+    (near_window line all first after
     (c.touching-near.ensures (map (λ (f : Fold). f.label) all) c.self.invariant.bounds))
-    (ap (λ xs. take (behind - first) (drop first xs)) c.deref.ensures.value)
-    (c.stop_behind.ensures all (subst (λ (xs : List LineStart). AreStops all xs) (sym c.deref-2.ensures.value)
+    (ap (λ xs. take (after - first) (drop first xs)) c.deref.ensures.value)
+    (c.stop_after.ensures all (subst (λ (xs : List LineStart). AreStops all xs) (sym c.deref-2.ensures.value)
     c.self.invariant.stops))
     ∙ ap (λ xs. nearest_stop line None xs) c.self.view_is

@@ -1,5 +1,5 @@
 use Rattle.std.proofs.Common.{sym, ap, ◌∙◌}
-use Rattle.miette_line_breaks.specs.views.Places.{behind, found_before}
+use Rattle.miette_line_breaks.specs.views.Places.{after_code, found_before}
 use Rattle.miette_line_breaks.proofs.Plain.{plain-letter, plain-space}
 use Rattle.miette_line_breaks.proofs.state.State.stepped.Goals as goal
 
@@ -23,5 +23,5 @@ returns-then-c-eq32-clause-found c =
 pub returns-then-c-eq32-clause-behind : goal.returns-then-c-eq32-clause-behind
 returns-then-c-eq32-clause-behind c =
     c.spaced-then-c-eq32.ensures
-    ∙ sym (ap (behind c.args.self.now) c.if-c-eq32.true
+    ∙ sym (ap (after_code c.args.self.now) c.if-c-eq32.true
     ∙ (plain-space c.args.self.now (sym c.is_plain.ensures ∙ c.if-is_plain.true)).1)

@@ -2,7 +2,7 @@ use Rattle.std.proofs.Common.{◌≡◌, ◌<◌, ◌≤◌, ◌+◌, ◌-◌, �
 use Rattle.std.specs.Result.{IfOk}
 use Rattle.miette_marks.specs.declared.marks.Stop.{Stop}
 use Rattle.miette_marks.specs.steps.Stops.{column_in}
-use Rattle.miette_marks.proofs.StopColumns.{at_end, behind_plain, in_plain, plain_end, plain_in}
+use Rattle.miette_marks.proofs.StopColumns.{after_plain, at_end, in_plain, plain_end, plain_in}
 use Rattle.miette_marks.proofs.marks.Columns.column_of.Goals as goal
 
 pub returns-then-at-self : goal.returns-then-at-self
@@ -27,7 +27,7 @@ returns-in-Some c =
     (λ column. column ≡ column_in r stop.walk c.self.inside.text_end c.self.inside.width c.args.offset))
     c.in-Some.is (c.in_ok-column.ensures c.self.inside.text_end c.self.inside.width) in
     met
-    ∙ behind_plain r stop c.self.inside.text_end c.self.inside.width c.args.offset past
+    ∙ after_plain r stop c.self.inside.text_end c.self.inside.width c.args.offset past
     ∙ c.stop_to-stop.ensures r c.self.inside.text_end c.self.inside.width
     ∙ plain_end r c.self.inside.start 0 c.self.inside.plain.now c.self.inside.whole c.self.inside.text_end
     c.self.inside.width c.args.offset (omega arith)
@@ -49,7 +49,7 @@ returns-in-None c =
     subst (λ n. IfOk c.column_at_end.result (λ column. column ≡ n))
     (at_end r its.text_end its.width c.args.offset
     ∙ end
-    ∙ behind_plain r stop its.text_end its.width c.args.offset past
+    ∙ after_plain r stop its.text_end its.width c.args.offset past
     ∙ c.stop_to-stop.ensures r its.text_end its.width
     ∙ plain_end r c.self.inside.start 0 c.self.inside.plain.now c.self.inside.whole its.text_end its.width c.args.offset
     (omega arith)

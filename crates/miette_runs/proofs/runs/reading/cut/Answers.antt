@@ -1,7 +1,7 @@
 use Rattle.std.proofs.Common.{◌≡◌, ◌∙◌, ◌+◌, ◌-◌, ◌++◌, ◌∷◌, [], ap, arith, drop, sym, take}
 use Rattle.miette_runs.specs.rules.Sequences.{Sequence, sequence_len, tokens}
 use Rattle.miette_runs.proofs.Counting.{cut_sequence}
-use Rattle.miette_runs.proofs.OpenCommands.{open_behind}
+use Rattle.miette_runs.proofs.OpenCommands.{open_after}
 use Rattle.miette_runs.proofs.runs.reading.cut.Goals as goal
 
 pub rest-preserved : goal.rest-preserved
@@ -19,5 +19,5 @@ rest-preserved c =
           ∙ cut_sequence found cs i n (omega arith) is
           ∙ c.rest.invariant.cut;
       within = omega (arith, c.sequence_at-len.ensures.within);
-      known = open_behind cs i n c.rest.unfinished c.sequence_at-len.ensures.value c.rest.invariant.known;
+      known = open_after cs i n c.rest.unfinished c.sequence_at-len.ensures.value c.rest.invariant.known;
     }

@@ -3,9 +3,9 @@ use Rattle.std.proofs.lemmas.Bool.Decides.{nat_tests}
 use Rattle.std.proofs.KnownBytes.{Consumes-nil}
 use Rattle.std.proofs.lemmas.List.{nil_from_length}
 use Rattle.miette_tool_rows.specs.declared.parts.Open.{Open}
-use Rattle.miette_tool_rows.specs.rules.Parts.{begins_value, behind, closed, is_open}
+use Rattle.miette_tool_rows.specs.rules.Parts.{after_bytes, begins_value, closed, is_open}
 use Rattle.miette_tool_rows.specs.views.Reading.{left_of}
-use Rattle.miette_tool_rows.proofs.PartSteps.{PartHeld, behind_more, closed_ends, held_begin, held_end, held_more}
+use Rattle.miette_tool_rows.proofs.PartSteps.{PartHeld, after_more, closed_ends, held_begin, held_end, held_more}
 use Rattle.miette_tool_rows.proofs.PartSteps.{held_whole, is_as, never_on, on_as, open_ends, row_more}
 use Rattle.miette_tool_rows.proofs.row_reader.RowReader.gather.Goals as goal
 
@@ -16,7 +16,7 @@ loop-init g c =
     record {
       sound = c.requires.sound;
       held = subst (PartHeld left left) (sym none) (held_begin left);
-      reached = c.nothing-state.ensures ∙ ap (λ l. behind closed l) (sym none);
+      reached = c.nothing-state.ensures ∙ ap (λ l. after_bytes closed l) (sym none);
     }
 
 pub returns-then-is_empty-clause-part : goal.returns-then-is_empty-clause-part
@@ -45,13 +45,13 @@ returns-then-not-begins_value-clause-part g c =
 
 -- a row more, after rows that begin a value
 grown : (held row part a b d : List ℕ) (old state : Open) (begun : Bool) → part ≡ held ++ a → a ≡ row → b ≡ part
-    → begun ≡ begins_value b → begun ≡ true → old ≡ behind closed held → state ≡ behind old d → d ≡ row
-    → (part ≡ held ++ row) × (begins_value part ≡ true) × (state ≡ behind closed part)
+    → begun ≡ begins_value b → begun ≡ true → old ≡ after_bytes closed held → state ≡ after_bytes old d → d ≡ row
+    → (part ≡ held ++ row) × (begins_value part ≡ true) × (state ≡ after_bytes closed part)
 grown held row part a b d old state begun more more_is part_is begins begun_is reached after row_is =
     let one : part ≡ held ++ row = more ∙ ap (λ l. held ++ l) more_is in (
       one,
       ap begins_value (sym part_is) ∙ sym begins ∙ begun_is,
-      behind_more held row part old state one reached (after ∙ ap (λ l. behind old l) row_is),
+      after_more held row part old state one reached (after ∙ ap (λ l. after_bytes old l) row_is),
     )
 
 pub returns-then-not-is_open-clause-part : goal.returns-then-not-is_open-clause-part
@@ -59,10 +59,10 @@ returns-then-not-is_open-clause-part g c =
     let held = c.loop.part.items in
     let row = c.next.new.row.items in
     let part = c.extend_from_slice.new.self.items in
-    let state = c.behind-state.result in
+    let state = c.after_bytes-state.result in
     let its = grown held row part _ _ _ c.loop.state state _ c.in_ok-extend_from_slice.ensures.items
     c.as_slice.ensures.value c.as_slice-in-loop.ensures.value c.begins_value.ensures c.if-not-begins_value.false
-    c.loop.invariant.reached c.behind-state.ensures c.as_slice-in-loop-2.ensures.value in
+    c.loop.invariant.reached c.after_bytes-state.ensures c.as_slice-in-loop-2.ensures.value in
     let none : is_open state ≡ false = sym c.is_open.ensures ∙ c.if-not-is_open.true in
     let some : 0 < length row = search rules in
     held_whole _ _ _ held row part its.0 some
@@ -74,10 +74,10 @@ returns-then-not-branch-clause-part g c =
     let held = c.loop.part.items in
     let row = c.next.new.row.items in
     let part = c.extend_from_slice.new.self.items in
-    let state = c.behind-state.result in
+    let state = c.after_bytes-state.result in
     let its = grown held row part _ _ _ c.loop.state state _ c.in_ok-extend_from_slice.ensures.items
     c.as_slice.ensures.value c.as_slice-in-loop.ensures.value c.begins_value.ensures c.if-not-begins_value.false
-    c.loop.invariant.reached c.behind-state.ensures c.as_slice-in-loop-2.ensures.value in
+    c.loop.invariant.reached c.after_bytes-state.ensures c.as_slice-in-loop-2.ensures.value in
     let more : is_open state ≡ true = sym c.is_open.ensures ∙ c.if-not-is_open.false in
     let some : 0 < length row = search rules in
     held_whole _ _ _ held row part its.0 some
@@ -91,10 +91,10 @@ loop-preserved g c =
     let held = c.loop.part.items in
     let row = c.next.new.row.items in
     let part = c.extend_from_slice.new.self.items in
-    let state = c.behind-state.result in
+    let state = c.after_bytes-state.result in
     let its = grown held row part _ _ _ c.loop.state state _ c.in_ok-extend_from_slice.ensures.items
     c.as_slice.ensures.value c.as_slice-in-loop.ensures.value c.begins_value.ensures c.if-not-begins_value.false
-    c.loop.invariant.reached c.behind-state.ensures c.as_slice-in-loop-2.ensures.value in
+    c.loop.invariant.reached c.after_bytes-state.ensures c.as_slice-in-loop-2.ensures.value in
     let more : is_open state ≡ true = sym c.is_open.ensures ∙ c.if-not-is_open.false in
     let some : 0 < length row = search rules in
     record {

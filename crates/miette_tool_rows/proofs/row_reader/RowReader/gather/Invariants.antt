@@ -1,5 +1,5 @@
 use Rattle.std.proofs.Common.{◌≡◌, false}
-use Rattle.miette_tool_rows.specs.rules.Parts.{behind, closed}
+use Rattle.miette_tool_rows.specs.rules.Parts.{after_bytes, closed}
 use Rattle.miette_tool_rows.specs.views.Reading.{left_of}
 use Rattle.miette_tool_rows.proofs.PartSteps.{PartHeld}
 use Rattle.miette_tool_rows.proofs.row_reader.RowReader.gather.Given as goal
@@ -9,5 +9,5 @@ abbrev pub invariant-loop : goal.invariant-loop
 invariant-loop g l = record {
   sound : l.self.failed ≡ false;
   held : PartHeld (left_of g.R.Read.remaining l.initial.self) (left_of g.R.Read.remaining l.self) l.part.items;
-  reached : l.state ≡ behind closed l.part.items;
+  reached : l.state ≡ after_bytes closed l.part.items;
 }

@@ -4,7 +4,7 @@ use Rattle.miette_tree.specs.rules.Tree.{head, cause_of}
 use Rattle.miette_tree.specs.rules.Chain.{spine_from, spine_below}
 use Rattle.miette_tree.specs.views.RemainingChain.{left_of}
 use Rattle.miette_tree.specs.views.Report.{tree_of}
-use Rattle.miette_tree.proofs.Ends.{first_left, fewer_behind}
+use Rattle.miette_tree.proofs.Ends.{first_left, fewer_after}
 use Rattle.miette_tree.proofs.chain.ChainIterator.next.Goals as goal
 
 pub returns : goal.returns
@@ -22,5 +22,5 @@ returns g c =
     rw c.in-Some.is (first_left at below ts chain.count (chain.count - 1) c.message.result.now one rest first) in
     record {
       steps = steps;
-      goes = record { on = λ _. (tt, tt, fewer_behind _ _ _ steps); keeps = tt; rests = λ _. tt };
+      goes = record { on = λ _. (tt, tt, fewer_after _ _ _ steps); keeps = tt; rests = λ _. tt };
     }

@@ -3,7 +3,7 @@ use Rattle.std.proofs.Common.{ap, ap₂, arith, drop, subst, sym}
 use Rattle.std.proofs.lemmas.List.{drop_all, drop_more}
 use Rattle.std.specs.Option.{is_some}
 use Rattle.miette_line_breaks.specs.declared.state.State.{State}
-use Rattle.miette_line_breaks.specs.views.Places.{behind, found_before}
+use Rattle.miette_line_breaks.specs.views.Places.{after_code, found_before}
 use Rattle.miette_wrapping.specs.views.Breaks.{piece_len, state_at}
 use Rattle.miette_wrapping.proofs.BreakParts.{piece-goes, state-goes}
 use Rattle.miette_wrapping.proofs.Passing.{piece-passes, state-passes}
@@ -53,7 +53,7 @@ rest-preserved g c =
           c.is_hyphen-is_joined.ensures)
           (subst (λ xs. piece_len t j xs ≡ n + piece_len t j (drop n xs)) r c.passed_len.ensures.len);
       state = state-passes c.args.start t (i + 1) n cs (state-goes c.args.start t i x cs d
-          (c.step-found.ensures.behind ∙ ap (λ s. behind s x) c.rest.invariant.state))
+          (c.step-found.ensures.behind ∙ ap (λ s. after_code s x) c.rest.invariant.state))
           (subst (λ xs. state_at t n xs ≡ t) r c.passed_len.ensures.state);
       within = omega (arith, c.passed_len.ensures.within, ap length r, length-drop (i + 1) cs, inside);
     }

@@ -8,10 +8,10 @@ use Rattle.miette_line_breaks.specs.declared.state.State.{State}
 use Rattle.miette_line_breaks.specs.views.Places.{found_before}
 use Rattle.miette_line_breaks.specs.views.Printable.{state_in}
 use Rattle.miette_wrap_rules.specs.rules.Wrapping.{is_hyphen}
-use Rattle.miette_wrapping.specs.steps.Ends.{code_behind}
+use Rattle.miette_wrapping.specs.steps.Ends.{code_after}
 use Rattle.miette_wrapping.specs.views.Breaks.{all_printed, piece_len, state_at}
 use Rattle.miette_wrapping.proofs.BreakParts.{Walked, walked-first, walked-next, walked-over, walked-rest}
-use Rattle.miette_wrapping.proofs.FirstRow.{behind-last}
+use Rattle.miette_wrapping.proofs.FirstRow.{after-last}
 use Rattle.miette_wrapping.proofs.PrintedRuns.{printable-printed, printed-next}
 use Rattle.miette_wrapping.proofs.wrap.breaks.word_len.Goals as goal
 use Rattle.miette_wrapping.proofs.wrap.breaks.word_len.Goals.{in-Within, in-Hyphen, in-Broken+else-not-is_hyphen}
@@ -56,8 +56,8 @@ returns-then-not-is_hyphen-clause-len g c =
     let inside : i < length cs = omega (arith, c.count-n.ensures, c.rest-test.true) in
     let x = c.at.result in
     let is : x ≡ get_or cs i x = c.at.ensures ∙ get_or_default cs i 0 x inside in
-    let e : is_hyphen (code_behind 0 i cs) ≡ false =
-    sym (ap is_hyphen (c.at-in-Broken.ensures ∙ behind-last 0 i 0 cs v.some v.within))
+    let e : is_hyphen (code_after 0 i cs) ≡ false =
+    sym (ap is_hyphen (c.at-in-Broken.ensures ∙ after-last 0 i 0 cs v.some v.within))
     ∙ sym c.is_hyphen.ensures ∙ c.if-not-is_hyphen.true in
     walked-over c.args.start (state_in c.rest.place) i x cs v.walked is inside (ap₂ (λ (j f : Bool). not j && f) e
     c.in-Broken.ensures.1)
@@ -72,7 +72,7 @@ returns-in-Other g c =
     let j = c.is_hyphen-joined.result in
     let walked = walked-rest c.args.start (state_in c.rest.place) c.rest_len-len-in-Other.result.1 i n j cs v.walked
     (c.is_hyphen-joined.ensures
-    ∙ ap is_hyphen (c.at-in-Other.ensures ∙ behind-last 0 i 0 cs v.some v.within))
+    ∙ ap is_hyphen (c.at-in-Other.ensures ∙ after-last 0 i 0 cs v.some v.within))
     (c.rest_len-len-in-Other.ensures.len
     ∙ ap₂ (λ s xs. piece_len s j xs) c.state-in-Other.ensures c.from.ensures)
     (c.rest_len-len-in-Other.ensures.state
@@ -102,7 +102,7 @@ rest-preserved g c =
     let v = c.rest.invariant in
     let inside : i < length cs = omega (arith, c.count-n.ensures, c.rest-test.true) in
     let is : x ≡ get_or cs i x = c.at.ensures ∙ get_or_default cs i 0 x inside in
-    let joined = is_hyphen (code_behind 0 i cs) in
+    let joined = is_hyphen (code_after 0 i cs) in
     let walked : Walked c.args.start (state_in c.match-step.place) (i + 1) cs = elim c.match-step.branch [
       | in-Within w ↦
           walked-next c.args.start s (state_in c.match-step.place) i x cs v.walked is inside
@@ -114,7 +114,7 @@ rest-preserved g c =
           (ap state_in w.place-is ∙ sym w.in-Hyphen.ensures.2)
       | in-Broken+else-not-is_hyphen w ↦
           let e : joined ≡ true =
-          sym (ap is_hyphen (w.at-in-Broken.ensures ∙ behind-last 0 i 0 cs v.some v.within))
+          sym (ap is_hyphen (w.at-in-Broken.ensures ∙ after-last 0 i 0 cs v.some v.within))
           ∙ sym w.is_hyphen.ensures ∙ w.if-not-is_hyphen.false in
           walked-next c.args.start s (state_in c.match-step.place) i x cs v.walked is inside
           (ap (λ (j : Bool). not j && is_some (found_before s x)) e)
@@ -138,7 +138,7 @@ pub returns-clause-len : goal.returns-clause-len
 returns-clause-len g c =
     let cs = g.C.Codes.codes c.args.codes in
     let i = c.rest.i in
-    let none : piece_len (state_in c.rest.place) (is_hyphen (code_behind 0 i cs)) (drop i cs) ≡ 0 =
-    ap (piece_len (state_in c.rest.place) (is_hyphen (code_behind 0 i cs)))
+    let none : piece_len (state_in c.rest.place) (is_hyphen (code_after 0 i cs)) (drop i cs) ≡ 0 =
+    ap (piece_len (state_in c.rest.place) (is_hyphen (code_after 0 i cs)))
     (drop_all i cs (omega (arith, c.count-n.ensures, c.rest-test.false))) in
     omega (arith, c.rest.invariant.walked.len, none)

@@ -2,7 +2,7 @@ use Rattle.std.proofs.Common.{◌∙◌, ◌≤◌, arith, length}
 use Rattle.miette_wrap_rules.specs.declared.options.WordSeparator.TheVariants.{UnicodeBreakProperties}
 use Rattle.miette_wrapping.specs.views.Cutting.{word_cuts}
 use Rattle.miette_wrapping.proofs.BreakParts.{last-part, more-part, more-some}
-use Rattle.miette_wrapping.proofs.FirstRow.{behind-last}
+use Rattle.miette_wrapping.proofs.FirstRow.{after-last}
 use Rattle.miette_wrapping.proofs.wrap.breaks.word_part.Goals as goal
 
 pub returns-then-letters-word-clause-is : goal.returns-then-letters-word-clause-is
@@ -11,8 +11,8 @@ returns-then-letters-word-clause-is g c =
     (g.C.Codes.codes c.args.codes) c.requires.some c.requires.fits.0 c.in_ok-letters.ensures.len
     c.if-letters-word.true
 
-pub overflow_sub-behind : goal.overflow_sub-behind
-overflow_sub-behind g c =
+pub overflow_sub-after : goal.overflow_sub-after
+overflow_sub-after g c =
     let some = more-some (word_cuts UnicodeBreakProperties c.args.cuts) c.args.word c.in_ok-letters.letters.len
     (g.C.Codes.codes c.args.codes) c.requires.fits.0 c.in_ok-letters.ensures.len
     c.in_ok-letters.ensures.within c.if-letters-word.false in
@@ -36,7 +36,7 @@ returns-clause-is g c =
     let inside : n ≤ length codes = omega (arith, some.1, c.requires.fits.0) in
     more-part cuts word n c.at.result codes c.requires.some c.requires.fits.0
     c.in_ok-letters.ensures.len some.1
-    (c.at.ensures ∙ behind-last word.before n 0 codes some.0 inside)
+    (c.at.ensures ∙ after-last word.before n 0 codes some.0 inside)
 
 pub returns-clause-some : goal.returns-clause-some
 returns-clause-some g c =

@@ -1,9 +1,9 @@
 use Rattle.std.proofs.Common.{◌≡◌, ◌∙◌, ◌+◌, ◌<◌, ◌≤◌, min, ap, ap₂, arith, drop, length, length-drop, length-take}
 use Rattle.std.proofs.Common.{refl, sym, take}
 use Rattle.miette_runs.specs.steps.Cells.{code_columns}
-use Rattle.miette_wrapping.specs.steps.Ends.{code_behind, part_len, solid_len}
+use Rattle.miette_wrapping.specs.steps.Ends.{code_after, part_len, solid_len}
 use Rattle.miette_wrapping.specs.views.Cutting.{word_cuts}
-use Rattle.miette_wrapping.proofs.FirstRow.{behind-last}
+use Rattle.miette_wrapping.proofs.FirstRow.{after-last}
 use Rattle.miette_wrapping.proofs.SolidRuns.{solid-columns, solid-least, solid-part}
 use Rattle.miette_wrapping.proofs.wrap.ends.first_part.Goals as goal
 
@@ -25,9 +25,9 @@ returns-clause-len g c = λ separator.
     ) in
     let some : 0 < n = omega (arith, c.if-n-eq0.false) in
     let h : n ≤ solid_len cs = omega (arith, least) in
-    let r : c.in_ok-rest.rest.len ≡ part_len stop cuts (code_behind first n cs) n (drop n cs) =
+    let r : c.in_ok-rest.rest.len ≡ part_len stop cuts (code_after first n cs) n (drop n cs) =
     c.in_ok-rest.ensures.len separator
-    ∙ ap₂ (λ b xs. part_len stop cuts b n xs) (c.at-last.ensures ∙ behind-last first n 0 cs some within)
+    ∙ ap₂ (λ b xs. part_len stop cuts b n xs) (c.at-last.ensures ∙ after-last first n 0 cs some within)
     c.from.ensures in
     ap (λ k. n + k) r
     ∙ sym (solid-part stop g.met.T.Stop.solid cuts first 0 n n cs (omega arith) h (omega (arith, least)))

@@ -34,13 +34,13 @@ returns-then-room-wide-clause-value g c = λ cells further e.
     let s = c.rest.end in
     let n = c.in_ok-part.part.letters.len in
     let left = g.W.Words.left c.rest.words cuts in
-    let behind = g.W.Words.left c.in_ok-part.behind cuts in
+    let after = g.W.Words.left c.in_ok-part.after cuts in
     let w = wide-is c.rest.used n _ _ _ _ c.in_ok-wide.ensures c.in_ok-part.ensures.columns c.from.ensures in
     let t : (nat_lt 0 s && nat_lt c.args.room c.in_ok-wide.wide) ≡ true =
     (let a = c.if-end-gt0.true in let b = c.if-room-wide.true in grind (arith, nat_tests)) in
-    row-ends (g.W.Words.left c.args.first cuts) left behind c.args.room further s n c.in_ok-part.part.spaces
+    row-ends (g.W.Words.left c.args.first cuts) left after c.args.room further s n c.in_ok-part.part.spaces
     c.rest.used c.in_ok-wide.wide cells cs e (omega (arith, c.count-n.ensures, c.rest-test.true))
-    (part-here left behind s n c.in_ok-part.part.spaces cs (g.C.Codes.codes c.from.result) c.from.ensures
+    (part-here left after s n c.in_ok-part.part.spaces cs (g.C.Codes.codes c.from.result) c.from.ensures
     c.in_ok-part.ensures.is) w t
     (c.rest.invariant.packed cells further e)
 
@@ -52,7 +52,7 @@ rest-preserved g c =
     let n = c.in_ok-part.part.letters.len in
     let m = c.in_ok-part.part.spaces in
     let left = g.W.Words.left c.rest.words cuts in
-    let behind = g.W.Words.left c.in_ok-part.behind cuts in
+    let after = g.W.Words.left c.in_ok-part.after cuts in
     let w = wide-is c.rest.used n _ _ _ _ c.in_ok-wide.ensures c.in_ok-part.ensures.columns c.from.ensures in
     let gap : code_columns (take m (drop n (drop s cs))) ≡ m =
     ap (λ xs. code_columns (take m (drop n xs))) (sym c.from.ensures) ∙ c.in_ok-part.ensures.gap in
@@ -66,10 +66,10 @@ rest-preserved g c =
     record {
       packed = λ cells further e.
           c.rest.invariant.packed cells further e
-          ∙ row-fits left behind c.args.room further s n m c.rest.used c.in_ok-wide.wide c.in_ok-used.used cells cs e
-          (part-here left behind s n m cs (g.C.Codes.codes c.from.result) c.from.ensures c.in_ok-part.ensures.is)
+          ∙ row-fits left after c.args.room further s n m c.rest.used c.in_ok-wide.wide c.in_ok-used.used cells cs e
+          (part-here left after s n m cs (g.C.Codes.codes c.from.result) c.from.ensures c.in_ok-part.ensures.is)
           gap w t c.in_ok-used.ensures c.in_ok-part.ensures.some;
-      fits = subst (λ xs. g.W.Words.fits c.in_ok-part.behind xs)
+      fits = subst (λ xs. g.W.Words.fits c.in_ok-part.after xs)
           (ap (drop (n + m)) c.from.ensures ∙ drop-drop (n + m) s cs ∙ ap (λ k. drop k cs) (omega arith))
           c.in_ok-part.ensures.fits;
       within = omega (arith, c.in_ok-part.ensures.within, ap length c.from.ensures, length-drop s cs);

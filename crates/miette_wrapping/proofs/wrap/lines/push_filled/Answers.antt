@@ -96,17 +96,17 @@ rest-preserved g c =
     let left = left-here s n m cs front (tags_from k all) c.in_ok-inside.ensures.left c.front.ensures in
     record {
       printed =
-          next-filled cuts indent c.rest.room under.further_room s n k m c.in_ok-behind.behind cs all o
+          next-filled cuts indent c.rest.room under.further_room s n k m c.in_ok-after.after cs all o
           (g.S.Canvas.written c.push_rows.new.out) (g.S.Canvas.written c.push_signs.new.out)
-          (g.S.Canvas.written c.push_break.new.out) is less rows left c.in_ok-behind.ensures.text
-          c.in_ok-behind.ensures.left c.in_ok-push_break.ensures
+          (g.S.Canvas.written c.push_break.new.out) is less rows left c.in_ok-after.ensures.text
+          c.in_ok-after.ensures.left c.in_ok-push_break.ensures
           ∙ c.rest.invariant.printed;
       within = omega (arith, less, length-drop s cs);
       marked = omega (
         arith,
         c.rest.invariant.marked,
         c.in_ok-inside.ensures.within,
-        c.in_ok-behind.ensures.within,
+        c.in_ok-after.ensures.within,
         ap length (take_rest all k),
         ap length (take_rest all (k + m)),
         length-drop k all,

@@ -9,8 +9,8 @@ use Rattle.miette_wrapping.specs.steps.Ends.{bare_len}
 use Rattle.miette_wrapping.proofs.wrap.lines.push_row.Goals as goal
 
 -- `n` codes of a list from `s` on stand between that place and its end
-behind-within : (s n : ℕ) (cs codes : List ℕ) → codes ≡ drop s cs → n ≤ length codes → n ≤ length cs - s
-behind-within s n cs codes is within = omega (arith, within, ap length is, length-drop s cs)
+after-within : (s n : ℕ) (cs codes : List ℕ) → codes ≡ drop s cs → n ≤ length codes → n ≤ length cs - s
+after-within s n cs codes is within = omega (arith, within, ap length is, length-drop s cs)
 
 pub overflow_add-end : goal.overflow_add-end
 overflow_add-end g c = omega (
@@ -65,7 +65,7 @@ returns-clause-text g c =
     let q = c.from-codes.ensures in
     let value : n ≡ bare_len (plain_cells (drop s cs)) = c.bare_len-bare.ensures.value
     ∙ ap (λ us. bare_len (plain_cells us)) q in
-    let b = behind-within s n cs _ q c.bare_len-bare.ensures.within in
+    let b = after-within s n cs _ q c.bare_len-bare.ensures.within in
     let less : n < length (drop s cs) = omega (arith, c.if-end-all.false, c.count-all.ensures, length-drop s cs, b) in
     let own = c.front.ensures ∙ ap (take n) q in
     let row : List ℕ = piece_text (cells_at s (take n (drop s cs)) ms) in
@@ -88,7 +88,7 @@ returns-clause-left g c =
     let n = c.bare_len-bare.result in
     let k = c.in_ok-used.used in
     let q = c.from-codes.ensures in
-    let b = behind-within s n cs _ q c.bare_len-bare.ensures.within in
+    let b = after-within s n cs _ q c.bare_len-bare.ensures.within in
     let less : n < length (drop s cs) = omega (arith, c.if-end-all.false, c.count-all.ensures, length-drop s cs, b) in
     sym (drop-drop c.in_ok-dropped.dropped k ms)
     ∙ ap (drop c.in_ok-dropped.dropped) (sym (take_rest ms k))

@@ -44,14 +44,14 @@ returns-then-end-all-clause-text g c =
     let o = g.S.Canvas.written c.rest.out in
     let cuts = word_cuts g.W.Words.separator c.args.cuts in
     let left = g.W.Words.left c.rest.words cuts in
-    let behind = g.W.Words.left c.in_ok-n.behind cuts in
+    let after = g.W.Words.left c.in_ok-n.after cuts in
     let row : g.S.Canvas.written c.push_row.new.out ≡ o ++ row_text s (codes_of_row s n cs)
     (tags_from c.rest.used all) =
     c.in_ok-more.ensures.text
     ∙ ap (λ xs. o ++ row_text s (drop s xs) (tags_from c.rest.used all)) c.front.ensures in
-    last-row left behind (spell indent) c.rest.room under.further_room s n c.rest.used cs all o
+    last-row left after (spell indent) c.rest.room under.further_room s n c.rest.used cs all o
     (g.S.Canvas.written c.push_row.new.out)
-    (first-here left behind c.rest.room n (g.C.Codes.codes c.from.result) (drop s cs) c.from.ensures
+    (first-here left after c.rest.room n (g.C.Codes.codes c.from.result) (drop s cs) c.from.ensures
     c.in_ok-n.ensures.value) (omega (arith, c.if-end-all.true, c.count-all.ensures)) row
     ∙ c.rest.invariant.printed
     ∙ ap (λ us. g.S.Canvas.written c.args.out.now ++ us) (sym (piece-printed cuts under.room under.further_room
@@ -85,7 +85,7 @@ rest-preserved g c =
     let marked : k ≤ length all = c.rest.invariant.marked in
     let cuts = word_cuts g.W.Words.separator c.args.cuts in
     let first = g.W.Words.left c.rest.words cuts in
-    let behind = g.W.Words.left c.in_ok-n.behind cuts in
+    let after = g.W.Words.left c.in_ok-n.after cuts in
     let less : s + n < length cs = omega (
       arith,
       c.if-end-all.false,
@@ -101,9 +101,9 @@ rest-preserved g c =
     let used : m ≤ length (tags_from k all) = c.in_ok-more.ensures.within in
     record {
       printed =
-          next-row first behind (spell (interleaving 0 c.args.under.further.codes.now c.args.under.further.tags.now))
+          next-row first after (spell (interleaving 0 c.args.under.further.codes.now c.args.under.further.tags.now))
           c.rest.room c.args.under.further_room s n k m cs all o (g.S.Canvas.written c.push_row.new.out)
-          (g.S.Canvas.written c.push_break.new.out) (first-here first behind c.rest.room n
+          (g.S.Canvas.written c.push_break.new.out) (first-here first after c.rest.room n
           (g.C.Codes.codes c.from.result) (drop s cs) c.from.ensures c.in_ok-n.ensures.value) less row left
           c.in_ok-push_break.ensures
           ∙ c.rest.invariant.printed;
@@ -111,7 +111,7 @@ rest-preserved g c =
           ap₂ (left_at (s + n)) (sym (drop-drop n s cs)) left
           ∙ sym (left-parts n s (drop s cs) (drop k all))
           ∙ c.rest.invariant.left;
-      fits = subst (λ xs. g.W.Words.fits c.in_ok-n.behind xs) (ap (drop n) c.from.ensures ∙ drop-drop n s cs)
+      fits = subst (λ xs. g.W.Words.fits c.in_ok-n.after xs) (ap (drop n) c.from.ensures ∙ drop-drop n s cs)
           c.in_ok-n.ensures.fits;
       within = omega (arith, less);
       marked = omega (arith, ap length (take_rest all k), length-drop k all);

@@ -3,7 +3,7 @@ use Rattle.miette_runs.specs.steps.Cells.{code_columns}
 use Rattle.miette_wrap_rules.specs.declared.options.WordSeparator.TheVariants.{AsciiSpace}
 use Rattle.miette_wrapping.specs.steps.Ends.{gap_len}
 use Rattle.miette_wrapping.specs.views.Cutting.{word_cuts}
-use Rattle.miette_wrapping.proofs.FirstRow.{behind-last, gap-columns, spaced-part, spaced-some}
+use Rattle.miette_wrapping.proofs.FirstRow.{after-last, gap-columns, spaced-part, spaced-some}
 use Rattle.miette_wrapping.proofs.wrap.ends.SpacedWords.part.Goals as goal
 
 pub overflow_add-letters : goal.overflow_add-letters
@@ -62,7 +62,7 @@ returns-clause-is g c =
       length-drop n codes,
     ) in
     spaced-part cuts before n m c.at-before.result codes c.requires.some p q
-    (c.at-before.ensures ∙ behind-last before (n + m) 0 codes some inside)
+    (c.at-before.ensures ∙ after-last before (n + m) 0 codes some inside)
 
 pub returns-clause-gap : goal.returns-clause-gap
 returns-clause-gap g c =
