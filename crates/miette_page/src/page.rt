@@ -197,6 +197,14 @@ impl<O: Canvas> Page<O> {
         if len < LONG {
             return Ok(());
         }
+        self.make_long_room(len)
+    }
+
+    // The same for a long text, apart from the look at its size, which is made for each text.
+    #[inline(never)]
+    fn make_long_room(&mut self, len: usize) -> Result<(), AllocError>
+        ensures { OnOk result (self.new ≡ self.old) }
+    {
         self.out.reserve(' ', len.saturating_add(FEW_ROWS))
     }
 
