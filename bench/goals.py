@@ -4,9 +4,9 @@
     bench/goals.py [--peers FOLDER] [--floors PROGRAM] [--seconds N] [--keep FILE] [NAME ..]
 
 Instructions and heap are counted as by count.py. PROGRAM is that of floors/ (README.md); a floor is
-counted where it writes the same bytes, or does what is named. Of sources in SOURCES the index of
-their lines, which is made when the report is read, is counted beside one rendering, by
-`valgrind --tool=callgrind`: what `IndexedSource::new` takes.
+counted where it writes the same bytes, or does what is named. Of the workloads in SOURCES the index
+of their source's lines, which is made when the report is read, is counted beside one rendering, by
+`valgrind --tool=callgrind`: what `IndexedSource::new` takes, 0 where none is made.
 """
 import os
 import re
@@ -24,19 +24,25 @@ FLOORS = {
     "p_message_3_lines": "lines",
     **{it: "picture" for it in ("a_small", "b_typical", "typical_cjk", "ten_warnings", "message_alone")},
     **{it: "picture" for it in ("r_eight_causes", "g_wrap_100kb", "r_error_1700", "r_table_5000")},
-    **{it: "picture" for it in ("r_early_2mb", "label_text_200kb")},
+    **{it: "picture" for it in ("r_early_2mb", "label_text_200kb", "c_big_10mb", "g_word_100kb")},
+    **{it: "picture" for it in ("r_folded_4000", "r_early_five_2mb")},
     **{it: "json" for it in ("j_json_1024kb", "r_json_controls_50kb", "r_json_small")},
     **{it: "widths" for it in ("r_accent_1024kb", "line_wide_1mb", "line_nul_1mb")},
-    **{it: "widths" for it in ("e_head_1024kb", "r_accent_cut_1024kb")},
+    **{it: "widths" for it in ("e_head_1024kb", "r_accent_cut_1024kb", "e_cut_1024kb", "e_line_1024kb")},
+    "line_tabs_1mb": "widths",
 }
 SAME = ("lines", "picture", "json")
-SOURCES = ("r_error_1700", "r_table_5000", "r_early_2mb", "c_big_10mb")
+# of few labels, whose source has no index, and of many, or with related reports
+SOURCES = """r_error_1700 r_table_5000 r_early_2mb c_big_10mb r_early_five_2mb r_folded_4000 r_cut_2000
+r_cut_accent_2000 b_typical ten_warnings same_span_1000 l_gutter_200 h_related_2000 h_nested_1000
+i_nested_related_30""".split()
 NAMES = """p_printed_3kb p_printed_3kb_ansi p_coloured_100kb p_lines_8000 p_help_5_lines p_message_3_lines
-r_error_1700 r_table_5000 r_early_2mb c_big_10mb r_folded_4000 r_cut_2000 r_cut_accent_2000 r_accent_1024kb
-r_accent_cut_1024kb e_cut_1024kb e_head_1024kb a_small b_typical typical_cjk ten_warnings message_alone
-r_message_ansi r_eight_causes g_wrap_100kb g_word_100kb same_span_1000 e_line_1024kb line_tabs_1mb
-l_gutter_200 j_json_1024kb r_json_controls_50kb r_json_small label_text_200kb line_nul_1mb line_wide_1mb
-h_related_2000 h_nested_1000 i_nested_related_30""".split()
+r_error_1700 r_table_5000 r_early_2mb c_big_10mb r_early_five_2mb r_folded_4000 r_cut_2000
+r_cut_accent_2000 r_accent_1024kb r_accent_cut_1024kb e_cut_1024kb e_head_1024kb a_small b_typical
+typical_cjk ten_warnings message_alone r_message_ansi r_eight_causes g_wrap_100kb g_word_100kb
+same_span_1000 e_line_1024kb line_tabs_1mb l_gutter_200 j_json_1024kb r_json_controls_50kb
+r_json_small label_text_200kb line_nul_1mb line_wide_1mb h_related_2000 h_nested_1000
+i_nested_related_30""".split()
 INDEX = re.compile(r"^\s*([\d,]+) \([^)]*\)\s+\S*IndexedSource::new", re.M)
 
 
@@ -46,7 +52,7 @@ def floor_of(workload, path, asked):
     if what in SAME:
         shown, _ = count.run([asked.floors, what, "show"], path, asked)
         job = os.path.join(count.TOP, "crates", "job", "out", "job")
-        text, _ = count.run([job, *workload.words], path, asked)
+        text, _ = count.run([job, *workload.words, *workload.ours], path, asked)
         if shown != text:
             return None
     less, more = (1, 11) if os.path.getsize(path) < count.SHORT else (0, 1)

@@ -400,10 +400,10 @@ def table_row(count):
     return labelled("no such name", [{"offset": len(text) - 2000, "length": 9, "label": "here"}], text, "t.csv")
 
 
-def early(megabytes):
-    """A label on the third line of a source of this many megabytes."""
-    label = {"offset": 2 * ROW + 7, "length": 9, "label": "here"}
-    return labelled("a fault at the beginning", [label], rows(4, megabytes * MB), "log.txt")
+def early(megabytes, count=1):
+    """`count` labels from the third line on of a source of this many megabytes."""
+    labels = spans(((2 + i) * ROW + 7 for i in range(count)), 9, "here")
+    return labelled("a fault at the beginning", labels, rows(4, megabytes * MB), "log.txt")
 
 
 def apart(count):

@@ -247,6 +247,7 @@ def set_goals():
     yield bench("r_error_1700", "r_error", PLAIN, of.compiler_error, 1700)
     yield bench("r_table_5000", "r_table", PLAIN, of.table_row, 5000)
     yield bench("r_early_2mb", "r_early", PLAIN, of.early, 2)
+    yield bench("r_early_five_2mb", "r_early_five", PLAIN, of.early, 2, 5)
     yield bench("r_folded_4000", "r_folded", PLAIN, of.apart, 4000, ours=FOLDED, is_new=True)
     yield bench("r_cut_2000", "r_cut", PLAIN, of.marked_line, 2000, **cut)
     yield bench("r_cut_accent_2000", "r_cut_accent", PLAIN, of.marked_line, 2000, "é", **cut)

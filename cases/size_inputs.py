@@ -402,7 +402,7 @@ def fitted():
     yield Family(
         "labels on a cut line, highlighted", long_line(marks, 12), SQUARES, (), (HIGHLIGHTED,), memory_times=16
     )
-    yield Family("labels on a cut line of escapes", long_line("'\\", 6), SQUARES, (), (RUST,))
+    yield Family("labels on a cut line of escapes", long_line("'\\", 6), SQUARES, (), (RUST,), memory_times=16)
 
 
 def long_texts():
