@@ -16,7 +16,7 @@ use Rattle.miette_tree.specs.rules.DiagnosticParts.{given_labels, severity_text,
 -- what a handler is set to: whether the causes of the report are told, the lines of context, and the last row
 pub record NarrationSettings : Type 0 where
   pub cause_chain : Bool
-  pub context : ℕ
+  pub context_lines : ℕ
   pub footer : Option (List ℕ)
 
 abbrev pub default_settings : NarrationSettings
