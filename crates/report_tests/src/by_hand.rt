@@ -1,10 +1,8 @@
-//! A diagnostic written by hand, called through a box.
+//! A diagnostic written by hand, and its report.
 
 use crate::comparing::same;
 use miette_protocol::protocol::{Diagnostic, LabeledSpan, Severity};
-use std::alloc::{AllocError, Global};
-use std::process::Abort;
-use std::test::Fail;
+use miette_tree::report::Report;
 
 /// An implementation by hand: its meaning in one record, and a method for each part of it.
 #[derive(Drop)]
@@ -48,31 +46,18 @@ impl Diagnostic for Missing {
     }
 }
 
-fn missing_file(alloc: Global) -> Result<Missing, AllocError> {
-    let message = String::from_str(alloc, "a file is missing")?;
-    let help = String::from_str(alloc, "make it")?;
-    Ok(Missing { message, help })
-}
-
-fn boxed_missing(alloc: Global) -> Result<Box<dyn Diagnostic>, Fail> {
-    let boxed: Box<dyn Diagnostic> = Box::new(alloc, missing_file(alloc)?)?;
-    Ok(boxed)
-}
-
-/// The diagnostic has all parts of the missing file's, and no others.
-fn tells_of_it<D: Diagnostic>(rt: &impl Abort, it: &D) {
-    let texts = (it.message(), it.code(), it.help(), it.url());
-    same(
-        rt,
-        texts,
-        ("a file is missing", None, Some("make it"), None),
-    );
-    let others = (it.severity(), it.labels().is_none());
-    same(rt, others, (Some(Severity::Warning), true));
-}
-
 #[test]
-fn a_diagnostic_in_a_box(rt: HostRuntime) -> Result<(), Fail> {
-    tells_of_it(&rt, &boxed_missing(rt.alloc())?);
-    Ok(())
+fn a_report_of_a_diagnostic_by_hand(rt: HostRuntime) {
+    let alloc = rt.alloc();
+    let message = String::from_str(alloc, "a file is missing").expect(&rt, "memory");
+    let help = String::from_str(alloc, "make it").expect(&rt, "memory");
+    let missing = Missing { message, help };
+    let report: Report = Report::copied(alloc, &missing).expect(&rt, "memory");
+    let parts = (report.message(), report.help(), report.severity());
+    let wanted = (
+        "a file is missing",
+        Some("make it"),
+        Some(Severity::Warning),
+    );
+    same(&rt, parts, wanted);
 }

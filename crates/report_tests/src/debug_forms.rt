@@ -1,62 +1,32 @@
-//! What `{:?}` prints of values with texts past ASCII, and what `{:#?}` prints.
+//! What `{:?}` prints of values with texts past ASCII, what `{:#?}` prints, and what an error of the system prints as
+//! an error of a source. What the other errors print is what their clauses say.
 
 use crate::comparing::gives;
+use miette_protocol::error::MietteError;
 use miette_protocol::protocol::LabeledSpan;
 use miette_protocol::source::NamedSource;
-use std::alloc::{AllocError, Global};
-use std::fmt::Debug;
+use std::io;
+use std::io::ErrorKind;
 
-fn label(alloc: Global, text: &str) -> Result<LabeledSpan, AllocError> {
-    LabeledSpan::at(alloc, (9, 4), text)
-}
-
-fn own_label(alloc: Global) -> Result<LabeledSpan, AllocError> {
-    Ok(label(alloc, "é\t\"")?.with_context_lines(2))
-}
-
-fn source(alloc: Global, name: &str) -> Result<NamedSource<&'static str>, AllocError> {
-    NamedSource::new(alloc, name, "x")
-}
-
-fn source_in_rust(alloc: Global) -> Result<NamedSource<&'static str>, AllocError> {
-    source(alloc, "é.rs")?.with_language(alloc, "Rust")
-}
-
-/// What `{:?}` prints of a value, where it was made.
-fn row<T: Debug + Drop>(alloc: Global, made: Result<T, AllocError>) -> Result<String, AllocError> {
-    let it = made?;
-    format!(in alloc; "{it:?}")
-}
-
-/// What `{:#?}` prints of it.
-fn rows<T: Debug + Drop>(alloc: Global, made: Result<T, AllocError>) -> Result<String, AllocError> {
-    let it = made?;
-    format!(in alloc; "{it:#?}")
-}
+/// A label and a source, each in a row and in rows, and the error.
+const FORMS: &str =
+    "LabeledSpan { label: Some(\"é\\t\\\"\"), span: SourceSpan { offset: SourceOffset(9), length: 4 }, \
+    primary: false, context_lines: Some(2) }\n\
+    LabeledSpan {\n    label: Some(\n        \"é\\t\\\"\",\n    ),\n    span: SourceSpan {\n        \
+    offset: SourceOffset(\n            9,\n        ),\n        length: 4,\n    },\n    \
+    primary: false,\n    context_lines: Some(\n        2,\n    ),\n}\n\
+    NamedSource { name: \"é.rs\", source: \"<redacted>\", language: None }\n\
+    NamedSource {\n    name: \"é.rs\",\n    source: \"<redacted>\",\n    language: None,\n}\n\
+    entity not found";
 
 #[test]
-fn debug_forms_in_a_row_and_in_rows(rt: HostRuntime) {
-    gives(
-        &rt,
-        row(rt.alloc(), own_label(rt.alloc())),
-        "LabeledSpan { label: Some(\"é\\t\\\"\"), span: SourceSpan { offset: SourceOffset(9), length: 4 }, \
-        primary: false, context_lines: Some(2) }",
-    );
-    gives(
-        &rt,
-        row(rt.alloc(), source_in_rust(rt.alloc())),
-        "NamedSource { name: \"é.rs\", source: \"<redacted>\", language: Some(\"Rust\") }",
-    );
-    gives(
-        &rt,
-        rows(rt.alloc(), label(rt.alloc(), "é")),
-        "LabeledSpan {\n    label: Some(\n        \"é\",\n    ),\n    span: SourceSpan {\n        \
-        offset: SourceOffset(\n            9,\n        ),\n        length: 4,\n    },\n    \
-        primary: false,\n    context_lines: None,\n}",
-    );
-    gives(
-        &rt,
-        rows(rt.alloc(), source(rt.alloc(), "a.rs")),
-        "NamedSource {\n    name: \"a.rs\",\n    source: \"<redacted>\",\n    language: None,\n}",
-    );
+fn forms_in_a_row_and_in_rows(rt: HostRuntime) {
+    let alloc = rt.alloc();
+    let label = LabeledSpan::at(alloc, (9, 4), "é\t\"")
+        .expect(&rt, "memory")
+        .with_context_lines(2);
+    let source = NamedSource::new(alloc, "é.rs", "x").expect(&rt, "memory");
+    let missing = MietteError::from(io::Error::from(ErrorKind::NotFound));
+    let found = format!(in alloc; "{label:?}\n{label:#?}\n{source:?}\n{source:#?}\n{missing}");
+    gives(&rt, found, FORMS);
 }

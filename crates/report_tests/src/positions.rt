@@ -109,19 +109,33 @@ static REGIONS: [(Numbers, Option<(usize, usize)>); 8] = [
     ((1, 1, 1, 0), None),
 ];
 
-/// Lines and columns, and the offsets that they are brought to.
-static CLAMPED: [((usize, usize), usize); 6] = [
-    ((0, 3), 2),
-    ((0, 99), 7),
-    ((1, 99), 11),
-    ((2, 1), 14),
-    ((3, 99), 18),
-    ((9, 0), 18),
+/// Positions, and the offsets that they are brought to.
+static CLAMPED: [(Position, usize); 6] = [
+    (Position { line: 0, column: 3 }, 2),
+    (
+        Position {
+            line: 0,
+            column: 99,
+        },
+        7,
+    ),
+    (
+        Position {
+            line: 1,
+            column: 99,
+        },
+        11,
+    ),
+    (Position { line: 2, column: 1 }, 14),
+    (
+        Position {
+            line: 3,
+            column: 99,
+        },
+        18,
+    ),
+    (Position { line: 9, column: 0 }, 18),
 ];
-
-fn clamped((line, column): (usize, usize)) -> usize {
-    clamped_offset(Position { line, column }, MIXED, UTF16)
-}
 
 #[test]
 fn regions_spans_and_offsets(rt: HostRuntime) {
@@ -131,7 +145,7 @@ fn regions_spans_and_offsets(rt: HostRuntime) {
     for (numbers, wanted) in &REGIONS {
         same(&rt, spanned(*numbers), *wanted);
     }
-    for (place, wanted) in &CLAMPED {
-        same(&rt, clamped(*place), *wanted);
+    for (position, wanted) in &CLAMPED {
+        same(&rt, clamped_offset(*position, MIXED, UTF16), *wanted);
     }
 }

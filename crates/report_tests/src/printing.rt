@@ -1,15 +1,13 @@
-//! Printing on writers that have room or none.
+//! Printing where the writer has no room. Printing on one that has room is a row of the program `calls`, and so is what
+//! comes of refused memory.
 
-use crate::comparing::gives;
-use crate::highlighting::over_ab;
-use miette::error::RenderError;
+use crate::comparing::same;
+use crate::renderings::over_ab;
 use miette::highlight::BlankHighlighter;
 use miette::options::MietteHandlerOpts;
 use miette::print::{Outputs, print_on};
 use miette::report::Report;
-use miette::terminal::{Stream, Streams};
-use std::alloc::{AllocError, Global};
-use std::env::Env;
+use miette::terminal::Stream;
 use std::io;
 use std::io::{ErrorKind, Write};
 use std::process::ExitCode;
@@ -28,51 +26,30 @@ impl Write for Full {
     }
 }
 
-/// How narrating the report ended, and what was told of faults.
-fn end_on<R: Env + AllocGlobal + Streams, W: Write + Drop>(
-    rt: &R,
-    report: &Report,
-    outputs: &mut Outputs<W, Vec<u8>>,
-) -> Result<String, AllocError> {
-    let alloc = rt.alloc();
+/// Whether the report, narrated, isn't printed, and that is told.
+fn is_told(rt: &HostRuntime, report: &Report, outputs: &mut Outputs<Full, Vec<u8>>) -> bool {
     let options: MietteHandlerOpts<BlankHighlighter> = MietteHandlerOpts::default();
     let options = options.force_narrated(true);
-    let end = end_of(print_on(rt, Stream::Stdout, options, report, outputs));
-    let told = str::from_utf8(outputs.faults.as_slice()).unwrap_or("no text");
-    format!(in alloc; "{told}{end}")
-}
-
-/// What is told of faults where the report is narrated on the writer, and how that ended.
-fn told_of<R: Env + AllocGlobal + Streams, W: Write + Drop>(
-    rt: &R,
-    report: Result<Report, AllocError>,
-    writer: W,
-) -> Result<String, RenderError> {
-    let mut outputs = Outputs::new(writer, Vec::new(rt.alloc()));
-    Ok(end_on(rt, &report?, &mut outputs)?)
-}
-
-fn end_of(status: io::Result<ExitCode>) -> &'static str {
-    match status {
-        Ok(code) if code == ExitCode::SUCCESS => "printed",
-        Ok(_) => "told",
-        Err(_) => "untold",
+    match print_on(rt, Stream::Stdout, options, report, outputs) {
+        Ok(code) => code == ExitCode::FAILURE,
+        Err(_) => false,
     }
 }
 
-/// A message with a label past the end of its source, which narrating refuses.
-fn refused_report(alloc: Global) -> Result<Report, AllocError> {
-    over_ab(alloc, 7)
-}
+/// What is told of a message, and of a label past the end of its source, which narrating refuses.
+const TOLD: &str =
+    "a report could not be printed: write fault\na report could not be printed: a source could not be read\n";
 
 #[test]
-fn printed_or_told(rt: HostRuntime) {
+fn faults_are_told(rt: HostRuntime) {
     let alloc = rt.alloc();
-    let room: Vec<u8> = Vec::new(alloc);
-    gives(&rt, told_of(&rt, Report::msg(alloc, "m"), room), "printed");
-    let full = "a report could not be printed: write fault\ntold";
-    gives(&rt, told_of(&rt, Report::msg(alloc, "m"), Full), full);
-    let room: Vec<u8> = Vec::new(alloc);
-    let refused = "a report could not be printed: a source could not be read\ntold";
-    gives(&rt, told_of(&rt, refused_report(alloc), room), refused);
+    let mut outputs = Outputs::new(Full, Vec::new(alloc));
+    let report = Report::msg(alloc, "m").expect(&rt, "memory");
+    let refused = over_ab(alloc, 7).expect(&rt, "memory");
+    let ends = (
+        is_told(&rt, &report, &mut outputs),
+        is_told(&rt, &refused, &mut outputs),
+    );
+    let told = str::from_utf8(outputs.faults.as_slice()).unwrap_or("no text");
+    same(&rt, (ends, told), ((true, true), TOLD));
 }

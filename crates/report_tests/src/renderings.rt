@@ -1,39 +1,31 @@
-//! What pictures of reports are.
+//! A small report, and what pictures of reports are.
 
-use crate::comparing::gives;
-use miette::error::RenderError;
+use crate::comparing::same;
+use miette::diagnostic::MietteDiagnostic;
 use miette::handlers::GraphicalReportHandler;
-use miette::report::Report;
+use miette::protocol::LabeledSpan;
+use miette::report::{OwnedSource, Report};
 use std::alloc::{AllocError, Global};
 use std::process::Abort;
 
-fn picture(
-    alloc: Global,
-    handler: &mut GraphicalReportHandler,
-    report: &Report,
-) -> Result<String, RenderError> {
-    let mut text = String::new(alloc);
-    handler.render_report(report, &mut text)?;
-    Ok(text)
-}
-
-/// What the handler draws of the report, where both were made.
-fn draw(
-    alloc: Global,
-    handler: Result<GraphicalReportHandler, AllocError>,
-    report: Result<Report, AllocError>,
-) -> Result<String, RenderError> {
-    let report = report?;
-    picture(alloc, &mut handler?, &report)
+/// The message `m`, with a label of one byte over the source `ab`.
+pub(crate) fn over_ab(alloc: Global, offset: usize) -> Result<Report, AllocError> {
+    let source = OwnedSource::new(alloc, b"ab".to_vec(alloc)?)?;
+    let label = LabeledSpan::new(None, offset, 1);
+    let diagnostic = MietteDiagnostic::new(alloc, "m")?.with_label(alloc, label)?;
+    Ok(Report::new(diagnostic).with_owned_source(source))
 }
 
 /// The handler draws the report so.
 pub(crate) fn draws(
     rt: &impl Abort,
     alloc: Global,
-    handler: Result<GraphicalReportHandler, AllocError>,
-    report: Result<Report, AllocError>,
+    mut handler: GraphicalReportHandler,
+    report: &Report,
     wanted: &str,
 ) {
-    gives(rt, draw(alloc, handler, report), wanted);
+    let mut text = String::new(alloc);
+    let drawn = handler.render_report(report, &mut text);
+    drop(handler);
+    same(rt, (drawn, text.as_str()), (Ok(()), wanted));
 }

@@ -4,10 +4,6 @@ use crate::comparing::same;
 use miette_protocol::protocol::{LabeledSpan, SourceOffset, SourceSpan};
 use std::alloc::{AllocError, Global};
 
-fn locate(text: &str, line: usize, column: usize) -> usize {
-    SourceOffset::from_location(text, line, column).offset()
-}
-
 const LINES: &str = "f\n\noo\r\nbar";
 
 const README: &str = "source\n  text\n    here";
@@ -28,17 +24,15 @@ static LOCATIONS: [(&str, usize, usize, usize); 12] = [
     ("漢x", 1, 2, 3),
 ];
 
+/// A text that is no JSON.
+const NO_VALUE: &str = "{\n  \"é\": x\n}";
+
 /// A line, a column and a length, and the span.
 static SPANS: [((usize, usize, usize), (usize, usize)); 3] = [
     ((2, 3, 3), (4, 3)),
     ((2, 8, 1), (10, 1)),
     ((9, 1, 2), (13, 2)),
 ];
-
-fn spanned((line, column, length): (usize, usize, usize)) -> (usize, usize) {
-    let span = SourceSpan::at_line_column("{\n  \"é\": x\n}", line, column, length);
-    (span.offset(), span.len())
-}
 
 /// A label where the reader of JSON stopped. Its columns count bytes, so they are added to the line's offset.
 fn json_label(
@@ -56,27 +50,27 @@ fn json_label(
     )
 }
 
-/// Where that label begins; nowhere where the text is JSON.
-fn json_ends(alloc: Global, text: &str) -> Result<Option<usize>, AllocError> {
-    match serde_json::Value::from_str(alloc, text) {
-        Ok(_) => Ok(None),
-        Err(error) => Ok(Some(json_label(alloc, text, &error)?.offset())),
+/// Texts that are no JSON, and where their labels begin.
+static NO_JSON: [(&str, usize); 3] = [(NO_VALUE, 10), ("{\n  \"a\": ", 8), ("[1,\n", 4)];
+
+#[test]
+fn locations_and_spans(rt: HostRuntime) {
+    for (text, line, column, wanted) in &LOCATIONS {
+        let found = SourceOffset::from_location(text, *line, *column);
+        same(&rt, found.offset(), *wanted);
+    }
+    for ((line, column, length), wanted) in &SPANS {
+        let span = SourceSpan::at_line_column(NO_VALUE, *line, *column, *length);
+        same(&rt, (span.offset(), span.len()), *wanted);
     }
 }
 
-/// Texts that are no JSON, and where their labels begin.
-static NO_JSON: [(&str, usize); 3] = [("{\n  \"é\": x\n}", 10), ("{\n  \"a\": ", 8), ("[1,\n", 4)];
-
 #[test]
-fn locations_spans_and_where_json_ends(rt: HostRuntime) {
-    for (text, line, column, offset) in &LOCATIONS {
-        let found = locate(text, *line, *column);
-        same(&rt, (line, column, found), (line, column, *offset));
-    }
-    for (place, wanted) in &SPANS {
-        same(&rt, spanned(*place), *wanted);
-    }
-    for (text, offset) in &NO_JSON {
-        same(&rt, json_ends(rt.alloc(), text), Ok(Some(*offset)));
+fn where_json_ends(rt: HostRuntime) {
+    let alloc = rt.alloc();
+    for (text, wanted) in &NO_JSON {
+        let error = serde_json::Value::from_str(alloc, text).expect_err(&rt, "no JSON");
+        let label = json_label(alloc, text, &error).expect(&rt, "memory");
+        same(&rt, label.offset(), *wanted);
     }
 }

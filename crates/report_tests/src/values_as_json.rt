@@ -1,46 +1,47 @@
-//! Values as JSON.
+//! Values as JSON: what is read, by its debug form, and what is written.
 
 use crate::comparing::same;
+use miette_fixes::fix::Fix;
 use miette_protocol::diagnostic::MietteDiagnostic;
 use miette_protocol::protocol::{LabeledSpan, Severity, SourceOffset, SourceSpan};
 use serde::{Deserialize, Serialize};
-use std::alloc::{AllocError, Global};
+use std::alloc::Global;
+use std::fmt::Debug;
 use std::process::Abort;
 
-/// The value is written as this text.
-fn is_written<T: Serialize>(
+/// A JSON text, the debug form of the value that is read from it, and the text that it is written as.
+type Row = (&'static str, &'static str, &'static str);
+
+/// The values that are read from the first texts have these debug forms, and are written as the last ones.
+fn are_read_and_written<'de, T: Serialize + Deserialize<'de> + Debug + Drop>(
     rt: &impl Abort,
     alloc: Global,
-    value: &T,
-    text: &str,
-) -> Result<(), serde_json::Error> {
-    same(rt, serde_json::to_string(alloc, value)?.as_str(), text);
-    Ok(())
+    rows: &[(&'de str, &str, &str)],
+) {
+    for (text, form, written) in rows {
+        let value = serde_json::from_str::<T>(alloc, *text).expect(rt, "a value");
+        let shown = format!(in alloc; "{value:?}").expect(rt, "memory");
+        let json = serde_json::to_string(alloc, &value).expect(rt, "a text");
+        same(rt, (shown.as_str(), json.as_str()), (*form, *written));
+    }
 }
 
-/// The value is read from this text.
-fn is_read<'de, T: Deserialize<'de> + PartialEq + Drop>(
-    rt: &impl Abort,
-    alloc: Global,
-    value: &T,
-    text: &'de str,
-) -> Result<(), serde_json::Error> {
-    assert!(rt; serde_json::from_str::<T>(alloc, text)? == *value);
-    Ok(())
-}
+static SEVERITIES: [Row; 1] = [("\"Advice\"", "Advice", "\"Advice\"")];
 
-/// The value is written as this text, and read from it.
-fn is_json<'de, T: Serialize + Deserialize<'de> + PartialEq + Drop>(
-    rt: &impl Abort,
-    alloc: Global,
-    value: &T,
-    text: &'de str,
-) -> Result<(), serde_json::Error> {
-    is_written(rt, alloc, value, text)?;
-    is_read(rt, alloc, value, text)
-}
+static OFFSETS: [Row; 1] = [("0", "SourceOffset(0)", "0")];
 
-/// A label's JSON, without context lines of its own.
+static SPANS: [Row; 1] = [(
+    r#"{"offset":3,"length":4}"#,
+    "SourceSpan { offset: SourceOffset(3), length: 4 }",
+    r#"{"offset":3,"length":4}"#,
+)];
+
+/// A label without context lines of its own.
+const PLAIN: &str =
+    "LabeledSpan { label: None, span: SourceSpan { offset: SourceOffset(1), length: 2 }, primary: false, \
+    context_lines: None }";
+
+/// How it is written.
 const PLAIN_LABEL: &str = r#"{"span":{"offset":1,"length":2},"primary":false}"#;
 
 const WITH_TWO: &str = r#"{"span":{"offset":1,"length":2},"primary":false,"context_lines":2}"#;
@@ -48,46 +49,36 @@ const WITH_TWO: &str = r#"{"span":{"offset":1,"length":2},"primary":false,"conte
 const WITH_MOST: &str =
     r#"{"span":{"offset":1,"length":2},"primary":false,"context_lines":18446744073709551615}"#;
 
-/// What labels are read from, their context lines, and what they are written as.
-static LABELS: [(&str, Option<usize>, &str); 6] = [
-    (PLAIN_LABEL, None, PLAIN_LABEL),
+static LABELS: [Row; 6] = [
+    (PLAIN_LABEL, PLAIN, PLAIN_LABEL),
     (
         r#"{"label":null,"span":{"offset":1,"length":2},"primary":false}"#,
-        None,
+        PLAIN,
         PLAIN_LABEL,
     ),
     (
         r#"{"span":{"offset":1,"length":2},"primary":false,"context_lines":0}"#,
-        None,
+        PLAIN,
         PLAIN_LABEL,
     ),
     (
         r#"{"span":{"offset":1,"length":2},"primary":false,"context_lines":null}"#,
-        None,
+        PLAIN,
         PLAIN_LABEL,
     ),
-    (WITH_TWO, Some(2), WITH_TWO),
-    (WITH_MOST, Some(usize::MAX), WITH_MOST),
+    (
+        WITH_TWO,
+        "LabeledSpan { label: None, span: SourceSpan { offset: SourceOffset(1), length: 2 }, primary: false, \
+        context_lines: Some(2) }",
+        WITH_TWO,
+    ),
+    (
+        WITH_MOST,
+        "LabeledSpan { label: None, span: SourceSpan { offset: SourceOffset(1), length: 2 }, primary: false, \
+        context_lines: Some(18446744073709551615) }",
+        WITH_MOST,
+    ),
 ];
-
-fn label_with(lines: Option<usize>) -> LabeledSpan {
-    let label = LabeledSpan::underline(1..3);
-    match lines {
-        Some(lines) if 0 < lines => label.with_context_lines(lines),
-        _ => label,
-    }
-}
-
-/// The label is read from the one text, and written as the other.
-fn is_label(
-    rt: &impl Abort,
-    alloc: Global,
-    label: &LabeledSpan,
-    (given, written): (&str, &str),
-) -> Result<(), serde_json::Error> {
-    is_read(rt, alloc, label, given)?;
-    is_written(rt, alloc, label, written)
-}
 
 /// With context lines that can't be.
 static NO_LABELS: [&str; 6] = [
@@ -99,66 +90,68 @@ static NO_LABELS: [&str; 6] = [
     r#"{"span":{"offset":1,"length":2},"primary":false,"context_lines":18446744073709551616}"#,
 ];
 
-/// Whether a label is read from a text.
-fn is_any_label(alloc: Global, text: &str) -> bool {
-    serde_json::from_str::<LabeledSpan>(alloc, text).is_ok()
-}
+/// A message alone.
+const ALONE: &str =
+    "MietteDiagnostic { message: \"m\", code: None, severity: None, help: None, url: None, labels: None }";
 
-#[test]
-fn labels(rt: HostRuntime) -> Result<(), serde_json::Error> {
-    for (given, lines, written) in &LABELS {
-        is_label(&rt, rt.alloc(), &label_with(*lines), (*given, *written))?;
-    }
-    for text in &NO_LABELS {
-        same(&rt, is_any_label(rt.alloc(), text), false);
-    }
-    Ok(())
-}
+/// How it is written.
+const MESSAGE: &str = r#"{"message":"m"}"#;
 
-/// All parts but labels.
-fn all_but_labels(alloc: Global) -> Result<MietteDiagnostic, AllocError> {
-    MietteDiagnostic::new(alloc, "message")?
-        .with_code(alloc, "c")?
-        .with_severity(Severity::Warning)
-        .with_help(alloc, "h")?
-        .with_url(alloc, "u")
-}
-
-/// All parts, with a label.
-fn full_diagnostic(alloc: Global) -> Result<MietteDiagnostic, AllocError> {
-    let label = LabeledSpan::at(alloc, 1..3, "t")?;
-    all_but_labels(alloc)?.with_label(alloc, label)
-}
-
-/// The value, where it was made, is read from each of the texts, and written as the first.
-fn is_made<'de, T: Serialize + Deserialize<'de> + PartialEq + Drop>(
-    rt: &impl Abort,
-    alloc: Global,
-    made: Result<T, AllocError>,
-    (text, more): (&'de str, &'de str),
-) -> Result<(), serde_json::Error> {
-    let value = made?;
-    is_json(rt, alloc, &value, text)?;
-    is_read(rt, alloc, &value, more)
-}
-
+/// A diagnostic of all parts.
 const FULL: &str =
-    "{\"message\":\"message\",\"code\":\"c\",\"severity\":\"Warning\",\"help\":\"h\",\"url\":\"u\",\
+    "{\"message\":\"m\",\"code\":\"c\",\"severity\":\"Warning\",\"help\":\"h\",\"url\":\"u\",\
     \"labels\":[{\"label\":\"t\",\"span\":{\"offset\":1,\"length\":2},\"primary\":false}]}";
 
-/// A message alone, as it is written, and with all other parts empty.
-static ALONE: (&str, &str) = (
-    r#"{"message":"message"}"#,
-    r#"{"message":"message","code":null,"severity":null,"help":null,"url":null,"labels":null}"#,
-);
+static DIAGNOSTICS: [Row; 3] = [
+    (MESSAGE, ALONE, MESSAGE),
+    (
+        r#"{"message":"m","code":null,"severity":null,"help":null,"url":null,"labels":null}"#,
+        ALONE,
+        MESSAGE,
+    ),
+    (
+        FULL,
+        "MietteDiagnostic { message: \"m\", code: Some(\"c\"), severity: Some(Warning), help: Some(\"h\"), \
+        url: Some(\"u\"), labels: Some([LabeledSpan { label: Some(\"t\"), \
+        span: SourceSpan { offset: SourceOffset(1), length: 2 }, primary: false, context_lines: None }]) }",
+        FULL,
+    ),
+];
+
+/// A fix of one edit.
+const COLON: &str = "{\"message\":\"m\",\"applicability\":\"machine-applicable\",\
+    \"edits\":[{\"span\":{\"offset\":9,\"length\":0},\"text\":\":\"}]}";
+
+/// The last one is a fix of which nothing says how sure it is.
+static FIXES: [Row; 2] = [
+    (
+        COLON,
+        "Fix { message: \"m\", applicability: MachineApplicable, edits: [Edit { \
+        span: SourceSpan { offset: SourceOffset(9), length: 0 }, text: \":\" }] }",
+        COLON,
+    ),
+    (
+        r#"{"message":"m","edits":[]}"#,
+        "Fix { message: \"m\", applicability: Unspecified, edits: [] }",
+        r#"{"message":"m","applicability":"unspecified","edits":[]}"#,
+    ),
+];
 
 #[test]
-fn parts_and_diagnostics(rt: HostRuntime) -> Result<(), serde_json::Error> {
+fn values_are_read_and_written(rt: HostRuntime) {
     let alloc = rt.alloc();
-    is_json(&rt, alloc, &Severity::Advice, "\"Advice\"")?;
-    is_json(&rt, alloc, &SourceOffset::from(0), "0")?;
-    let span = SourceSpan::from((3, 4));
-    is_json(&rt, alloc, &span, r#"{"offset":3,"length":4}"#)?;
-    is_made(&rt, alloc, MietteDiagnostic::new(alloc, "message"), ALONE)?;
-    is_made(&rt, alloc, full_diagnostic(alloc), (FULL, FULL))
+    are_read_and_written::<Severity>(&rt, alloc, &SEVERITIES);
+    are_read_and_written::<SourceOffset>(&rt, alloc, &OFFSETS);
+    are_read_and_written::<SourceSpan>(&rt, alloc, &SPANS);
+    are_read_and_written::<LabeledSpan>(&rt, alloc, &LABELS);
+    are_read_and_written::<MietteDiagnostic>(&rt, alloc, &DIAGNOSTICS);
+    are_read_and_written::<Fix>(&rt, alloc, &FIXES);
+}
+
+#[test]
+fn no_labels_are_read(rt: HostRuntime) {
+    for text in &NO_LABELS {
+        let read = serde_json::from_str::<LabeledSpan>(rt.alloc(), text);
+        let _error = read.expect_err(&rt, "no label");
+    }
 }

@@ -1,12 +1,9 @@
-//! Texts in rows. A help text in Japanese is in `cases/job-separator.jsonl`, by both separators.
+//! Texts in rows. A help text in Japanese is in `cases/job-separator.jsonl`, by both separators; which texts fit in one
+//! row is what a clause of `push_fitting` says.
 
-use crate::comparing::{gives, same};
-use miette_text::runs::output::Output;
-use miette_text::runs::reading::read_text;
-use miette_text::wrap::fitting::push_fitting;
+use crate::comparing::gives;
 use miette_text::wrap::{WordSeparator, WordSplitter, WrapOptions, fill};
 use std::alloc::{AllocError, Global};
-use std::process::Abort;
 
 /// Without indents; words are cut after hyphens and where they are too wide.
 const PLAIN: WrapOptions<'static> = WrapOptions {
@@ -56,28 +53,10 @@ const WHOLE_UNDER_SIGNS: WrapOptions<'static> = WrapOptions {
 };
 
 /// A text, the columns of a row, and the rows.
-type Row<'a> = (&'a str, usize, &'a str);
-
-/// The text in rows.
-fn filled(alloc: Global, options: &WrapOptions<'_>, text: &str) -> Result<String, AllocError> {
-    let mut out = String::new(alloc);
-    fill(text, options, &mut out)?;
-    Ok(out)
-}
-
-/// The options make these rows, but for their width.
-fn fills(rt: &impl Abort, alloc: Global, options: WrapOptions<'_>, rows: &[Row<'_>]) {
-    for (text, width, wanted) in rows {
-        let options = WrapOptions {
-            width: *width,
-            ..options
-        };
-        gives(rt, filled(alloc, &options, text), *wanted);
-    }
-}
+type Row = (&'static str, usize, &'static str);
 
 /// Options, and rows that they make.
-static TABLES: [(WrapOptions<'static>, &[Row<'static>]); 9] = [
+static TABLES: [(WrapOptions<'static>, &[Row]); 9] = [
     // texts with sequences
     (
         PLAIN,
@@ -163,46 +142,23 @@ static TABLES: [(WrapOptions<'static>, &[Row<'static>]); 9] = [
     ),
 ];
 
-/// Whether the text fits after a red indent of two columns.
-fn fits(alloc: Global, wraps: bool, width: usize, text: &str) -> Result<bool, AllocError> {
-    let first = read_text(alloc, "\u{1B}[31m>\u{1B}[0m ")?;
-    push_fitting(&mut Output::for_text(alloc), wraps, width, &first, text)
+/// The text in rows.
+fn filled(
+    alloc: Global,
+    options: &WrapOptions<'_>,
+    (text, width): (&str, usize),
+) -> Result<String, AllocError> {
+    let options = WrapOptions { width, ..*options };
+    let mut out = String::new(alloc);
+    fill(text, &options, &mut out)?;
+    Ok(out)
 }
 
-/// A text, its columns with the indent's, and whether it fits these.
-static FITTING: [(&str, usize, bool); 10] = [
-    ("", 2, true),
-    ("one-two three", 15, true),
-    ("漢字 é", 8, true),
-    ("漢\u{301}", 4, true),
-    ("one ", 6, false),
-    ("漢 ", 5, false),
-    (" ", 3, false),
-    ("a\nb", 5, false),
-    ("漢\n", 5, false),
-    ("\u{1B}[31ma", 8, false),
-];
-
-/// Lines that stay whole have any width; those that are white have another indent.
-static FITTING_WHOLE: [(&str, bool); 5] = [
-    ("a ", true),
-    (" é", true),
-    ("", false),
-    (" ", false),
-    ("\u{A0}", false),
-];
-
 #[test]
-fn texts_are_filled_and_fit(rt: HostRuntime) {
+fn texts_are_filled(rt: HostRuntime) {
     for (options, rows) in &TABLES {
-        fills(&rt, rt.alloc(), *options, *rows);
-    }
-    for (text, width, wanted) in &FITTING {
-        same(&rt, fits(rt.alloc(), true, *width, text), Ok(*wanted));
-        let less = width.saturating_sub(1);
-        same(&rt, fits(rt.alloc(), true, less, text), Ok(false));
-    }
-    for (text, wanted) in &FITTING_WHOLE {
-        same(&rt, fits(rt.alloc(), false, 0, text), Ok(*wanted));
+        for (text, width, wanted) in *rows {
+            gives(&rt, filled(rt.alloc(), options, (*text, *width)), *wanted);
+        }
     }
 }
