@@ -4,7 +4,6 @@ ghost use Rattle.std.specs.Prelude.{◌≡◌, IfOk, string_bytes};
 ghost use Rattle.miette_tree.specs.views.Report.{tree_of};
 ghost use Rattle.callers.specs.Mended.{FixStands, TellsColon, colon_tree};
 
-use miette::diagnostic::MietteDiagnostic;
 use miette::error::RenderError;
 use miette::handlers::GraphicalReportHandler;
 use miette::protocol::Diagnostic;
@@ -23,7 +22,7 @@ pub fn no_colon(alloc: Global) -> Result<Report, AllocError>
         .as_bytes()
         .to_vec(alloc)?;
     let source = OwnedSource::named(alloc, "f.py", None, code)?;
-    let report = Report::new(MietteDiagnostic::new(alloc, "no colon")?).with_owned_source(source);
+    let report = Report::msg(alloc, "no colon")?.with_owned_source(source);
     let edit = Edit::insert(16, String::from_str(alloc, ":")?);
     let fix = Fix::new(alloc, "a colon is missing")?.with_edit(edit)?;
     report.with_fix(alloc, fix)

@@ -13,7 +13,7 @@ ghost use Rattle.callers.specs.Known.{warning_tree};
 use miette::diagnostic::MietteDiagnostic;
 use miette::error::RenderError;
 use miette::handlers::{GraphicalReportHandler, ReportHandler};
-use miette::protocol::{Diagnostic, LabeledSpan};
+use miette::protocol::Diagnostic;
 use miette::report::{OwnedSource, Report};
 use miette::source::SourceCode;
 use miette::theme::GraphicalTheme;
@@ -38,9 +38,9 @@ pub fn warning(alloc: Global) -> Result<Report, AllocError>
 {
     let settings = "port = 80\nhost = x\n".as_bytes().to_vec(alloc)?;
     let source = OwnedSource::named(alloc, "app.toml", None, settings)?;
-    let label = LabeledSpan::at(alloc, (17, 1), "this name")?;
-    let diagnostic = MietteDiagnostic::new(alloc, "no such host")?.with_label(alloc, label)?;
-    Ok(Report::new(diagnostic).with_owned_source(source))
+    let diagnostic = MietteDiagnostic::new(alloc, "no such host")?;
+    let labelled = diagnostic.and_label_at(alloc, (17, 1), "this name")?;
+    Ok(Report::new(labelled).with_owned_source(source))
 }
 
 /// Both pictures of that warning.

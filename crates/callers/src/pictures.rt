@@ -18,7 +18,7 @@ ghost use Rattle.callers.specs.Sums.{printed_cause, printed_sum, sum_tree};
 use miette::diagnostic::MietteDiagnostic;
 use miette::error::RenderError;
 use miette::handlers::GraphicalReportHandler;
-use miette::protocol::{Diagnostic, LabeledSpan};
+use miette::protocol::Diagnostic;
 use miette::report::{OwnedSource, Report};
 use miette::source::SourceCode;
 use miette::theme::GraphicalTheme;
@@ -33,9 +33,9 @@ pub fn depth(alloc: Global) -> Result<Report, AllocError>
 {
     let settings = "depth = 1\n".as_bytes().to_vec(alloc)?;
     let source = OwnedSource::named(alloc, "app.toml", None, settings)?;
-    let label = LabeledSpan::at(alloc, (8, 1), "set here")?;
-    let diagnostic = MietteDiagnostic::new(alloc, "too deep")?.with_label(alloc, label)?;
-    Ok(Report::new(diagnostic).with_owned_source(source))
+    let diagnostic = MietteDiagnostic::new(alloc, "too deep")?;
+    let labelled = diagnostic.and_label_at(alloc, (8, 1), "set here")?;
+    Ok(Report::new(labelled).with_owned_source(source))
 }
 
 /// A call over six lines, below it a long line at whose end a term is missing, and the cause.
@@ -47,11 +47,10 @@ pub fn sum(alloc: Global) -> Result<Report, AllocError>
         .as_bytes()
         .to_vec(alloc)?;
     let source = OwnedSource::named(alloc, "sum.x", None, code)?;
-    let call = LabeledSpan::at(alloc, (0, 44), "a call")?;
-    let total = LabeledSpan::at(alloc, (49, 5), "the sum")?;
-    let term = LabeledSpan::at(alloc, (76, 0), "a term")?;
-    let labels = vec![in alloc; call, total, term]?;
-    let diagnostic = MietteDiagnostic::new(alloc, "no term")?.with_labels(labels);
+    let diagnostic = MietteDiagnostic::new(alloc, "no term")?
+        .and_label_at(alloc, (0, 44), "a call")?
+        .and_label_at(alloc, (49, 5), "the sum")?
+        .and_label_at(alloc, (76, 0), "a term")?;
     let report = Report::new(diagnostic).with_owned_source(source);
     match report.with_diagnostic_cause(alloc, depth(alloc)?) {
         Ok(report) => Ok(report),

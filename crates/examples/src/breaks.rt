@@ -10,9 +10,8 @@ use std::process::ExitCode;
 use std::{fs, io};
 
 /// Runs the example with the words after its name.
-pub fn main<R: Files + Print + Eprint + AllocGlobal>(rt: &R, mut words: Args) -> ExitCode {
-    let name = words.next();
-    match run(rt, name.as_deref()) {
+pub fn main<R: Files + Print + Eprint + AllocGlobal>(rt: &R, words: Args) -> ExitCode {
+    match run(rt, words) {
         Ok(()) => ExitCode::SUCCESS,
         Err(fault) => {
             let _ = eprintln!(rt; "breaks: {fault}");
@@ -21,27 +20,38 @@ pub fn main<R: Files + Print + Eprint + AllocGlobal>(rt: &R, mut words: Args) ->
     }
 }
 
-fn run<R: Files + Print + AllocGlobal>(rt: &R, name: Option<&str>) -> io::Result<()> {
-    let Some(name) = name else {
-        return Err(io::Error::other("usage: breaks FILE"));
-    };
-    let text = fs::read_to_string(rt, name)?;
-    for part in text.split('\0') {
-        let places = places_of(rt.alloc(), part)?;
-        println!(rt; "{places}")?;
-    }
-    Ok(())
+fn run<R: Files + Print + AllocGlobal>(rt: &R, words: Args) -> io::Result<()> {
+    let text = text_of(rt, words)?;
+    let rows = rows_of(rt.alloc(), text.as_str())?;
+    rt.print(rows)
 }
 
-/// The opportunities, parted by spaces.
-fn places_of(alloc: Global, text: &str) -> Result<String, AllocError> {
-    let mut places = String::new(alloc);
-    for (at, opportunity) in line_breaks(text) {
-        let place = match opportunity {
-            BreakOpportunity::Mandatory => format!(in alloc; " {at}!")?,
-            BreakOpportunity::Allowed => format!(in alloc; " {at}")?,
-        };
-        places.push_str(place.as_str())?;
+/// The text of the file that the first word names.
+fn text_of<R: Files + AllocGlobal>(rt: &R, mut words: Args) -> io::Result<String> {
+    match words.next() {
+        Some(name) => fs::read_to_string(rt, name.as_str()),
+        None => Err(io::Error::other("usage: breaks FILE")),
     }
-    Ok(places)
+}
+
+/// A row for each text, which NUL parts.
+fn rows_of(alloc: Global, text: &str) -> Result<String, AllocError> {
+    let mut rows = String::new(alloc);
+    for part in text.split('\0') {
+        push_places(&mut rows, part)?;
+        rows.push('\n')?;
+    }
+    Ok(rows)
+}
+
+/// Appends the opportunities of a text, each after a space.
+fn push_places(rows: &mut String, text: &str) -> Result<(), AllocError> {
+    for (at, opportunity) in line_breaks(text) {
+        let mark = match opportunity {
+            BreakOpportunity::Mandatory => "!",
+            BreakOpportunity::Allowed => "",
+        };
+        write!(rows, " {at}{mark}")?;
+    }
+    Ok(())
 }

@@ -18,9 +18,8 @@ use std::io::Print;
 use std::process::ExitCode;
 
 /// Runs the example with the words after its name.
-pub fn main<R: Host>(rt: &R, mut words: Args) -> ExitCode {
-    let text = words.next();
-    match run(rt, text.as_deref()) {
+pub fn main<R: Host>(rt: &R, words: Args) -> ExitCode {
+    match run(rt, words) {
         Ok(()) => ExitCode::SUCCESS,
         Err(report) => {
             let options = MietteHandlerOpts::default().with_syntax_highlighting(Cyan);
@@ -29,17 +28,23 @@ pub fn main<R: Host>(rt: &R, mut words: Args) -> ExitCode {
     }
 }
 
-fn run<R: Print + AllocGlobal>(rt: &R, text: Option<&str>) -> Result<()> {
+fn run<R: Print + AllocGlobal>(rt: &R, words: Args) -> Result<()> {
     let alloc = rt.alloc();
-    let text = text.wrap_err(alloc, "usage: calc EXPRESSION")?;
-    match value_of(text) {
-        Ok(value) => println!(rt; "{value}").into_diagnostic(alloc),
+    let value = value_in(alloc, words)?;
+    rt.println(value).into_diagnostic(alloc)
+}
+
+/// The value of the first word.
+fn value_in(alloc: Global, mut words: Args) -> Result<i64> {
+    let text = words.next().wrap_err(alloc, "usage: calc EXPRESSION")?;
+    match value_of(text.as_str()) {
+        Ok(value) => Ok(value),
         Err(fault) => Err(report_of(alloc, text, fault)?).wrap_err(alloc, "there is no value"),
     }
 }
 
 /// The reason as a message, and a label where it lies.
-fn report_of(alloc: Global, text: &str, fault: Fault) -> Result<Report, AllocError> {
+fn report_of(alloc: Global, text: String, fault: Fault) -> Result<Report, AllocError> {
     let source = source_of(alloc, text)?;
     let label = ((fault.start, fault.length), "here");
     Ok(miette!(in alloc; label = label, "{}", fault.reason).with_owned_source(source))
@@ -47,8 +52,9 @@ fn report_of(alloc: Global, text: &str, fault: Fault) -> Result<Report, AllocErr
 
 /// The text with a line feed after it, so that a label after its last word is shown: one at the very end of a source
 /// isn't.
-fn source_of(alloc: Global, text: &str) -> Result<OwnedSource, AllocError> {
-    OwnedSource::new(alloc, format!(in alloc; "{text}\n")?.into_bytes())
+fn source_of(alloc: Global, mut text: String) -> Result<OwnedSource, AllocError> {
+    text.push('\n')?;
+    OwnedSource::new(alloc, text.into_bytes())
 }
 
 /// Lines in one colour.

@@ -6,7 +6,7 @@ use crate::confcheck::settings::{is_known, key_in, line_of, nearest_key, port_of
 use crate::reading::text_of;
 use miette::prelude::{
     Applicability, Edit, Fix, Host, IntoDiagnostic, LabeledSpan, MietteDiagnostic, OwnedSource,
-    Report, Result, Severity, Snippets, WrapErr, print_report,
+    Report, Result, Severity, SourceSpan, WrapErr, print_report,
 };
 use miette_tree::miette;
 use std::alloc::{AllocError, Global};
@@ -18,64 +18,51 @@ use toml::Table;
 use toml::de::Error;
 
 /// Runs the example with the words after its name.
-pub fn main<R: Host>(rt: &R, mut words: Args) -> ExitCode {
-    let (name, other) = (words.next(), words.next());
-    match run(rt, name.as_deref(), other.as_deref()) {
+pub fn main<R: Host>(rt: &R, words: Args) -> ExitCode {
+    match run(rt, words) {
         Ok(()) => ExitCode::SUCCESS,
         Err(report) => print_report(rt, &report),
     }
 }
 
-fn run<R: Files + Print + AllocGlobal>(
-    rt: &R,
-    name: Option<&str>,
-    other: Option<&str>,
-) -> Result<()> {
+fn run<R: Files + Print + AllocGlobal>(rt: &R, mut words: Args) -> Result<()> {
     let alloc = rt.alloc();
-    let name = name.wrap_err(alloc, "usage: confcheck FILE [FILE]")?;
-    let text = text_of(rt, name)?;
-    match check_with(rt, text.as_str(), other) {
+    let usage = "usage: confcheck FILE [FILE]";
+    let name = words.next().wrap_err(alloc, usage)?;
+    let text = text_of(rt, name.as_str())?;
+    match check_with(rt, text.as_str(), words.next()) {
         Ok(port) => println!(rt; "{name}: port {port}").into_diagnostic(alloc),
-        Err(report) => {
-            let source = OwnedSource::named(alloc, name, Some("toml"), text.into_bytes())?;
-            Err(report.with_owned_source(source))
-        }
+        Err(report) => fail_in(alloc, report, name.as_str(), text),
     }
+}
+
+/// Fails with a report whose source is this file.
+fn fail_in(alloc: Global, report: Report, name: &str, text: String) -> Result<()> {
+    let source = OwnedSource::named(alloc, name, Some("toml"), text.into_bytes())?;
+    Err(report.with_owned_source(source))
 }
 
 /// The port, or what is wrong with the settings, of which another file may give none.
-fn check_with<R: Files + AllocGlobal>(rt: &R, text: &str, other: Option<&str>) -> Result<i64> {
+fn check_with<R: Files + AllocGlobal>(rt: &R, text: &str, other: Option<String>) -> Result<i64> {
+    let alloc = rt.alloc();
     if let Some(name) = other {
-        check_other(rt, text, name)?;
+        let other = text_of(rt, name.as_str())?;
+        check_other(alloc, text, name.as_str(), other)?;
     }
-    check(rt.alloc(), text)
+    check(alloc, text)
 }
 
-/// Fails where another file gives one of the settings too.
-fn check_other<R: Files + AllocGlobal>(rt: &R, text: &str, name: &str) -> Result<()> {
-    let alloc = rt.alloc();
-    let other = text_of(rt, name)?;
+/// Fails where another file, with this name and text, gives one of the settings too.
+fn check_other(alloc: Global, text: &str, name: &str, other: String) -> Result<()> {
     match set_twice(text, other.as_str()) {
         Some((key, line, again)) => {
-            let labels = label_on(alloc, Some(again), "and here")?;
             let source = OwnedSource::named(alloc, name, Some("toml"), other.into_bytes())?;
-            let elsewhere = Snippets::over_owned(source, labels);
-            Err(given_twice(alloc, key, line, elsewhere)?)
+            let labels = label_at(alloc, Some(again), "and here")?;
+            let report = miette!(in alloc; label = (line, "given here"), "two files give `{key}`");
+            Err(report.with_owned_snippets(alloc, source, labels)?)
         }
         None => Ok(()),
     }
-}
-
-/// A fault that two files give a key: on a line of the first one, and elsewhere.
-fn given_twice(
-    alloc: Global,
-    key: &str,
-    line: (usize, usize),
-    elsewhere: Snippets,
-) -> Result<Report> {
-    let snippets = vec![in alloc; elsewhere]?;
-    let label = (line, "given here");
-    Ok(miette!(in alloc; label = label, snippets = snippets, "two files give `{key}`"))
 }
 
 /// The port, or what is wrong with the settings.
@@ -91,35 +78,30 @@ fn check(alloc: Global, text: &str) -> Result<i64> {
 
 /// A label where the parser stopped.
 fn no_toml(alloc: Global, error: &Error) -> Result<Report, AllocError> {
-    let diagnostic = MietteDiagnostic::new(alloc, "this is no TOML")?;
-    match error.span() {
-        Some(span) => {
-            let label = LabeledSpan::at(alloc, span, error.message())?;
-            Ok(Report::new(diagnostic.with_label(alloc, label)?))
-        }
-        None => Ok(Report::new(diagnostic)),
-    }
+    let labels = label_at(alloc, error.span(), error.message())?;
+    let diagnostic = MietteDiagnostic::new(alloc, "this is no TOML")?.with_labels(labels);
+    Ok(Report::new(diagnostic))
 }
 
 /// A fault, and beside it a warning for each key that nothing reads.
-fn bad_port(alloc: Global, text: &str, table: &Table) -> Result<Report> {
-    let labels = label_on(alloc, line_of(text, "port"), "from 1 to 65535")?;
-    let fixes = port_fixes(alloc, text)?;
-    let warnings = unread_keys(alloc, text, table)?;
+fn bad_port(alloc: Global, text: &str, table: &Table) -> Result<Report, AllocError> {
+    let labels = label_at(alloc, line_of(text, "port"), "from 1 to 65535")?;
     let fault = miette!(
         in alloc;
         code = "settings::port",
         help = "write a number, as in `port = 8080`",
         url = "https://toml.io/en/v1.0.0#integer",
         labels = labels,
-        fixes = fixes,
         "the port is missing or wrong"
     );
-    Ok(fault.with_related(warnings))
+    let warnings = unread_keys(alloc, text, table)?;
+    fault
+        .with_related(warnings)
+        .with_fix(alloc, port_fix(alloc, text)?)
 }
 
 /// A warning for each key that nothing reads.
-fn unread_keys(alloc: Global, text: &str, table: &Table) -> Result<Vec<Report>> {
+fn unread_keys(alloc: Global, text: &str, table: &Table) -> Result<Vec<Report>, AllocError> {
     let mut warnings = Vec::new(alloc);
     for key in table.keys() {
         if !is_known(key.as_str()) {
@@ -130,46 +112,49 @@ fn unread_keys(alloc: Global, text: &str, table: &Table) -> Result<Vec<Report>> 
 }
 
 /// A warning that nothing reads this key.
-fn unread_key(alloc: Global, text: &str, key: &str) -> Result<Report> {
-    let labels = label_on(alloc, line_of(text, key), "this key isn't known")?;
-    let fixes = key_fixes(alloc, text, key)?;
-    Ok(miette!(
+fn unread_key(alloc: Global, text: &str, key: &str) -> Result<Report, AllocError> {
+    let labels = label_at(alloc, line_of(text, key), "this key isn't known")?;
+    let warning = miette!(
         in alloc;
         severity = Severity::Warning,
         labels = labels,
-        fixes = fixes,
         "nothing reads `{key}`"
-    ))
+    );
+    match key_fix(alloc, text, key)? {
+        Some(fix) => warning.with_fix(alloc, fix),
+        None => Ok(warning),
+    }
 }
 
 /// A port that is right: in place of the line that sets one, or in front.
-fn port_fixes(alloc: Global, text: &str) -> Result<Vec<Fix>, AllocError> {
+fn port_fix(alloc: Global, text: &str) -> Result<Fix, AllocError> {
     let edit = match line_of(text, "port") {
         Some(line) => Edit::replace(line, String::from_str(alloc, "port = 8080")?),
         None => Edit::insert(0, String::from_str(alloc, "port = 8080\n")?),
     };
     let fix = Fix::new(alloc, "set a port")?.with_edit(edit)?;
-    Ok(vec![in alloc; fix.with_applicability(Applicability::HasPlaceholders)]?)
+    Ok(fix.with_applicability(Applicability::HasPlaceholders))
 }
 
 /// The known key that is nearest to this one, in its place, where there is one.
-fn key_fixes(alloc: Global, text: &str, key: &str) -> Result<Vec<Fix>, AllocError> {
+fn key_fix(alloc: Global, text: &str, key: &str) -> Result<Option<Fix>, AllocError> {
     let (Some(known), Some(place)) = (nearest_key(alloc, key)?, key_in(text, key)) else {
-        return Ok(Vec::new(alloc));
+        return Ok(None);
     };
     let edit = Edit::replace(place, String::from_str(alloc, known)?);
     let fix = Fix::new(alloc, "a known key has a similar name")?.with_edit(edit)?;
-    Ok(vec![in alloc; fix.with_applicability(Applicability::MaybeIncorrect)]?)
+    Ok(Some(fix.with_applicability(Applicability::MaybeIncorrect)))
 }
 
-/// A label on a line, where there is one.
-fn label_on(
+/// A label at a place, where there is one.
+fn label_at<P: Into<SourceSpan> + Drop>(
     alloc: Global,
-    line: Option<(usize, usize)>,
+    place: Option<P>,
     why: &str,
 ) -> Result<Vec<LabeledSpan>, AllocError> {
-    match line {
-        Some(line) => Ok(vec![in alloc; LabeledSpan::at(alloc, line, why)?]?),
-        None => Ok(Vec::new(alloc)),
+    let mut labels = Vec::new(alloc);
+    if let Some(place) = place {
+        labels.push(LabeledSpan::at(alloc, place, why)?)?;
     }
+    Ok(labels)
 }

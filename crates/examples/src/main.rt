@@ -10,33 +10,34 @@ mod reading;
 mod testdiff;
 mod typos;
 
-use miette::prelude::Host;
 use std::io::Eprint;
 use std::process::ExitCode;
 use std::{env, io};
 
 fn main(rt: HostRuntime) -> ExitCode {
-    match run(&rt) {
-        Ok(status) => status,
-        Err(fault) => {
-            let _ = eprintln!(rt; "{fault}");
-            ExitCode::from(2)
-        }
+    let mut words = match env::args(&rt) {
+        Ok(words) => words,
+        Err(fault) => return fail(&rt, fault),
+    };
+    let name = words.nth(1).unwrap_or(String::new(rt.alloc()));
+    match name.as_str() {
+        "breaks" => breaks::main(&rt, words),
+        "calc" => calc::main(&rt, words),
+        "confcheck" => confcheck::main(&rt, words),
+        "minilisp" => minilisp::main(&rt, words),
+        "testdiff" => testdiff::main(&rt, words),
+        "typos" => typos::main(&rt, words),
+        _ => fail(
+            &rt,
+            io::Error::other(
+                "usage: examples breaks|calc|confcheck|minilisp|testdiff|typos WORDS..",
+            ),
+        ),
     }
 }
 
-fn run<R: Host + Eprint>(rt: &R) -> io::Result<ExitCode> {
-    let mut words = env::args(rt)?;
-    let name = words.nth(1).unwrap_or(String::new(rt.alloc()));
-    match name.as_str() {
-        "breaks" => Ok(breaks::main(rt, words)),
-        "calc" => Ok(calc::main(rt, words)),
-        "confcheck" => Ok(confcheck::main(rt, words)),
-        "minilisp" => Ok(minilisp::main(rt, words)),
-        "testdiff" => Ok(testdiff::main(rt, words)),
-        "typos" => Ok(typos::main(rt, words)),
-        _ => Err(io::Error::other(
-            "usage: examples breaks|calc|confcheck|minilisp|testdiff|typos WORDS..",
-        )),
-    }
+/// Tells why the words can't be used, and gives the status 2.
+fn fail<R: Eprint>(rt: &R, fault: io::Error) -> ExitCode {
+    let _ = eprintln!(rt; "{fault}");
+    ExitCode::from(2)
 }

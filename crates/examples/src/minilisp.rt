@@ -49,8 +49,9 @@ fn faults_in<R: Files + Input + AllocGlobal>(rt: &R, names: &[String]) -> Result
 fn push_slips(faults: &mut Vec<Report>, alloc: Global, file: &SourceText) -> Result<()> {
     let text = file.text();
     for slip in slips_of(alloc, text)?.iter() {
+        let source = file.source()?;
         let report = report_of(alloc, *slip, text.len());
-        faults.push(report.with_owned_source(file.source()?))?;
+        faults.push(report.with_owned_source(source))?;
     }
     Ok(())
 }

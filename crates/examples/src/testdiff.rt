@@ -13,11 +13,33 @@ use std::process::ExitCode;
 
 /// Runs the example with the words after its name.
 pub fn main<R: Host>(rt: &R, words: Args) -> ExitCode {
-    let (form, expected, actual) = words_of(words);
-    match run(rt, form, expected.as_deref(), actual.as_deref()) {
+    match run(rt, words) {
         Ok(status) => status,
         Err(report) => eprint_report(rt, &report),
     }
+}
+
+fn run<R: Host>(rt: &R, words: Args) -> Result<ExitCode> {
+    let (form, faults) = compare(rt, words)?;
+    let run = Reporter::new(rt, form, MietteHandlerOpts::new())?;
+    Ok(run.report_all(faults.as_slice()))
+}
+
+/// The form of the report, and the report of the lines that aren't the expected ones. Where there are none, that is
+/// printed.
+fn compare<R: Files + Print + AllocGlobal>(rt: &R, words: Args) -> Result<(Form, Vec<Report>)> {
+    let alloc = rt.alloc();
+    let usage = "usage: testdiff [--json] EXPECTED ACTUAL";
+    let (form, expected, actual) = words_of(words);
+    let expected = expected.wrap_err(alloc, usage)?;
+    let actual = actual.wrap_err(alloc, usage)?;
+    let wanted = text_of(rt, expected.as_str())?;
+    let found = text_of(rt, actual.as_str())?;
+    let faults = faults_in(alloc, wanted.as_str(), actual.as_str(), found)?;
+    if faults.is_empty() {
+        println!(rt; "{actual}: as expected").into_diagnostic(alloc)?;
+    }
+    Ok((form, faults))
 }
 
 /// The form of the report, and the names of the two logs.
@@ -30,49 +52,13 @@ fn words_of(mut words: Args) -> (Form, Option<String>, Option<String>) {
     }
 }
 
-fn run<R: Host>(
-    rt: &R,
-    form: Form,
-    expected: Option<&str>,
-    actual: Option<&str>,
-) -> Result<ExitCode> {
-    match compare(rt, expected, actual)? {
-        Some(report) => {
-            let run = Reporter::new(rt, form, MietteHandlerOpts::new())?;
-            Ok(run.report_all(&[report]))
-        }
-        None => Ok(ExitCode::SUCCESS),
-    }
-}
-
-/// A report of the lines that aren't the expected ones. Where there are none, that is printed.
-fn compare<R: Files + Print + AllocGlobal>(
-    rt: &R,
-    expected: Option<&str>,
-    actual: Option<&str>,
-) -> Result<Option<Report>> {
-    let alloc = rt.alloc();
-    let usage = "usage: testdiff [--json] EXPECTED ACTUAL";
-    let expected = expected.wrap_err(alloc, usage)?;
-    let actual = actual.wrap_err(alloc, usage)?;
-    let wanted = text_of(rt, expected)?;
-    let found = text_of(rt, actual)?;
-    let labels = differences(alloc, wanted.as_str(), found.as_str())?;
-    if labels.is_empty() {
-        println!(rt; "{actual}: as expected").into_diagnostic(alloc)?;
-        return Ok(None);
-    }
-    Ok(Some(report_of(alloc, actual, found, labels)?))
-}
-
-/// A report with a label on each line that differs.
-fn report_of(
-    alloc: Global,
-    actual: &str,
-    found: String,
-    labels: Vec<LabeledSpan>,
-) -> Result<Report> {
+/// A report with a label on each line of a log that isn't the expected one, where there are some.
+fn faults_in(alloc: Global, wanted: &str, actual: &str, found: String) -> Result<Vec<Report>> {
+    let labels = differences(alloc, wanted, found.as_str())?;
     let count = labels.len();
+    if count == 0 {
+        return Ok(Vec::new(alloc));
+    }
     let source = OwnedSource::named(alloc, actual, None, found.into_bytes())?;
     let report = miette!(
         in alloc;
@@ -80,5 +66,7 @@ fn report_of(
         labels = labels,
         "lines that differ: {count}"
     );
-    Ok(report.with_owned_source(source))
+    let mut faults = Vec::new(alloc);
+    faults.push(report.with_owned_source(source))?;
+    Ok(faults)
 }

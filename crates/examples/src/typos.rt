@@ -5,7 +5,7 @@ use miette::prelude::*;
 use std::alloc::{AllocError, Global};
 use std::env::Args;
 use std::fs::Files;
-use std::io::Write;
+use std::io::Print;
 use std::process::ExitCode;
 
 /// Words as they are often misspelt, each with how it is spelt.
@@ -18,11 +18,23 @@ const WORDS: [(&str, &str); 4] = [
 
 /// Runs the example with the words after its name.
 pub fn main<R: Host>(rt: &R, words: Args) -> ExitCode {
-    let (is_fixing, name) = words_of(words);
-    match run(rt, name.as_deref(), is_fixing) {
+    match run(rt, words) {
         Ok(()) => ExitCode::SUCCESS,
         Err(report) => print_report(rt, &report),
     }
+}
+
+/// Prints a file with its misspelt words mended, or fails with a report of them.
+fn run<R: Files + Print + AllocGlobal>(rt: &R, words: Args) -> Result<()> {
+    let alloc = rt.alloc();
+    let (is_fixing, name) = words_of(words);
+    let name = name.wrap_err(alloc, "usage: typos [--fix] FILE")?;
+    let text = text_of(rt, name.as_str())?;
+    if !is_fixing {
+        return check(alloc, name.as_str(), text);
+    }
+    let fixed = mended(alloc, text.as_str())?;
+    rt.write_all(fixed.as_slice()).into_diagnostic(alloc)
 }
 
 /// Whether the file is to be mended, and its name.
@@ -33,24 +45,6 @@ fn words_of(mut words: Args) -> (bool, Option<String>) {
     } else {
         (false, first)
     }
-}
-
-/// Prints a file with its misspelt words mended, or fails with a report of them.
-fn run<R: Files + Streams + AllocGlobal>(
-    rt: &R,
-    name: Option<&str>,
-    is_fixing: bool,
-) -> Result<()> {
-    let alloc = rt.alloc();
-    let name = name.wrap_err(alloc, "usage: typos [--fix] FILE")?;
-    let text = text_of(rt, name)?;
-    if !is_fixing {
-        return check(alloc, name, text);
-    }
-    let fixed = mended(alloc, text.as_str())?;
-    rt.output()
-        .write_all(fixed.as_slice())
-        .into_diagnostic(alloc)
 }
 
 /// A text with its misspelt words mended.
@@ -72,8 +66,8 @@ fn check(alloc: Global, name: &str, text: String) -> Result<()> {
 /// A fix with an edit for each misspelt word of a text.
 fn fix_of(alloc: Global, text: &str) -> Result<Fix, AllocError> {
     let mut fix = Fix::new(alloc, "spell it right")?;
-    for (wrong, right) in WORDS {
-        for (offset, word) in text.match_indices(wrong) {
+    for (wrong, right) in &WORDS {
+        for (offset, word) in text.match_indices(*wrong) {
             let edit = Edit::replace((offset, word.len()), String::from_str(alloc, right)?);
             fix = fix.with_edit(edit)?;
         }
@@ -92,9 +86,8 @@ fn labels_of(alloc: Global, fix: &Fix) -> Result<Vec<LabeledSpan>, AllocError> {
 }
 
 /// A report with a label on each misspelt word, and the fix.
-fn report_of(alloc: Global, fix: Fix) -> Result<Report> {
+fn report_of(alloc: Global, fix: Fix) -> Result<Report, AllocError> {
     let labels = labels_of(alloc, &fix)?;
     let count = labels.len();
-    let fixes = vec![in alloc; fix]?;
-    Ok(miette!(in alloc; labels = labels, fixes = fixes, "misspelt words: {count}"))
+    miette!(in alloc; labels = labels, "misspelt words: {count}").with_fix(alloc, fix)
 }
