@@ -1,14 +1,17 @@
 //! The calls that the program makes, each by its name, in the order of their rows.
 
-use crate::attached::Call as Part;
+use crate::attached::{
+    Call as Part, WITH_ALL_SNIPPETS, WITH_FIX, WITH_FIXES, WITH_OWNED_SNIPPETS, WITH_SNIPPETS,
+};
 use crate::diagnostics::Call as Diagnostic;
+use crate::examples::By;
 use crate::fixes::Call as Fix;
 use crate::handlers::Call as Handler;
 use crate::highlighters::Call as Highlighter;
 use crate::labels::Call as Label;
 use crate::outputs::Call as Output;
 use crate::printing::Call as Printing;
-use crate::reports::Call as Report;
+use crate::reports::{Call as Report, IN_FRONT, NO_ITEM, NOTHING, SEVEN, Way};
 use crate::runs::Call as Runs;
 use crate::sources::Call as Source;
 use crate::texts::Call as Text;
@@ -32,312 +35,339 @@ pub enum Call {
     Printing(Printing),
 }
 
-/// All calls.
-pub static CALLS: [(&str, Call); 141] = [
-    ("LabeledSpan::at", Call::Label(Label::At)),
-    ("LabeledSpan::at_offset", Call::Label(Label::AtOffset)),
-    ("LabeledSpan::clone", Call::Label(Label::Clones)),
-    ("MietteDiagnostic::new", Call::Diagnostic(Diagnostic::New)),
-    (
-        "MietteDiagnostic::copied",
-        Call::Diagnostic(Diagnostic::Copied),
-    ),
-    (
-        "MietteDiagnostic::with_code",
-        Call::Diagnostic(Diagnostic::WithCode),
-    ),
-    (
-        "MietteDiagnostic::with_help",
-        Call::Diagnostic(Diagnostic::WithHelp),
-    ),
-    (
-        "MietteDiagnostic::with_url",
-        Call::Diagnostic(Diagnostic::WithUrl),
-    ),
-    (
-        "MietteDiagnostic::with_label",
-        Call::Diagnostic(Diagnostic::WithLabel),
-    ),
-    (
-        "MietteDiagnostic::with_labels_from",
-        Call::Diagnostic(Diagnostic::WithLabelsFrom),
-    ),
-    (
-        "MietteDiagnostic::and_label",
-        Call::Diagnostic(Diagnostic::AndLabel),
-    ),
-    (
-        "MietteDiagnostic::and_labels",
-        Call::Diagnostic(Diagnostic::AndLabels),
-    ),
-    (
-        "MietteDiagnostic::clone",
-        Call::Diagnostic(Diagnostic::Clones),
-    ),
-    ("diagnostic!", Call::Diagnostic(Diagnostic::Macro)),
-    ("IndexedSource::new", Call::Source(Source::Indexed)),
-    ("NamedSource::new", Call::Source(Source::Named)),
-    (
-        "NamedSource::with_language",
-        Call::Source(Source::NamedWithLanguage),
-    ),
-    ("NamedSource::clone", Call::Source(Source::NamedClones)),
-    ("OwnedSource::new", Call::Source(Source::Owned)),
-    (
-        "OwnedSource::unindexed",
-        Call::Source(Source::OwnedUnindexed),
-    ),
-    ("OwnedSource::named", Call::Source(Source::OwnedNamed)),
-    (
-        "OwnedSource::named_unindexed",
-        Call::Source(Source::OwnedNamedUnindexed),
-    ),
-    (
-        "ThemeCharacters::unicode",
-        Call::Theme(Theme::UnicodeCharacters),
-    ),
-    (
-        "ThemeCharacters::emoji",
-        Call::Theme(Theme::EmojiCharacters),
-    ),
-    (
-        "ThemeCharacters::ascii",
-        Call::Theme(Theme::AsciiCharacters),
-    ),
-    (
-        "ThemeCharacters::clone",
-        Call::Theme(Theme::CharactersClones),
-    ),
-    ("ThemeStyles::rgb", Call::Theme(Theme::RgbStyles)),
-    ("ThemeStyles::ansi", Call::Theme(Theme::AnsiStyles)),
-    ("ThemeStyles::none", Call::Theme(Theme::NoStyles)),
-    ("ThemeStyles::clone", Call::Theme(Theme::StylesClones)),
-    ("GraphicalTheme::ascii", Call::Theme(Theme::Ascii)),
-    ("GraphicalTheme::unicode", Call::Theme(Theme::Unicode)),
-    (
-        "GraphicalTheme::unicode_nocolor",
-        Call::Theme(Theme::UnicodeWithoutColour),
-    ),
-    ("GraphicalTheme::none", Call::Theme(Theme::NoTheme)),
-    (
-        "GraphicalTheme::for_terminal",
-        Call::Theme(Theme::ForTerminal),
-    ),
-    ("GraphicalTheme::clone", Call::Theme(Theme::Clones)),
-    (
-        "Highlighter::highlight_line for BlankHighlighter",
-        Call::Theme(Theme::BlankLine),
-    ),
-    (
-        "Highlighter::highlight_line for Box",
-        Call::Theme(Theme::BoxedLine),
-    ),
-    ("by_char", Call::Highlighter(Highlighter::ByChar)),
-    (
-        "Delimiters::new",
-        Call::Highlighter(Highlighter::NewDelimiters),
-    ),
-    (
-        "Delimiters::clone",
-        Call::Highlighter(Highlighter::DelimitersClones),
-    ),
-    ("Pattern::words", Call::Highlighter(Highlighter::Words)),
-    (
-        "Pattern::clone",
-        Call::Highlighter(Highlighter::PatternClones),
-    ),
-    ("Rule::clone", Call::Highlighter(Highlighter::RuleClones)),
-    (
-        "PatternHighlighter::json",
-        Call::Highlighter(Highlighter::Json),
-    ),
-    (
-        "PatternHighlighter::toml",
-        Call::Highlighter(Highlighter::Toml),
-    ),
-    (
-        "PatternHighlighter::rust",
-        Call::Highlighter(Highlighter::Rust),
-    ),
-    (
-        "PatternHighlighter::clone",
-        Call::Highlighter(Highlighter::Clones),
-    ),
-    (
-        "Highlighter::highlight_line for PatternHighlighter",
-        Call::Highlighter(Highlighter::Line),
-    ),
-    ("Report::copied", Call::Report(Report::Copied)),
-    ("Report::msg", Call::Report(Report::Msg)),
-    ("Report::from_err", Call::Report(Report::FromErr)),
-    (
-        "Report::with_diagnostic_cause",
-        Call::Report(Report::WithDiagnosticCause),
-    ),
-    ("Report::wrap_err", Call::Report(Report::WrapErr)),
-    ("Report::context", Call::Report(Report::Context)),
-    (
-        "WrapErr::wrap_err for Option",
-        Call::Report(Report::OptionWrapErr),
-    ),
-    (
-        "WrapErr::context for Option",
-        Call::Report(Report::OptionContext),
-    ),
-    (
-        "WrapErr::wrap_err_with for Option",
-        Call::Report(Report::OptionWrapErrWith),
-    ),
-    (
-        "WrapErr::with_context for Option",
-        Call::Report(Report::OptionWithContext),
-    ),
-    (
-        "WrapErr::wrap_err for Result",
-        Call::Report(Report::ResultWrapErr),
-    ),
-    (
-        "WrapErr::context for Result",
-        Call::Report(Report::ResultContext),
-    ),
-    (
-        "WrapErr::wrap_err_with for Result",
-        Call::Report(Report::ResultWrapErrWith),
-    ),
-    (
-        "WrapErr::with_context for Result",
-        Call::Report(Report::ResultWithContext),
-    ),
-    (
-        "IntoDiagnostic::into_diagnostic for Result",
-        Call::Report(Report::IntoDiagnostic),
-    ),
-    ("miette!", Call::Report(Report::Miette)),
-    ("bail!", Call::Report(Report::Bail)),
-    ("ensure!", Call::Report(Report::Ensure)),
-    ("Report::with_snippets", Call::Part(Part::WithSnippets)),
-    (
-        "Report::with_owned_snippets",
-        Call::Part(Part::WithOwnedSnippets),
-    ),
-    (
-        "Report::with_all_snippets",
-        Call::Part(Part::WithAllSnippets),
-    ),
-    ("Report::with_fix", Call::Part(Part::WithFix)),
-    ("Report::with_fixes", Call::Part(Part::WithFixes)),
-    ("miette! for a report with fixes", Call::Part(Part::Macro)),
-    ("fill", Call::Text(Text::Fill)),
-    ("wrap", Call::Text(Text::Wrap)),
-    ("push_fitting", Call::Text(Text::PushFitting)),
-    ("without_leading", Call::Text(Text::WithoutLeading)),
-    ("without_trailing", Call::Text(Text::WithoutTrailing)),
-    ("read", Call::Text(Text::Read)),
-    ("read_text", Call::Text(Text::ReadText)),
-    ("print", Call::Text(Text::Print)),
-    ("columns_of", Call::Text(Text::ColumnsOf)),
-    ("append_whole", Call::Text(Text::AppendWhole)),
-    ("Runs::new", Call::Runs(Runs::New)),
-    ("Runs::push", Call::Runs(Runs::Push)),
-    ("Runs::push_chars", Call::Runs(Runs::PushChars)),
-    ("Runs::push_str", Call::Runs(Runs::PushStr)),
-    ("Runs::begin", Call::Runs(Runs::Begin)),
-    ("Runs::end", Call::Runs(Runs::End)),
-    ("Runs::push_run", Call::Runs(Runs::PushRun)),
-    ("Runs::push_run_chars", Call::Runs(Runs::PushRunChars)),
-    ("Runs::push_link", Call::Runs(Runs::PushLink)),
-    ("Runs::push_link_end", Call::Runs(Runs::PushLinkEnd)),
-    ("Runs::append", Call::Runs(Runs::Append)),
-    ("Output::for_text", Call::Output(Output::ForText)),
-    ("Output::for_runs", Call::Output(Output::ForRuns)),
-    ("Output::reserve", Call::Output(Output::Reserve)),
-    ("Output::push", Call::Output(Output::Push)),
-    ("Output::push_chars", Call::Output(Output::PushChars)),
-    ("Output::push_str", Call::Output(Output::PushStr)),
-    ("Output::begin", Call::Output(Output::Begin)),
-    ("Output::end", Call::Output(Output::End)),
-    ("Output::push_run", Call::Output(Output::PushRun)),
-    ("Output::push_link", Call::Output(Output::PushLink)),
-    ("Output::push_link_end", Call::Output(Output::PushLinkEnd)),
-    ("Output::into_text", Call::Output(Output::IntoText)),
-    ("Output::into_runs", Call::Output(Output::IntoRuns)),
-    (
-        "GraphicalReportHandler::new",
-        Call::Handler(Handler::NewGraphical),
-    ),
-    (
-        "GraphicalReportHandler::render_report",
-        Call::Handler(Handler::RenderGraphical),
-    ),
-    (
-        "ReportHandler::debug for GraphicalReportHandler",
-        Call::Handler(Handler::DebugGraphical),
-    ),
-    (
-        "NarratableReportHandler::render_report",
-        Call::Handler(Handler::ReportNarrated),
-    ),
-    (
-        "NarratableReportHandler::render",
-        Call::Handler(Handler::RenderNarrated),
-    ),
-    (
-        "NarratableReportHandler::clone",
-        Call::Handler(Handler::NarratedClones),
-    ),
-    (
-        "ReportHandler::debug for NarratableReportHandler",
-        Call::Handler(Handler::DebugNarrated),
-    ),
-    (
-        "BriefReportHandler::render_report",
-        Call::Handler(Handler::ReportBrief),
-    ),
-    (
-        "BriefReportHandler::render",
-        Call::Handler(Handler::RenderBrief),
-    ),
-    (
-        "ReportHandler::debug for BriefReportHandler",
-        Call::Handler(Handler::DebugBrief),
-    ),
-    (
-        "JSONReportHandler::render_report",
-        Call::Handler(Handler::ReportJson),
-    ),
-    (
-        "ReportHandler::debug for JSONReportHandler",
-        Call::Handler(Handler::DebugJson),
-    ),
-    (
-        "DebugReportHandler::render_report",
-        Call::Handler(Handler::ReportDebug),
-    ),
-    (
-        "ReportHandler::debug for DebugReportHandler",
-        Call::Handler(Handler::DebugDebug),
-    ),
-    ("ReportHandler::display", Call::Handler(Handler::Display)),
-    ("MietteHandlerOpts::build", Call::Handler(Handler::Build)),
-    ("MietteHandler::new", Call::Handler(Handler::NewChosen)),
-    (
-        "ReportHandler::debug for MietteHandler",
-        Call::Handler(Handler::DebugChosen),
-    ),
-    ("Edit::delete", Call::Fix(Fix::Delete)),
-    ("Edit::clone", Call::Fix(Fix::EditClones)),
-    ("Fix::new", Call::Fix(Fix::New)),
-    ("Fix::with_edit", Call::Fix(Fix::WithEdit)),
-    ("Fix::with_edits_from", Call::Fix(Fix::WithEditsFrom)),
-    ("Fix::apply", Call::Fix(Fix::Apply)),
-    ("apply_all", Call::Fix(Fix::ApplyAll)),
-    ("Variables::read", Call::Printing(Printing::Read)),
-    ("detect", Call::Printing(Printing::Detect)),
-    ("write_report", Call::Printing(Printing::Write)),
-    ("print_to", Call::Printing(Printing::To)),
-    ("print_on", Call::Printing(Printing::On)),
-    ("print_report", Call::Printing(Printing::Print)),
-    ("print_report_with", Call::Printing(Printing::PrintWith)),
-    ("eprint_report", Call::Printing(Printing::Eprint)),
-    ("eprint_report_with", Call::Printing(Printing::EprintWith)),
+/// All calls, those of each module beside one another.
+pub fn all_calls() -> &'static [&'static [(&'static str, Call)]] {
+    &CALLS
+}
+
+static CALLS: [&[(&str, Call)]; 13] = [
+    &[
+        ("LabeledSpan::at", Call::Label(Label::At)),
+        ("LabeledSpan::at_offset", Call::Label(Label::AtOffset)),
+        ("LabeledSpan::clone", Call::Label(Label::Clones)),
+    ],
+    &[
+        ("MietteDiagnostic::new", Call::Diagnostic(Diagnostic::New)),
+        (
+            "MietteDiagnostic::copied",
+            Call::Diagnostic(Diagnostic::Copied),
+        ),
+        (
+            "MietteDiagnostic::with_code",
+            Call::Diagnostic(Diagnostic::WithCode),
+        ),
+        (
+            "MietteDiagnostic::with_help",
+            Call::Diagnostic(Diagnostic::WithHelp),
+        ),
+        (
+            "MietteDiagnostic::with_url",
+            Call::Diagnostic(Diagnostic::WithUrl),
+        ),
+        (
+            "MietteDiagnostic::with_label",
+            Call::Diagnostic(Diagnostic::WithLabel),
+        ),
+        (
+            "MietteDiagnostic::with_labels_from",
+            Call::Diagnostic(Diagnostic::WithLabelsFrom),
+        ),
+        (
+            "MietteDiagnostic::and_label",
+            Call::Diagnostic(Diagnostic::AndLabel),
+        ),
+        (
+            "MietteDiagnostic::and_labels",
+            Call::Diagnostic(Diagnostic::AndLabels),
+        ),
+        (
+            "MietteDiagnostic::clone",
+            Call::Diagnostic(Diagnostic::Clones),
+        ),
+        ("diagnostic!", Call::Diagnostic(Diagnostic::Macro)),
+    ],
+    &[
+        ("IndexedSource::new", Call::Source(Source::Indexed)),
+        ("NamedSource::new", Call::Source(Source::Named)),
+        (
+            "NamedSource::with_language",
+            Call::Source(Source::NamedWithLanguage),
+        ),
+        ("NamedSource::clone", Call::Source(Source::NamedClones)),
+        ("OwnedSource::new", Call::Source(Source::Owned)),
+        (
+            "OwnedSource::unindexed",
+            Call::Source(Source::OwnedUnindexed),
+        ),
+        ("OwnedSource::named", Call::Source(Source::OwnedNamed)),
+        (
+            "OwnedSource::named_unindexed",
+            Call::Source(Source::OwnedNamedUnindexed),
+        ),
+    ],
+    &[
+        (
+            "ThemeCharacters::unicode",
+            Call::Theme(Theme::UnicodeCharacters),
+        ),
+        (
+            "ThemeCharacters::emoji",
+            Call::Theme(Theme::EmojiCharacters),
+        ),
+        (
+            "ThemeCharacters::ascii",
+            Call::Theme(Theme::AsciiCharacters),
+        ),
+        (
+            "ThemeCharacters::clone",
+            Call::Theme(Theme::CharactersClones),
+        ),
+        ("ThemeStyles::rgb", Call::Theme(Theme::RgbStyles)),
+        ("ThemeStyles::ansi", Call::Theme(Theme::AnsiStyles)),
+        ("ThemeStyles::none", Call::Theme(Theme::NoStyles)),
+        ("ThemeStyles::clone", Call::Theme(Theme::StylesClones)),
+        ("GraphicalTheme::ascii", Call::Theme(Theme::Ascii)),
+        ("GraphicalTheme::unicode", Call::Theme(Theme::Unicode)),
+        (
+            "GraphicalTheme::unicode_nocolor",
+            Call::Theme(Theme::UnicodeWithoutColour),
+        ),
+        ("GraphicalTheme::none", Call::Theme(Theme::NoTheme)),
+        (
+            "GraphicalTheme::for_terminal",
+            Call::Theme(Theme::ForTerminal),
+        ),
+        ("GraphicalTheme::clone", Call::Theme(Theme::Clones)),
+        (
+            "Highlighter::highlight_line for BlankHighlighter",
+            Call::Theme(Theme::BlankLine),
+        ),
+        (
+            "Highlighter::highlight_line for Box",
+            Call::Theme(Theme::BoxedLine),
+        ),
+    ],
+    &[
+        ("by_char", Call::Highlighter(Highlighter::ByChar)),
+        (
+            "Delimiters::new",
+            Call::Highlighter(Highlighter::NewDelimiters),
+        ),
+        (
+            "Delimiters::clone",
+            Call::Highlighter(Highlighter::DelimitersClones),
+        ),
+        ("Pattern::words", Call::Highlighter(Highlighter::Words)),
+        (
+            "Pattern::clone",
+            Call::Highlighter(Highlighter::PatternClones),
+        ),
+        ("Rule::clone", Call::Highlighter(Highlighter::RuleClones)),
+        (
+            "PatternHighlighter::json",
+            Call::Highlighter(Highlighter::Json),
+        ),
+        (
+            "PatternHighlighter::toml",
+            Call::Highlighter(Highlighter::Toml),
+        ),
+        (
+            "PatternHighlighter::rust",
+            Call::Highlighter(Highlighter::Rust),
+        ),
+        (
+            "PatternHighlighter::clone",
+            Call::Highlighter(Highlighter::Clones),
+        ),
+        (
+            "Highlighter::highlight_line for PatternHighlighter",
+            Call::Highlighter(Highlighter::Line),
+        ),
+    ],
+    &[
+        ("Report::copied", Call::Report(Report::Copied)),
+        ("Report::msg", Call::Report(Report::Msg)),
+        ("Report::from_err", Call::Report(Report::FromErr)),
+        (
+            "Report::with_diagnostic_cause",
+            Call::Report(Report::WithDiagnosticCause),
+        ),
+        ("Report::wrap_err", Call::Report(Report::WrapErr)),
+        ("Report::context", Call::Report(Report::Context)),
+        (
+            "WrapErr::wrap_err for Option",
+            Call::Report(Report::InFrontOfNone(Way::WrapErr, NOTHING)),
+        ),
+        (
+            "WrapErr::context for Option",
+            Call::Report(Report::InFrontOfNone(Way::Context, NOTHING)),
+        ),
+        (
+            "WrapErr::wrap_err_with for Option",
+            Call::Report(Report::InFrontOfNone(Way::WrapErrWith, NO_ITEM)),
+        ),
+        (
+            "WrapErr::with_context for Option",
+            Call::Report(Report::InFrontOfNone(Way::WithContext, NO_ITEM)),
+        ),
+        (
+            "WrapErr::wrap_err for Result",
+            Call::Report(Report::InFrontOfErr(Way::WrapErr, IN_FRONT)),
+        ),
+        (
+            "WrapErr::context for Result",
+            Call::Report(Report::InFrontOfErr(Way::Context, IN_FRONT)),
+        ),
+        (
+            "WrapErr::wrap_err_with for Result",
+            Call::Report(Report::InFrontOfErr(Way::WrapErrWith, SEVEN)),
+        ),
+        (
+            "WrapErr::with_context for Result",
+            Call::Report(Report::InFrontOfErr(Way::WithContext, SEVEN)),
+        ),
+        (
+            "IntoDiagnostic::into_diagnostic for Result",
+            Call::Report(Report::IntoDiagnostic),
+        ),
+        ("miette!", Call::Report(Report::Miette)),
+        ("bail!", Call::Report(Report::Bail)),
+        ("ensure!", Call::Report(Report::Ensure)),
+    ],
+    &[
+        ("Report::with_snippets", Call::Part(WITH_SNIPPETS)),
+        (
+            "Report::with_owned_snippets",
+            Call::Part(WITH_OWNED_SNIPPETS),
+        ),
+        ("Report::with_all_snippets", Call::Part(WITH_ALL_SNIPPETS)),
+        ("Report::with_fix", Call::Part(WITH_FIX)),
+        ("Report::with_fixes", Call::Part(WITH_FIXES)),
+        ("miette! for a report with fixes", Call::Part(Part::Macro)),
+    ],
+    &[
+        ("fill", Call::Text(Text::Fill)),
+        ("wrap", Call::Text(Text::Wrap)),
+        ("push_fitting", Call::Text(Text::PushFitting)),
+        ("without_leading", Call::Text(Text::WithoutLeading)),
+        ("without_trailing", Call::Text(Text::WithoutTrailing)),
+        ("read", Call::Text(Text::Read)),
+        ("read_text", Call::Text(Text::ReadText)),
+        ("print", Call::Text(Text::Print)),
+        ("columns_of", Call::Text(Text::ColumnsOf)),
+        ("append_whole", Call::Text(Text::AppendWhole)),
+    ],
+    &[
+        ("Runs::new", Call::Runs(Runs::New)),
+        ("Runs::push", Call::Runs(Runs::Push)),
+        ("Runs::push_chars", Call::Runs(Runs::PushChars)),
+        ("Runs::push_str", Call::Runs(Runs::PushStr)),
+        ("Runs::begin", Call::Runs(Runs::Begin)),
+        ("Runs::end", Call::Runs(Runs::End)),
+        ("Runs::push_run", Call::Runs(Runs::PushRun)),
+        ("Runs::push_run_chars", Call::Runs(Runs::PushRunChars)),
+        ("Runs::push_link", Call::Runs(Runs::PushLink)),
+        ("Runs::push_link_end", Call::Runs(Runs::PushLinkEnd)),
+        ("Runs::append", Call::Runs(Runs::Append)),
+    ],
+    &[
+        ("Output::for_text", Call::Output(Output::ForText)),
+        ("Output::for_runs", Call::Output(Output::ForRuns)),
+        ("Output::reserve", Call::Output(Output::Reserve)),
+        ("Output::push", Call::Output(Output::Push)),
+        ("Output::push_chars", Call::Output(Output::PushChars)),
+        ("Output::push_str", Call::Output(Output::PushStr)),
+        ("Output::begin", Call::Output(Output::Begin)),
+        ("Output::end", Call::Output(Output::End)),
+        ("Output::push_run", Call::Output(Output::PushRun)),
+        ("Output::push_link", Call::Output(Output::PushLink)),
+        ("Output::push_link_end", Call::Output(Output::PushLinkEnd)),
+        ("Output::into_text", Call::Output(Output::IntoText)),
+        ("Output::into_runs", Call::Output(Output::IntoRuns)),
+    ],
+    &[
+        (
+            "GraphicalReportHandler::new",
+            Call::Handler(Handler::NewGraphical),
+        ),
+        (
+            "GraphicalReportHandler::render_report",
+            Call::Handler(Handler::RenderGraphical),
+        ),
+        (
+            "ReportHandler::debug for GraphicalReportHandler",
+            Call::Handler(Handler::Debug(By::Graphical)),
+        ),
+        (
+            "NarratableReportHandler::render_report",
+            Call::Handler(Handler::ReportNarrated),
+        ),
+        (
+            "NarratableReportHandler::render",
+            Call::Handler(Handler::RenderNarrated),
+        ),
+        (
+            "NarratableReportHandler::clone",
+            Call::Handler(Handler::NarratedClones),
+        ),
+        (
+            "ReportHandler::debug for NarratableReportHandler",
+            Call::Handler(Handler::Debug(By::Narrated)),
+        ),
+        (
+            "BriefReportHandler::render_report",
+            Call::Handler(Handler::ReportBrief),
+        ),
+        (
+            "BriefReportHandler::render",
+            Call::Handler(Handler::RenderBrief),
+        ),
+        (
+            "ReportHandler::debug for BriefReportHandler",
+            Call::Handler(Handler::Debug(By::Brief)),
+        ),
+        (
+            "JSONReportHandler::render_report",
+            Call::Handler(Handler::ReportJson),
+        ),
+        (
+            "ReportHandler::debug for JSONReportHandler",
+            Call::Handler(Handler::Debug(By::Json)),
+        ),
+        (
+            "DebugReportHandler::render_report",
+            Call::Handler(Handler::ReportDebug),
+        ),
+        (
+            "ReportHandler::debug for DebugReportHandler",
+            Call::Handler(Handler::Debug(By::Debug)),
+        ),
+        ("ReportHandler::display", Call::Handler(Handler::Display)),
+        ("MietteHandlerOpts::build", Call::Handler(Handler::Build)),
+        ("MietteHandler::new", Call::Handler(Handler::NewChosen)),
+        (
+            "ReportHandler::debug for MietteHandler",
+            Call::Handler(Handler::DebugChosen),
+        ),
+    ],
+    &[
+        ("Edit::delete", Call::Fix(Fix::Delete)),
+        ("Edit::clone", Call::Fix(Fix::EditClones)),
+        ("Fix::new", Call::Fix(Fix::New)),
+        ("Fix::with_edit", Call::Fix(Fix::WithEdit)),
+        ("Fix::with_edits_from", Call::Fix(Fix::WithEditsFrom)),
+        ("Fix::apply", Call::Fix(Fix::Apply)),
+        ("apply_all", Call::Fix(Fix::ApplyAll)),
+    ],
+    &[
+        ("Variables::read", Call::Printing(Printing::Read)),
+        ("detect", Call::Printing(Printing::Detect)),
+        ("write_report", Call::Printing(Printing::Write)),
+        ("print_to", Call::Printing(Printing::To)),
+        ("print_on", Call::Printing(Printing::On)),
+        ("print_report", Call::Printing(Printing::Print)),
+        ("print_report_with", Call::Printing(Printing::PrintWith)),
+        ("eprint_report", Call::Printing(Printing::Eprint)),
+        ("eprint_report_with", Call::Printing(Printing::EprintWith)),
+    ],
 ];
