@@ -4,7 +4,7 @@ use crate::fixtures::{Example, Made, report_over};
 use crate::rows::{Called, Done, Rows};
 use crate::stopping::{Reads, Red};
 use crate::themes::terminal;
-use crate::worked::all_examples;
+use crate::worked::{TABLES, table};
 use miette::handlers::{
     BriefReportHandler, DebugReportHandler, Form, GraphicalReportHandler, JSONReportHandler,
     NarratableReportHandler, ReportHandler,
@@ -59,12 +59,28 @@ static HANDLERS: [(&str, By); 13] = [
 /// `Write` where standard output took no more.
 pub fn rows_of(alloc: Global, rows: &mut Rows, name: &str, handler: &str) -> Done {
     let reads = Reads::new(alloc)?;
-    for example in all_examples() {
-        for by in all_handlers() {
-            if is_asked(name, example.name) && is_asked(handler, by.0) {
-                reads.begin(1, false);
-                row_by(alloc, rows, example, *by, &reads)?;
+    for number in 0..TABLES {
+        for example in table(number) {
+            if is_asked(name, example.name) {
+                rows_by(alloc, rows, example, handler, &reads)?;
             }
+        }
+    }
+    Ok(())
+}
+
+/// The rows of a report that are asked for.
+fn rows_by(
+    alloc: Global,
+    rows: &mut Rows,
+    example: &Example,
+    handler: &str,
+    reads: &Rc<Reads>,
+) -> Done {
+    for by in all_handlers() {
+        if is_asked(handler, by.0) {
+            reads.begin(1, false);
+            row_by(alloc, rows, example, *by, reads)?;
         }
     }
     Ok(())

@@ -27,7 +27,7 @@ mod texts;
 mod themes;
 mod worked;
 
-use crate::names::{Call, all_calls};
+use crate::names::{Call, TABLES, table};
 use crate::rows::{Called, Done, Rows, Stop};
 use std::env;
 use std::io::Write;
@@ -84,8 +84,8 @@ fn worked_rows(rt: &HostRuntime, kind: &str, name: &str, handler: &str) -> Done 
 /// The rows of all calls, or that of one.
 fn rows_of(rt: &HostRuntime, wanted: Option<&str>) -> Done {
     let mut found = false;
-    for part in all_calls() {
-        for (name, call) in *part {
+    for number in 0..TABLES {
+        for (name, call) in table(number) {
             if wanted.unwrap_or(name) == *name {
                 found = true;
                 row(rt, name, *call)?;

@@ -103,12 +103,22 @@ const LONGER: Mended = ("a longer word", 9, 4, "a text");
 /// A fix that ends after the source.
 const FAR_OFF: Mended = ("far off", 99, 1, "");
 
-/// The reports. Of the source that stops the first read fails.
-pub fn all_examples() -> &'static [Example] {
-    &EXAMPLES
+/// How many tables of reports there are.
+pub const TABLES: usize = 5;
+
+/// A table of reports; the tables follow one another as the rows do. Of the source that stops the first read fails. A
+/// long table takes the prover longer than several.
+pub fn table(number: usize) -> &'static [Example] {
+    match number {
+        0 => &FIRST,
+        1 => &SECOND,
+        2 => &THIRD,
+        3 => &FOURTH,
+        _ => &FIFTH,
+    }
 }
 
-static EXAMPLES: [Example; 17] = [
+static FIRST: [Example; 4] = [
     Example {
         name: "one label",
         first: OOPS,
@@ -129,6 +139,9 @@ static EXAMPLES: [Example; 17] = [
         first: TABS,
         parts: &[],
     },
+];
+
+static SECOND: [Example; 4] = [
     Example {
         name: "lines that cross",
         first: CROSSING,
@@ -149,6 +162,9 @@ static EXAMPLES: [Example; 17] = [
         first: LINKED,
         parts: &[Part::CauseOf(M)],
     },
+];
+
+static THIRD: [Example; 3] = [
     Example {
         name: "causes with sources",
         first: CROSSING,
@@ -164,6 +180,9 @@ static EXAMPLES: [Example; 17] = [
         first: M,
         parts: &[Part::Related(&[WARNING, OOPS])],
     },
+];
+
+static FOURTH: [Example; 3] = [
     Example {
         name: "related reports in one another",
         first: M,
@@ -179,6 +198,9 @@ static EXAMPLES: [Example; 17] = [
         first: OOPS,
         parts: &[Part::OwnedSnippets(LINES, OVER_LINES)],
     },
+];
+
+static FIFTH: [Example; 3] = [
     Example {
         name: "fixes",
         first: OOPS,
