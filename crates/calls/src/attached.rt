@@ -1,43 +1,54 @@
 //! What a report keeps beside its diagnostic: labels over further sources, and fixes.
 
-use crate::fixes::COLON;
-use crate::fixtures::{
-    Label, M, Written, fix_of, labels_of, list_of, report_and_fix, report_and_further, source_of,
-};
+use crate::fixes::{COLON, colon_fix};
+use crate::fixtures::{Label, M, Part, Written, list_of, report_with, section_of};
 use crate::rows::{Called, REFUSED, Rows, VALUE};
-use miette::diagnostic::MietteDiagnostic;
 use miette::protocol::Diagnostic;
 use miette::report::{Report, ReportKind, Snippets};
 use miette::source::SourceCode;
-use miette_fixes::fix::Fix;
 use miette_tree::miette;
 use std::alloc::{AllocError, Global};
 
 /// The calls of this module.
 #[derive(Clone, Copy)]
 pub enum Call {
-    WithSnippets,
-    WithOwnedSnippets,
-    WithAllSnippets,
-    WithFix,
-    WithFixes,
+    /// Those that make this of the report `oops!`.
+    Parts(&'static [Part]),
     Macro,
 }
 
-/// A report over sources that are texts.
-type Plain = Report<MietteDiagnostic, String>;
-
-/// Labels over one byte.
-static FIRST: [Label<'static>; 1] = [(0, 1, 0, "")];
-
-static THIRD: [Label<'static>; 1] = [(2, 1, 0, "")];
-
-/// A label on a line feed.
-static BEHIND: Written<'static> = Written {
-    labels: &[(1, 1, 0, "")],
-    source: Some(b"b\n"),
+/// `oops!`, and nothing else.
+pub static OOPS: Written = Written {
+    message: "oops!",
     ..M
 };
+
+/// A label on the first byte.
+const FIRST: Part = Part::Snippets(b"a\n", &[(0, 1, 0, "")]);
+
+/// A label on a line feed.
+const BEHIND: &[Label] = &[(1, 1, 0, "")];
+
+/// The message `m`.
+const NO_EDIT: Part = Part::Fix(("m", 0, 0, ""));
+
+/// `Report::with_snippets`.
+pub const WITH_SNIPPETS: Call = Call::Parts(&[FIRST]);
+
+/// `Report::with_owned_snippets`.
+pub const WITH_OWNED_SNIPPETS: Call = Call::Parts(&[FIRST, Part::OwnedSnippets(b"b\n", BEHIND)]);
+
+/// `Report::with_all_snippets`.
+pub const WITH_ALL_SNIPPETS: Call = Call::Parts(&[
+    FIRST,
+    Part::AllSnippets(b"b\n", &[(2, 1, 0, "")]),
+]);
+
+/// `Report::with_fix`.
+pub const WITH_FIX: Call = Call::Parts(&[NO_EDIT, Part::Fix(COLON)]);
+
+/// `Report::with_fixes`.
+pub const WITH_FIXES: Call = Call::Parts(&[NO_EDIT, Part::AllFixes(COLON)]);
 
 /// Makes a call.
 ///
@@ -45,66 +56,27 @@ static BEHIND: Written<'static> = Written {
 /// Where memory is refused for what it is given.
 pub fn make(alloc: Global, call: Call, row: &mut Rows) -> Called {
     match call {
-        Call::WithSnippets => made(row, over_a_text(alloc)),
-        Call::WithOwnedSnippets => {
-            made(row, report_and_further(alloc, over_a_text(alloc), &BEHIND))
-        }
-        Call::WithAllSnippets => made(row, over_another(alloc)),
-        Call::WithFix => made(row, report_and_fix(alloc, with_empty_fix(alloc), &COLON)),
-        Call::WithFixes => made(row, with_other_fixes(alloc)),
+        Call::Parts(parts) => match report_with(alloc, &OOPS, parts) {
+            Ok(report) => attached(row, &report),
+            Err(AllocError) => row.refused(),
+        },
         Call::Macro => made_by_macro(row, &by_macro(alloc)?),
     }
     Ok(())
 }
 
-/// `oops!`, and nothing else.
-fn oops(alloc: Global) -> Result<Plain, AllocError> {
-    Ok(Report::built(MietteDiagnostic::new(alloc, "oops!")?))
-}
-
-fn over_a_text(alloc: Global) -> Result<Plain, AllocError> {
-    let text = String::from_str(alloc, "a\n")?;
-    let labels = labels_of(alloc, &FIRST)?;
-    oops(alloc)?.with_snippets(alloc, text, labels)
-}
-
-/// Labels over another text.
-fn section<S: SourceCode>(alloc: Global, labels: &[Label<'_>]) -> Result<Snippets<S>, AllocError> {
-    let labels = labels_of(alloc, labels)?;
-    Ok(Snippets::over_owned(source_of(alloc, "", b"b\n")?, labels))
-}
-
-fn over_another(alloc: Global) -> Result<Plain, AllocError> {
-    let others = list_of(alloc, section(alloc, &THIRD))?;
-    over_a_text(alloc)?.with_all_snippets(alloc, others)
-}
-
-fn with_empty_fix(alloc: Global) -> Result<Plain, AllocError> {
-    let fix = Fix::new(alloc, "m")?;
-    oops(alloc)?.with_fix(alloc, fix)
-}
-
-fn with_other_fixes(alloc: Global) -> Result<Plain, AllocError> {
-    let fixes = list_of(alloc, fix_of(alloc, &COLON))?;
-    with_empty_fix(alloc)?.with_fixes(alloc, fixes)
-}
-
 fn by_macro(alloc: Global) -> Result<Report, AllocError> {
-    let snippets = list_of(alloc, section(alloc, BEHIND.labels))?;
-    let fixes = list_of(alloc, fix_of(alloc, &COLON))?;
-    Ok(with_both(alloc, snippets, fixes))
+    Ok(miette!(
+        in alloc;
+        snippets = list_of(alloc, section_behind(alloc))?,
+        code = "a::b",
+        fixes = list_of(alloc, colon_fix(alloc))?,
+        "7 is too much"
+    ))
 }
 
-fn with_both(alloc: Global, snippets: Vec<Snippets>, fixes: Vec<Fix>) -> Report {
-    miette!(in alloc; snippets = snippets, code = "a::b", fixes = fixes, "{} is too much", 7)
-}
-
-/// The report that a call gave, or that memory was refused.
-fn made(row: &mut Rows, answer: Result<Plain, AllocError>) {
-    match answer {
-        Ok(report) => attached(row, &report),
-        Err(AllocError) => row.refused(),
-    }
+fn section_behind(alloc: Global) -> Result<Snippets, AllocError> {
+    section_of(alloc, b"b\n", BEHIND)
 }
 
 fn made_by_macro(row: &mut Rows, report: &Report) {

@@ -1,6 +1,6 @@
 //! Diagnostics.
 
-use crate::fixtures::{Label, M, Written, diagnostic_of, labels_of};
+use crate::fixtures::{Label, M, Part, Written, diagnostic_of, labels_of};
 use crate::rows::{Called, Rows};
 use miette::diagnostic::MietteDiagnostic;
 use miette::protocol::{LabeledSpan, Severity};
@@ -33,7 +33,7 @@ pub fn make(alloc: Global, call: Call, row: &mut Rows) -> Called {
         Call::Macro => row.answer(by_macro(alloc)),
         Call::Clones => return row.clones(full_diagnostic(alloc)),
         Call::WithLabel | Call::AndLabel => return with_label(alloc, call, row),
-        Call::AndLabels => return and_labels(alloc, row),
+        Call::WithLabelsFrom | Call::AndLabels => return with_labels(alloc, call, row),
         _ => {
             let full = given_diagnostic(alloc, row)?;
             row.answer(changed(alloc, call, full));
@@ -69,9 +69,6 @@ fn changed(
         Call::WithCode => full.with_code(alloc, "c::d"),
         Call::WithHelp => full.with_help(alloc, "try again"),
         Call::WithUrl => full.with_url(alloc, "http://y"),
-        Call::WithLabelsFrom => {
-            full.with_labels_from(alloc, [4, 7].into_iter().map(LabeledSpan::underline))
-        }
         _ => {
             let copy = MietteDiagnostic::copied(alloc, &full);
             drop(full);
@@ -90,18 +87,37 @@ fn with_label(alloc: Global, call: Call, row: &mut Rows) -> Called {
     Ok(())
 }
 
-fn and_labels(alloc: Global, row: &mut Rows) -> Called {
-    let labels = labels_of(alloc, &TWO)?;
+fn with_labels(alloc: Global, call: Call, row: &mut Rows) -> Called {
+    let labels = labels_of(alloc, two_labels(call))?;
     let full = given_diagnostic(alloc, row)?;
-    row.answer(full.and_labels(alloc, labels));
+    row.answer(match call {
+        Call::AndLabels => full.and_labels(alloc, labels),
+        _ => full.with_labels_from(alloc, labels),
+    });
     Ok(())
 }
 
+fn two_labels(call: Call) -> &'static [Label] {
+    match call {
+        Call::AndLabels => &TWO,
+        _ => &UNDERLINED,
+    }
+}
+
 /// Two labels.
-static TWO: [Label<'static>; 2] = [(0, 6, 0, "first"), (18, 4, 0, "second")];
+static TWO: [Label; 2] = [(0, 6, 0, "first"), (18, 4, 0, "second")];
+
+/// Two labels without a text.
+static UNDERLINED: [Label; 2] = [(4, 0, 0, ""), (7, 0, 0, "")];
+
+/// Two texts below a report.
+pub static CAUSES: [Part; 1] = [Part::CauseTexts(&["b", "c"])];
 
 /// A diagnostic with all parts.
-static FULL: Written<'static> = Written {
+pub static FULL: Written = ALL_PARTS;
+
+/// The same.
+pub const ALL_PARTS: Written = Written {
     message: "oops!",
     code: "a::b",
     url: "http://x",

@@ -1,21 +1,18 @@
 //! Worked reports, by each handler: `calls report`, or `calls report NAME HANDLER` for one row.
 
-use crate::fixtures::Made;
+use crate::fixtures::{Example, Made, report_over};
 use crate::rows::{Called, Done, Rows};
 use crate::stopping::{Reads, Red};
 use crate::themes::terminal;
-use crate::worked::{EXAMPLES, Example, report};
+use crate::worked::{TABLES, table};
 use miette::handlers::{
     BriefReportHandler, DebugReportHandler, Form, GraphicalReportHandler, JSONReportHandler,
     NarratableReportHandler, ReportHandler,
 };
 use miette::options::{MietteHandler, MietteHandlerOpts};
-use miette::protocol::Diagnostic;
-use miette::report::Report;
-use miette::source::SourceCode;
 use miette::theme::GraphicalTheme;
 use std::alloc::{AllocError, Global};
-use std::cell::Cell;
+use std::rc::Rc;
 
 /// A handler.
 #[derive(Clone, Copy)]
@@ -36,7 +33,11 @@ pub enum By {
 }
 
 /// The handlers.
-pub static HANDLERS: [(&str, By); 13] = [
+pub fn all_handlers() -> &'static [(&'static str, By)] {
+    &HANDLERS
+}
+
+static HANDLERS: [(&str, By); 13] = [
     ("graphical", By::Graphical),
     ("nested", By::Nested),
     ("highlighted", By::Highlighted),
@@ -52,59 +53,79 @@ pub static HANDLERS: [(&str, By); 13] = [
     ("debug", By::Debug),
 ];
 
-/// The rows that are asked for: those of a report, of a handler, or all.
+/// The rows that are asked for: those of a report, of a handler, or all. Of a source that stops the first read fails.
 ///
 /// # Errors
 /// `Write` where standard output took no more.
 pub fn rows_of(alloc: Global, rows: &mut Rows, name: &str, handler: &str) -> Done {
-    for example in &EXAMPLES {
-        if name.is_empty() || name == example.0 {
-            rows_by(alloc, rows, *example, handler)?;
+    let reads = Reads::new(alloc)?;
+    for number in 0..TABLES {
+        for example in table(number) {
+            if is_asked(name, example.name) {
+                rows_by(alloc, rows, example, handler, &reads)?;
+            }
         }
     }
     Ok(())
 }
 
 /// The rows of a report that are asked for.
-fn rows_by(alloc: Global, rows: &mut Rows, example: (&str, Example), handler: &str) -> Done {
-    for by in &HANDLERS {
-        if handler.is_empty() || handler == by.0 {
-            row_by(alloc, rows, example, *by)?;
+fn rows_by(
+    alloc: Global,
+    rows: &mut Rows,
+    example: &Example,
+    handler: &str,
+    reads: &Rc<Reads>,
+) -> Done {
+    for by in all_handlers() {
+        if is_asked(handler, by.0) {
+            reads.begin(1, false);
+            row_by(alloc, rows, example, *by, reads)?;
         }
     }
     Ok(())
 }
 
+/// Whether a name is asked for: each one is where no word says which.
+fn is_asked(word: &str, name: &str) -> bool {
+    word.is_empty() || word == name
+}
+
 /// The row of a report by a handler.
-fn row_by(alloc: Global, row: &mut Rows, (name, example): (&str, Example), by: (&str, By)) -> Done {
-    let reads = Reads {
-        count: Cell::new(0),
-        fails_at: 1,
-        stays: false,
-    };
-    row.text(name);
+fn row_by(
+    alloc: Global,
+    row: &mut Rows,
+    example: &Example,
+    (handler, by): (&str, By),
+    reads: &Rc<Reads>,
+) -> Done {
+    row.text(example.name);
     row.text(", ");
-    row.text(by.0);
-    let called = render_made(alloc, row, report(alloc, example, &reads), by.1, 1);
+    row.text(handler);
+    let called = render_example(alloc, row, example, (by, 1), reads);
     row.end(called)
 }
 
-/// The text `> ` and what the handler puts after it, of a report that was made.
+/// The text `> ` and what a handler with this number of context lines puts after it.
 ///
 /// # Errors
-/// Where memory is refused for the handler, or was for the report.
-pub fn render_made(
+/// Where memory is refused for the report or the handler.
+pub fn render_example(
     alloc: Global,
     row: &mut Rows,
-    report: Result<Made<'_>, AllocError>,
-    by: By,
-    lines: usize,
+    example: &Example,
+    (by, lines): (By, usize),
+    reads: &Rc<Reads>,
 ) -> Called {
-    tell(alloc, row, by, &report?, lines)
+    let report = report_over(alloc, &example.first, example.parts, reads)?;
+    tell(alloc, row, by, &report, lines)
 }
 
-/// The same of a report that is borrowed.
-fn tell(alloc: Global, row: &mut Rows, by: By, report: &Made<'_>, lines: usize) -> Called {
+/// The same of a report that was made.
+///
+/// # Errors
+/// Where memory is refused for the handler.
+pub fn tell(alloc: Global, row: &mut Rows, by: By, report: &Made, lines: usize) -> Called {
     match by {
         By::Narrated => {
             let telling = NarratableReportHandler::new().with_context_lines(lines);
@@ -147,11 +168,9 @@ pub fn plain_drawing(
 }
 
 fn drawing(alloc: Global, by: By, lines: usize) -> Result<GraphicalReportHandler<Red>, AllocError> {
-    let drawing = GraphicalReportHandler::themed(GraphicalTheme::unicode(alloc)?);
     Ok(
-        drawing
+        plain_drawing(alloc, lines)?
             .with_width(30)
-            .with_context_lines(lines)
             .with_show_related_as_nested(matches!(by, By::Nested | By::NestedWanting))
             .with_syntax_highlighting(red_of(by)),
     )
@@ -168,15 +187,15 @@ fn chosen(alloc: Global, by: By, lines: usize) -> Result<MietteHandler<Red>, All
         .build(alloc, &terminal)
 }
 
-/// The same by a handler, where it was made.
+/// The text `> ` and what a handler puts after it.
 ///
 /// # Errors
 /// Where memory was refused for the handler, or is for the text.
-pub fn render_by<H: ReportHandler + Drop, D: Diagnostic, S: SourceCode>(
+pub fn render_by<H: ReportHandler + Drop>(
     alloc: Global,
     row: &mut Rows,
     handler: Result<H, AllocError>,
-    report: &Report<D, S>,
+    report: &Made,
 ) -> Called {
     let mut handler = handler?;
     let mut text = String::from_str(alloc, "> ")?;

@@ -1,6 +1,6 @@
 //! Fixes: edits of a source, and the text after them.
 
-use crate::fixtures::{Mended, fix_of};
+use crate::fixtures::{Mended, fix_of, list_of};
 use crate::rows::{Called, Rows};
 use miette_fixes::fix::{Edit, Fix, apply_all};
 use std::alloc::{AllocError, Global};
@@ -26,17 +26,22 @@ pub fn make(alloc: Global, call: Call, row: &mut Rows) -> Called {
         Call::Delete => row.value(&Edit::delete(alloc, (0, 1))),
         Call::EditClones => return row.clones(colon(alloc)),
         Call::New => row.answer(Fix::new(alloc, "m")),
-        Call::WithEdit => row.answer(fix_of(alloc, &COLON)),
+        Call::WithEdit => row.answer(colon_fix(alloc)),
         Call::WithEditsFrom => row.answer(with_edits(alloc)),
-        Call::Apply => row.answer(fixed(alloc)),
-        Call::ApplyAll => {
-            let fix = with_edits(alloc)?;
-            let applied = apply_all(alloc, b"if x", &[&fix]);
-            drop(fix);
-            row.answer(applied);
-        }
+        Call::Apply | Call::ApplyAll => applied(alloc, call, row, &with_edits(alloc)?),
     }
     Ok(())
+}
+
+/// What a call makes of a source.
+fn applied(alloc: Global, call: Call, row: &mut Rows, fix: &Fix) {
+    match call {
+        Call::ApplyAll => row.answer(apply_all(alloc, b"if x", &[fix])),
+        _ => match fix.apply(alloc, b"if x") {
+            Ok(text) => row.value(&text),
+            Err(_) => row.refused(),
+        },
+    }
 }
 
 fn colon(alloc: Global) -> Result<Edit, AllocError> {
@@ -44,17 +49,18 @@ fn colon(alloc: Global) -> Result<Edit, AllocError> {
 }
 
 /// The message `m`, with a colon inserted.
-pub static COLON: Mended<'static> = ("m", 4, 0, ":");
+pub const COLON: Mended = ("m", 4, 0, ":");
+
+/// The same, made.
+///
+/// # Errors
+/// Where memory is refused.
+pub fn colon_fix(alloc: Global) -> Result<Fix, AllocError> {
+    fix_of(alloc, &COLON)
+}
 
 /// With a colon after it, and without the first byte.
 fn with_edits(alloc: Global) -> Result<Fix, AllocError> {
-    let edits = vec![in alloc; colon(alloc)?, Edit::delete(alloc, (0, 1))]?;
-    Fix::new(alloc, "m")?.with_edits_from(alloc, edits)
-}
-
-fn fixed(alloc: Global) -> Result<Vec<u8>, AllocError> {
-    match with_edits(alloc)?.apply(alloc, b"if x") {
-        Ok(text) => Ok(text),
-        Err(_) => Err(AllocError),
-    }
+    let edits = list_of(alloc, Ok(Edit::delete(alloc, (0, 1))))?;
+    colon_fix(alloc)?.with_edits_from(alloc, edits)
 }

@@ -1,7 +1,8 @@
 //! Handlers: what makes them, and the texts that they append.
 
-use crate::examples::{plain_drawing, render_by};
-use crate::fixtures::source_of;
+use crate::diagnostics::{ALL_PARTS, CAUSES};
+use crate::examples::{By, plain_drawing, render_by, tell};
+use crate::fixtures::{M, Made, Source, Written, report_with, source_of};
 use crate::reports::full_report;
 use crate::rows::{Called, Rows};
 use crate::sources::README;
@@ -15,7 +16,6 @@ use miette::handlers::{
 use miette::highlight::BlankHighlighter;
 use miette::options::{MietteHandler, MietteHandlerOpts};
 use miette::report::Report;
-use miette::theme::Terminal;
 use std::alloc::{AllocError, Global};
 
 /// The calls of this module.
@@ -23,22 +23,38 @@ use std::alloc::{AllocError, Global};
 pub enum Call {
     NewGraphical,
     RenderGraphical,
-    DebugGraphical,
     ReportNarrated,
     RenderNarrated,
     NarratedClones,
-    DebugNarrated,
     ReportBrief,
     RenderBrief,
-    DebugBrief,
     ReportJson,
-    DebugJson,
     ReportDebug,
-    DebugDebug,
     Display,
     Build,
     NewChosen,
     DebugChosen,
+    Debug(By),
+}
+
+/// What is rendered, over two texts.
+static OVER_README: Written = Written {
+    source: Source::Owned("bad_file.rs", README),
+    ..ALL_PARTS
+};
+
+/// A message that a narrow terminal breaks.
+static WORDS: Written = Written {
+    message: "one two three four five",
+    ..M
+};
+
+fn report_over_readme(alloc: Global) -> Result<Made, AllocError> {
+    report_with(alloc, &OVER_README, &CAUSES)
+}
+
+fn report_of_words(alloc: Global) -> Result<Made, AllocError> {
+    report_with(alloc, &WORDS, &[])
 }
 
 /// Makes a call.
@@ -49,80 +65,61 @@ pub fn make(alloc: Global, call: Call, row: &mut Rows) -> Called {
     match call {
         Call::NarratedClones => {
             let footer = String::from_str(alloc, "bye")?;
-            return row.clones(Ok(NarratableReportHandler::new().with_footer(footer)));
+            row.clones(Ok(NarratableReportHandler::new().with_footer(footer)))
         }
         Call::NewGraphical | Call::Build | Call::NewChosen => {
-            let terminal = terminal(alloc)?;
-            row.value(&terminal);
-            choose(alloc, call, row, &terminal);
+            choose(alloc, call, row, &report_of_words(alloc)?)
         }
-        _ => return render(alloc, call, row, &report_with_source(alloc)?),
+        Call::Debug(_) | Call::DebugChosen => {
+            debug(alloc, call, row, &report_over_readme(alloc)?)
+        }
+        _ => render(alloc, call, row, &report_with_source(alloc)?),
     }
-    Ok(())
 }
 
-/// The report that is rendered.
+/// The text `> ` and what `debug` puts after it.
+fn debug(alloc: Global, call: Call, row: &mut Rows, report: &Made) -> Called {
+    match call {
+        Call::Debug(by) => tell(alloc, row, by, report, 1),
+        _ => render_by(alloc, row, drawing(alloc), report),
+    }
+}
+
+fn drawing(alloc: Global) -> Result<MietteHandler<Red>, AllocError> {
+    Ok(MietteHandler::Graphical(plain_drawing(alloc, 1)?))
+}
+
+/// The same report, over boxes.
 fn report_with_source(alloc: Global) -> Result<Report, AllocError> {
     let source = source_of(alloc, "bad_file.rs", README)?;
     Ok(full_report(alloc)?.with_owned_source(source))
 }
 
-/// The text `> ` and what the call puts after it.
+/// The text `> ` and what a handler's own method puts after it.
 fn render(alloc: Global, call: Call, row: &mut Rows, report: &Report) -> Called {
-    match call {
-        Call::DebugGraphical => render_by(alloc, row, plain_drawing(alloc, 1), report),
-        Call::DebugNarrated => render_by(alloc, row, Ok(NarratableReportHandler::new()), report),
-        Call::DebugBrief => render_by(alloc, row, Ok(BriefReportHandler::new()), report),
-        Call::DebugJson => render_by(alloc, row, Ok(JSONReportHandler::new()), report),
-        Call::DebugDebug => render_by(alloc, row, Ok(DebugReportHandler::new()), report),
-        Call::DebugChosen => render_by(alloc, row, chosen(alloc), report),
-        _ => render_by_own(alloc, call, row, report),
-    }
-}
-
-fn chosen(alloc: Global) -> Result<MietteHandler<Red>, AllocError> {
-    Ok(MietteHandler::Graphical(plain_drawing(alloc, 1)?))
-}
-
-/// The same by a handler's own methods.
-fn render_by_own(alloc: Global, call: Call, row: &mut Rows, report: &Report) -> Called {
     let mut text = String::from_str(alloc, "> ")?;
     row.value(&text);
-    let answer = render_to(alloc, call, report, &mut text)?;
+    let answer = render_to(alloc, call, report, &mut text);
     row.appended(answer, &text);
     Ok(())
 }
 
-/// What the call answers; an error where the handler can't be made.
+/// What the call answers.
 fn render_to(
     alloc: Global,
     call: Call,
     report: &Report,
     text: &mut String,
-) -> Result<Result<(), RenderError>, AllocError> {
-    Ok(match call {
+) -> Result<(), RenderError> {
+    match call {
         Call::RenderGraphical => {
             let mut drawing = plain_drawing(alloc, 1)?;
             let answer = drawing.render_report(report, text);
             drop(drawing);
             answer
         }
-        Call::ReportNarrated | Call::RenderNarrated => narrate(call, report, text),
-        _ => render_by_method(call, report, text),
-    })
-}
-
-fn narrate(call: Call, report: &Report, text: &mut String) -> Result<(), RenderError> {
-    let telling = NarratableReportHandler::new();
-    match call {
-        Call::ReportNarrated => telling.render_report(report, text),
-        _ => telling.render(report, text),
-    }
-}
-
-/// What a method answers of a handler that holds nothing.
-fn render_by_method(call: Call, report: &Report, text: &mut String) -> Result<(), RenderError> {
-    match call {
+        Call::ReportNarrated => NarratableReportHandler::new().render_report(report, text),
+        Call::RenderNarrated => NarratableReportHandler::new().render(report, text),
         Call::ReportBrief => BriefReportHandler::new().render_report(report, text),
         Call::RenderBrief => BriefReportHandler::new().render(report, text),
         Call::ReportJson => JSONReportHandler::new().render_report(report, text),
@@ -131,32 +128,44 @@ fn render_by_method(call: Call, report: &Report, text: &mut String) -> Result<()
     }
 }
 
-/// A handler that a terminal chooses, and what it makes of a message alone.
-fn choose(alloc: Global, call: Call, row: &mut Rows, terminal: &Terminal) {
+/// A handler that a terminal chooses, and what it makes of a report.
+fn choose(alloc: Global, call: Call, row: &mut Rows, report: &Made) -> Called {
+    let terminal = terminal(alloc)?;
+    row.value(&terminal);
     match call {
-        Call::NewGraphical => picture(alloc, row, GraphicalReportHandler::new(alloc, terminal)),
-        Call::NewChosen => picture(alloc, row, MietteHandler::new(alloc, terminal)),
+        Call::NewGraphical => {
+            picture(
+                alloc,
+                row,
+                GraphicalReportHandler::new(alloc, &terminal),
+                report,
+            )
+        }
+        Call::NewChosen => picture(alloc, row, MietteHandler::new(alloc, &terminal), report),
         _ => {
             let options: MietteHandlerOpts<BlankHighlighter> = MietteHandlerOpts::default();
-            picture(alloc, row, options.width(20).build(alloc, terminal))
+            let built = options.width(20).build(alloc, &terminal);
+            picture(alloc, row, built, report)
         }
     }
+    Ok(())
 }
 
-fn picture<H: ReportHandler + Drop>(alloc: Global, row: &mut Rows, answer: Result<H, AllocError>) {
+/// What a handler that a call gave makes of a report over no source.
+fn picture<H: ReportHandler + Drop>(
+    alloc: Global,
+    row: &mut Rows,
+    answer: Result<H, AllocError>,
+    report: &Made,
+) {
     match answer {
-        Ok(mut handler) => match text_by(alloc, &mut handler) {
-            Ok(text) => row.value(&text),
-            Err(RenderError::Memory) => row.refused(),
-            Err(RenderError::Refused) => row.text("\tnot read"),
-        },
+        Ok(mut handler) => {
+            let mut text = String::new(alloc);
+            match handler.debug(report, &mut text) {
+                Ok(()) => row.value(&text),
+                Err(_) => row.refused(),
+            }
+        }
         Err(AllocError) => row.refused(),
     }
-}
-
-/// What a handler makes of a message alone.
-fn text_by<H: ReportHandler>(alloc: Global, handler: &mut H) -> Result<String, RenderError> {
-    let mut text = String::new(alloc);
-    handler.debug(&Report::msg(alloc, "one two three four five")?, &mut text)?;
-    Ok(text)
 }

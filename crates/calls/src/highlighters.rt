@@ -1,5 +1,6 @@
 //! Highlighters made of rules.
 
+use crate::fixtures::list_of;
 use crate::rows::{Called, REFUSED, Rows};
 use miette::highlight::Highlighter;
 use miette::style::{Color, Style};
@@ -85,7 +86,7 @@ fn rule(alloc: Global) -> Result<Rule, AllocError> {
 }
 
 fn highlighter_by_rule(alloc: Global) -> Result<PatternHighlighter, AllocError> {
-    Ok(PatternHighlighter::new(vec![in alloc; rule(alloc)?]?))
+    Ok(PatternHighlighter::new(list_of(alloc, rule(alloc))?))
 }
 
 /// The pieces of a line that leaves a comment open, and the highlighter after it; after a refusal that is as before.

@@ -27,11 +27,12 @@ mod texts;
 mod themes;
 mod worked;
 
-use crate::names::{CALLS, Call};
+use crate::names::{Call, TABLES, table};
 use crate::rows::{Called, Done, Rows, Stop};
 use std::env;
 use std::io::Write;
 use std::process::ExitCode;
+use std::rt::Stderr;
 
 fn main(rt: HostRuntime) -> ExitCode {
     match run(&rt) {
@@ -40,13 +41,13 @@ fn main(rt: HostRuntime) -> ExitCode {
     }
 }
 
-fn end<F: Write + Drop>(stop: Stop, mut faults: F) -> ExitCode {
+fn end(stop: Stop, mut faults: Stderr) -> ExitCode {
     let (status, why) = match stop {
-        Stop::Memory => (1, "calls: out of memory"),
-        Stop::Write => (1, "calls: write fault"),
-        Stop::Usage => (2, "usage: calls [NAME | report [NAME [HANDLER]] | stops]"),
+        Stop::Memory => (1, "calls: out of memory\n"),
+        Stop::Write => (1, "calls: write fault\n"),
+        Stop::Usage => (2, "usage: calls [NAME | report [NAME [HANDLER]] | stops]\n"),
     };
-    let _ = writeln!(faults, "{why}");
+    let _ = faults.write_all(why.as_bytes());
     ExitCode::from(status)
 }
 
@@ -83,10 +84,12 @@ fn worked_rows(rt: &HostRuntime, kind: &str, name: &str, handler: &str) -> Done 
 /// The rows of all calls, or that of one.
 fn rows_of(rt: &HostRuntime, wanted: Option<&str>) -> Done {
     let mut found = false;
-    for (name, call) in &CALLS {
-        if wanted.unwrap_or(name) == *name {
-            found = true;
-            row(rt, name, *call)?;
+    for number in 0..TABLES {
+        for (name, call) in table(number) {
+            if wanted.unwrap_or(name) == *name {
+                found = true;
+                row(rt, name, *call)?;
+            }
         }
     }
     if found { Ok(()) } else { Err(Stop::Usage) }

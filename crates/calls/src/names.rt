@@ -1,14 +1,17 @@
 //! The calls that the program makes, each by its name, in the order of their rows.
 
-use crate::attached::Call as Part;
+use crate::attached::{
+    Call as Part, WITH_ALL_SNIPPETS, WITH_FIX, WITH_FIXES, WITH_OWNED_SNIPPETS, WITH_SNIPPETS,
+};
 use crate::diagnostics::Call as Diagnostic;
+use crate::examples::By;
 use crate::fixes::Call as Fix;
 use crate::handlers::Call as Handler;
 use crate::highlighters::Call as Highlighter;
 use crate::labels::Call as Label;
 use crate::outputs::Call as Output;
 use crate::printing::Call as Printing;
-use crate::reports::Call as Report;
+use crate::reports::{Call as Report, IN_FRONT, NO_ITEM, NOTHING, SEVEN, Way};
 use crate::runs::Call as Runs;
 use crate::sources::Call as Source;
 use crate::texts::Call as Text;
@@ -32,8 +35,28 @@ pub enum Call {
     Printing(Printing),
 }
 
-/// All calls.
-pub static CALLS: [(&str, Call); 141] = [
+/// How many tables of calls there are.
+pub const TABLES: usize = 12;
+
+/// A table of calls; the tables follow one another as the rows do. A long table takes the prover longer than several.
+pub fn table(number: usize) -> &'static [(&'static str, Call)] {
+    match number {
+        0 => &DIAGNOSTICS,
+        1 => &SOURCES,
+        2 => &THEMES,
+        3 => &HIGHLIGHTERS,
+        4 => &REPORTS,
+        5 => &PARTS,
+        6 => &TEXTS,
+        7 => &RUNS,
+        8 => &OUTPUTS,
+        9 => &HANDLERS,
+        10 => &FIXES,
+        _ => &PRINTING,
+    }
+}
+
+static DIAGNOSTICS: [(&str, Call); 14] = [
     ("LabeledSpan::at", Call::Label(Label::At)),
     ("LabeledSpan::at_offset", Call::Label(Label::AtOffset)),
     ("LabeledSpan::clone", Call::Label(Label::Clones)),
@@ -75,6 +98,9 @@ pub static CALLS: [(&str, Call); 141] = [
         Call::Diagnostic(Diagnostic::Clones),
     ),
     ("diagnostic!", Call::Diagnostic(Diagnostic::Macro)),
+];
+
+static SOURCES: [(&str, Call); 8] = [
     ("IndexedSource::new", Call::Source(Source::Indexed)),
     ("NamedSource::new", Call::Source(Source::Named)),
     (
@@ -92,6 +118,9 @@ pub static CALLS: [(&str, Call); 141] = [
         "OwnedSource::named_unindexed",
         Call::Source(Source::OwnedNamedUnindexed),
     ),
+];
+
+static THEMES: [(&str, Call); 16] = [
     (
         "ThemeCharacters::unicode",
         Call::Theme(Theme::UnicodeCharacters),
@@ -132,6 +161,9 @@ pub static CALLS: [(&str, Call); 141] = [
         "Highlighter::highlight_line for Box",
         Call::Theme(Theme::BoxedLine),
     ),
+];
+
+static HIGHLIGHTERS: [(&str, Call); 11] = [
     ("by_char", Call::Highlighter(Highlighter::ByChar)),
     (
         "Delimiters::new",
@@ -167,6 +199,9 @@ pub static CALLS: [(&str, Call); 141] = [
         "Highlighter::highlight_line for PatternHighlighter",
         Call::Highlighter(Highlighter::Line),
     ),
+];
+
+static REPORTS: [(&str, Call); 18] = [
     ("Report::copied", Call::Report(Report::Copied)),
     ("Report::msg", Call::Report(Report::Msg)),
     ("Report::from_err", Call::Report(Report::FromErr)),
@@ -178,35 +213,35 @@ pub static CALLS: [(&str, Call); 141] = [
     ("Report::context", Call::Report(Report::Context)),
     (
         "WrapErr::wrap_err for Option",
-        Call::Report(Report::OptionWrapErr),
+        Call::Report(Report::InFrontOfNone(Way::WrapErr, NOTHING)),
     ),
     (
         "WrapErr::context for Option",
-        Call::Report(Report::OptionContext),
+        Call::Report(Report::InFrontOfNone(Way::Context, NOTHING)),
     ),
     (
         "WrapErr::wrap_err_with for Option",
-        Call::Report(Report::OptionWrapErrWith),
+        Call::Report(Report::InFrontOfNone(Way::WrapErrWith, NO_ITEM)),
     ),
     (
         "WrapErr::with_context for Option",
-        Call::Report(Report::OptionWithContext),
+        Call::Report(Report::InFrontOfNone(Way::WithContext, NO_ITEM)),
     ),
     (
         "WrapErr::wrap_err for Result",
-        Call::Report(Report::ResultWrapErr),
+        Call::Report(Report::InFrontOfErr(Way::WrapErr, IN_FRONT)),
     ),
     (
         "WrapErr::context for Result",
-        Call::Report(Report::ResultContext),
+        Call::Report(Report::InFrontOfErr(Way::Context, IN_FRONT)),
     ),
     (
         "WrapErr::wrap_err_with for Result",
-        Call::Report(Report::ResultWrapErrWith),
+        Call::Report(Report::InFrontOfErr(Way::WrapErrWith, SEVEN)),
     ),
     (
         "WrapErr::with_context for Result",
-        Call::Report(Report::ResultWithContext),
+        Call::Report(Report::InFrontOfErr(Way::WithContext, SEVEN)),
     ),
     (
         "IntoDiagnostic::into_diagnostic for Result",
@@ -215,18 +250,21 @@ pub static CALLS: [(&str, Call); 141] = [
     ("miette!", Call::Report(Report::Miette)),
     ("bail!", Call::Report(Report::Bail)),
     ("ensure!", Call::Report(Report::Ensure)),
-    ("Report::with_snippets", Call::Part(Part::WithSnippets)),
+];
+
+static PARTS: [(&str, Call); 6] = [
+    ("Report::with_snippets", Call::Part(WITH_SNIPPETS)),
     (
         "Report::with_owned_snippets",
-        Call::Part(Part::WithOwnedSnippets),
+        Call::Part(WITH_OWNED_SNIPPETS),
     ),
-    (
-        "Report::with_all_snippets",
-        Call::Part(Part::WithAllSnippets),
-    ),
-    ("Report::with_fix", Call::Part(Part::WithFix)),
-    ("Report::with_fixes", Call::Part(Part::WithFixes)),
+    ("Report::with_all_snippets", Call::Part(WITH_ALL_SNIPPETS)),
+    ("Report::with_fix", Call::Part(WITH_FIX)),
+    ("Report::with_fixes", Call::Part(WITH_FIXES)),
     ("miette! for a report with fixes", Call::Part(Part::Macro)),
+];
+
+static TEXTS: [(&str, Call); 10] = [
     ("fill", Call::Text(Text::Fill)),
     ("wrap", Call::Text(Text::Wrap)),
     ("push_fitting", Call::Text(Text::PushFitting)),
@@ -237,6 +275,9 @@ pub static CALLS: [(&str, Call); 141] = [
     ("print", Call::Text(Text::Print)),
     ("columns_of", Call::Text(Text::ColumnsOf)),
     ("append_whole", Call::Text(Text::AppendWhole)),
+];
+
+static RUNS: [(&str, Call); 11] = [
     ("Runs::new", Call::Runs(Runs::New)),
     ("Runs::push", Call::Runs(Runs::Push)),
     ("Runs::push_chars", Call::Runs(Runs::PushChars)),
@@ -248,6 +289,9 @@ pub static CALLS: [(&str, Call); 141] = [
     ("Runs::push_link", Call::Runs(Runs::PushLink)),
     ("Runs::push_link_end", Call::Runs(Runs::PushLinkEnd)),
     ("Runs::append", Call::Runs(Runs::Append)),
+];
+
+static OUTPUTS: [(&str, Call); 13] = [
     ("Output::for_text", Call::Output(Output::ForText)),
     ("Output::for_runs", Call::Output(Output::ForRuns)),
     ("Output::reserve", Call::Output(Output::Reserve)),
@@ -261,6 +305,9 @@ pub static CALLS: [(&str, Call); 141] = [
     ("Output::push_link_end", Call::Output(Output::PushLinkEnd)),
     ("Output::into_text", Call::Output(Output::IntoText)),
     ("Output::into_runs", Call::Output(Output::IntoRuns)),
+];
+
+static HANDLERS: [(&str, Call); 18] = [
     (
         "GraphicalReportHandler::new",
         Call::Handler(Handler::NewGraphical),
@@ -271,7 +318,7 @@ pub static CALLS: [(&str, Call); 141] = [
     ),
     (
         "ReportHandler::debug for GraphicalReportHandler",
-        Call::Handler(Handler::DebugGraphical),
+        Call::Handler(Handler::Debug(By::Graphical)),
     ),
     (
         "NarratableReportHandler::render_report",
@@ -287,7 +334,7 @@ pub static CALLS: [(&str, Call); 141] = [
     ),
     (
         "ReportHandler::debug for NarratableReportHandler",
-        Call::Handler(Handler::DebugNarrated),
+        Call::Handler(Handler::Debug(By::Narrated)),
     ),
     (
         "BriefReportHandler::render_report",
@@ -299,7 +346,7 @@ pub static CALLS: [(&str, Call); 141] = [
     ),
     (
         "ReportHandler::debug for BriefReportHandler",
-        Call::Handler(Handler::DebugBrief),
+        Call::Handler(Handler::Debug(By::Brief)),
     ),
     (
         "JSONReportHandler::render_report",
@@ -307,7 +354,7 @@ pub static CALLS: [(&str, Call); 141] = [
     ),
     (
         "ReportHandler::debug for JSONReportHandler",
-        Call::Handler(Handler::DebugJson),
+        Call::Handler(Handler::Debug(By::Json)),
     ),
     (
         "DebugReportHandler::render_report",
@@ -315,7 +362,7 @@ pub static CALLS: [(&str, Call); 141] = [
     ),
     (
         "ReportHandler::debug for DebugReportHandler",
-        Call::Handler(Handler::DebugDebug),
+        Call::Handler(Handler::Debug(By::Debug)),
     ),
     ("ReportHandler::display", Call::Handler(Handler::Display)),
     ("MietteHandlerOpts::build", Call::Handler(Handler::Build)),
@@ -324,6 +371,9 @@ pub static CALLS: [(&str, Call); 141] = [
         "ReportHandler::debug for MietteHandler",
         Call::Handler(Handler::DebugChosen),
     ),
+];
+
+static FIXES: [(&str, Call); 7] = [
     ("Edit::delete", Call::Fix(Fix::Delete)),
     ("Edit::clone", Call::Fix(Fix::EditClones)),
     ("Fix::new", Call::Fix(Fix::New)),
@@ -331,6 +381,9 @@ pub static CALLS: [(&str, Call); 141] = [
     ("Fix::with_edits_from", Call::Fix(Fix::WithEditsFrom)),
     ("Fix::apply", Call::Fix(Fix::Apply)),
     ("apply_all", Call::Fix(Fix::ApplyAll)),
+];
+
+static PRINTING: [(&str, Call); 9] = [
     ("Variables::read", Call::Printing(Printing::Read)),
     ("detect", Call::Printing(Printing::Detect)),
     ("write_report", Call::Printing(Printing::Write)),

@@ -31,31 +31,24 @@ pub fn make(alloc: Global, call: Call, row: &mut Rows) -> Called {
     match call {
         Call::ForText => row.value(&Output::for_text(alloc)),
         Call::ForRuns => row.value(&Output::for_runs(alloc)),
-        Call::IntoText | Call::IntoRuns => {
-            taken(alloc, call, row, Output::for_text(alloc))?;
-            return taken(alloc, call, row, Output::for_runs(alloc));
-        }
         _ => {
-            put_output(call, row, Output::for_text(alloc));
-            put_output(call, row, Output::for_runs(alloc));
+            put_output(alloc, call, row, Output::for_text(alloc));
+            put_output(alloc, call, row, Output::for_runs(alloc));
         }
     }
     Ok(())
 }
 
-/// What is taken of an output with a red text.
-fn taken(alloc: Global, call: Call, row: &mut Rows, mut output: Output) -> Called {
-    output.push_run(red(), "xyz")?;
+/// An output after the call, or what is taken of one with a red text.
+fn put_output(alloc: Global, call: Call, row: &mut Rows, mut output: Output) {
+    if push(&mut output, call).is_err() {
+        return row.refused();
+    }
     match call {
         Call::IntoText => row.answer(output.into_text(alloc)),
-        _ => row.answer(output.into_runs(alloc)),
+        Call::IntoRuns => row.answer(output.into_runs(alloc)),
+        _ => row.value(&output),
     }
-    Ok(())
-}
-
-fn put_output(call: Call, row: &mut Rows, mut output: Output) {
-    let answer = push(&mut output, call);
-    row.after(answer, &output);
 }
 
 fn push(output: &mut Output, call: Call) -> Result<(), AllocError> {
@@ -66,7 +59,7 @@ fn push(output: &mut Output, call: Call) -> Result<(), AllocError> {
         Call::PushStr => output.push_str("xyz"),
         Call::Begin => output.begin(red()),
         Call::End => output.end(),
-        Call::PushRun => output.push_run(red(), "xyz"),
+        Call::PushRun | Call::IntoText | Call::IntoRuns => output.push_run(red(), "xyz"),
         Call::PushLink => output.push_link("http://x"),
         _ => output.push_link_end(),
     }

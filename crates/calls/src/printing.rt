@@ -1,6 +1,8 @@
 //! What a program is told of its terminal, and reports that are printed there.
 
-use crate::reports::full_report;
+use crate::attached::OOPS;
+use crate::diagnostics::{CAUSES, FULL};
+use crate::fixtures::{Made, report_with};
 use crate::rows::{Called, REFUSED, Rows, VALUE};
 use miette::handlers::NarratableReportHandler;
 use miette::highlight::BlankHighlighter;
@@ -9,7 +11,6 @@ use miette::print::{
     Outputs, PrintError, eprint_report, eprint_report_with, print_on, print_report,
     print_report_with, print_to, write_report,
 };
-use miette::report::Report;
 use miette::terminal::{Stream, Variables, detect};
 use std::alloc::{AllocError, Global};
 
@@ -35,12 +36,12 @@ pub fn make(rt: &HostRuntime, name: &str, call: Call, row: &mut Rows) -> Called 
     match call {
         Call::Read => row.after(Variables::read(rt, true, true), &"read"),
         Call::Detect => row.after(detect(rt, Stream::Stdout), &"detected"),
-        Call::Write | Call::To => {
-            return narrated(rt, call, row, &full_report(rt.alloc())?);
+        Call::Write | Call::To | Call::On => {
+            let report = full_report(rt.alloc())?;
+            return written(rt, call, row, &report);
         }
-        Call::On => return outputs(rt, row, &full_report(rt.alloc())?),
         _ => {
-            let report = Report::msg(rt.alloc(), "oops!")?;
+            let report = short_report(rt.alloc())?;
             row.text("\tprints:\n");
             print(rt, call, &report);
             row.text(name);
@@ -50,8 +51,18 @@ pub fn make(rt: &HostRuntime, name: &str, call: Call, row: &mut Rows) -> Called 
     Ok(())
 }
 
+/// `oops!` with all parts, over two texts.
+fn full_report(alloc: Global) -> Result<Made, AllocError> {
+    report_with(alloc, &FULL, &CAUSES)
+}
+
+/// `oops!`, and nothing else.
+fn short_report(alloc: Global) -> Result<Made, AllocError> {
+    report_with(alloc, &OOPS, &[])
+}
+
 /// Prints a report; how a program would end with it isn't looked at.
-fn print(rt: &HostRuntime, call: Call, report: &Report) {
+fn print(rt: &HostRuntime, call: Call, report: &Made) {
     let _ = match call {
         Call::Print => print_report(rt, report),
         Call::PrintWith => print_report_with(rt, in_colours(), report),
@@ -68,46 +79,34 @@ fn in_words() -> MietteHandlerOpts<BlankHighlighter> {
     MietteHandlerOpts::default().force_narrated(true)
 }
 
-/// A writer that has room from the start for all that is printed here.
-fn room(alloc: Global) -> Result<Vec<u8>, AllocError> {
-    Vec::with_capacity(alloc, 4096)
+/// Writers that have room from the start for all that is printed here.
+type Rooms = Outputs<Vec<u8>, Vec<u8>>;
+
+fn rooms(alloc: Global) -> Result<Rooms, AllocError> {
+    let writer = Vec::with_capacity(alloc, 4096)?;
+    Ok(Outputs::new(writer, Vec::with_capacity(alloc, 4096)?))
 }
 
-fn narrated(rt: &HostRuntime, call: Call, row: &mut Rows, report: &Report) -> Called {
-    let mut writer = room(rt.alloc())?;
-    let answer = narrate(rt, call, report, &mut writer);
-    held(row, answer, writer.as_slice());
+fn written(rt: &HostRuntime, call: Call, row: &mut Rows, report: &Made) -> Called {
+    let mut rooms = rooms(rt.alloc())?;
+    let answer = write(rt, call, report, &mut rooms);
+    held(row, answer, rooms.writer.as_slice());
     Ok(())
 }
 
 /// What the call answers, by a narrating handler.
-fn narrate(
-    rt: &HostRuntime,
-    call: Call,
-    report: &Report,
-    writer: &mut Vec<u8>,
-) -> Result<(), PrintError> {
-    if let Call::To = call {
-        return print_to(rt, Stream::Stdout, in_words(), report, writer);
+fn write(rt: &HostRuntime, call: Call, report: &Made, rooms: &mut Rooms) -> Result<(), PrintError> {
+    match call {
+        Call::To => print_to(rt, Stream::Stdout, in_words(), report, &mut rooms.writer),
+        Call::On => {
+            let _ = print_on(rt, Stream::Stdout, in_words(), report, rooms);
+            told(rooms.faults.as_slice())
+        }
+        _ => {
+            let mut telling = NarratableReportHandler::new();
+            write_report(rt.alloc(), &mut telling, report, &mut rooms.writer)
+        }
     }
-    let mut telling = NarratableReportHandler::new();
-    write_report(rt.alloc(), &mut telling, report, writer)
-}
-
-fn two_rooms(alloc: Global) -> Result<Outputs<Vec<u8>, Vec<u8>>, AllocError> {
-    let writer = room(alloc)?;
-    Ok(Outputs::new(writer, room(alloc)?))
-}
-
-fn outputs(rt: &HostRuntime, row: &mut Rows, report: &Report) -> Called {
-    let mut outputs = two_rooms(rt.alloc())?;
-    let _ = print_on(rt, Stream::Stdout, in_words(), report, &mut outputs);
-    held(
-        row,
-        told(outputs.faults.as_slice()),
-        outputs.writer.as_slice(),
-    );
-    Ok(())
 }
 
 /// How printing ended, by what was told of faults.

@@ -4,7 +4,9 @@ use crate::diagnostics::{full_diagnostic, given_diagnostic};
 use crate::fixtures::texts_of;
 use crate::rows::{Called, REFUSED, Rows, VALUE};
 use miette::error::MietteError;
-use miette::report::{IntoDiagnostic, Report, Result, WrapErr};
+use miette::protocol::Diagnostic;
+use miette::report::{IntoDiagnostic, Report, Result, UsualBoxes, WrapErr};
+use miette::source::SourceCode;
 use miette_tree::{bail, ensure, miette};
 use std::alloc::{AllocError, Global};
 
@@ -17,19 +19,36 @@ pub enum Call {
     WithDiagnosticCause,
     WrapErr,
     Context,
-    OptionWrapErr,
-    OptionContext,
-    OptionWrapErrWith,
-    OptionWithContext,
-    ResultWrapErr,
-    ResultContext,
-    ResultWrapErrWith,
-    ResultWithContext,
+    /// A call of `WrapErr` for an `Option`, with this text.
+    InFrontOfNone(Way, &'static str),
+    /// The same for a `Result`.
+    InFrontOfErr(Way, &'static str),
     IntoDiagnostic,
     Miette,
     Bail,
     Ensure,
 }
+
+/// A method of `WrapErr`.
+#[derive(Clone, Copy)]
+pub enum Way {
+    WrapErr,
+    Context,
+    WrapErrWith,
+    WithContext,
+}
+
+/// The text of a value that is missing.
+pub const NOTHING: &str = "nothing is there";
+
+/// The same where it is made only then.
+pub const NO_ITEM: &str = "item 7 is missing";
+
+/// The text in front of a report.
+pub const IN_FRONT: &str = "in front";
+
+/// The same where it is made only then.
+pub const SEVEN: &str = "7 in front";
 
 /// Makes a call.
 ///
@@ -47,54 +66,55 @@ pub fn make(alloc: Global, call: Call, row: &mut Rows) -> Called {
         Call::FromErr => made(row, Report::from_err(alloc, MietteError::OutOfBounds)),
         Call::WithDiagnosticCause => return over_another(alloc, row),
         Call::Miette => row.report_or_refusal(&by_macro(alloc)),
-        Call::Bail => failed(row, is_refused(alloc, 7)),
+        Call::Bail => failed(row, is_refused(alloc)),
         Call::Ensure => failed(row, is_held(alloc, 7)),
         Call::IntoDiagnostic => {
             let error: std::result::Result<u32, MietteError> = Err(MietteError::OutOfBounds);
             failed(row, error.into_diagnostic(alloc));
         }
-        Call::OptionWrapErr
-        | Call::OptionContext
-        | Call::OptionWrapErrWith
-        | Call::OptionWithContext => failed(row, missing(alloc, call)),
-        _ => return in_front(alloc, call, row),
+        Call::InFrontOfNone(way, text) => {
+            failed(row, in_front(alloc, way, text, None::<u32>));
+        }
+        _ => return in_front_of_report(alloc, call, row),
     }
     Ok(())
 }
 
 fn by_macro(alloc: Global) -> Report {
-    miette!(in alloc; code = "a::b", help = "try", "{} is too much", 7)
+    miette!(in alloc; code = "a::b", help = "try", "7 is too much")
 }
 
 /// A message in front of a report, or of what has failed with it.
-fn in_front(alloc: Global, call: Call, row: &mut Rows) -> Called {
-    let report = given_report(alloc, row)?;
+fn in_front_of_report(alloc: Global, call: Call, row: &mut Rows) -> Called {
+    let report = full_report(alloc)?;
+    row.report(VALUE, &report);
     match call {
-        Call::WrapErr => put_before(row, report.wrap_err(alloc, "in front")),
-        Call::Context => put_before(row, report.context(alloc, "in front")),
-        _ => failed(row, put_in_front(alloc, call, Err(report))),
+        Call::InFrontOfErr(way, text) => {
+            let failure: Result<u32> = Err(report);
+            failed(row, in_front(alloc, way, text, failure));
+        }
+        Call::Context => put_before(row, report.context(alloc, IN_FRONT)),
+        _ => put_before(row, report.wrap_err(alloc, IN_FRONT)),
     }
     Ok(())
 }
 
-/// A message in front of what is missing.
-fn missing(alloc: Global, call: Call) -> Result<u32> {
-    let why = || format!(in alloc; "item {} is missing", 7);
-    match call {
-        Call::OptionWrapErr => None.wrap_err(alloc, "nothing is there"),
-        Call::OptionContext => None.context(alloc, "nothing is there"),
-        Call::OptionWrapErrWith => None.wrap_err_with(alloc, why),
-        _ => None.with_context(alloc, why),
-    }
-}
-
-fn put_in_front(alloc: Global, call: Call, error: Result<u32>) -> Result<u32> {
-    let why = || format!(in alloc; "{} in front", 7);
-    match call {
-        Call::ResultWrapErr => error.wrap_err(alloc, "in front"),
-        Call::ResultContext => error.context(alloc, "in front"),
-        Call::ResultWrapErrWith => error.wrap_err_with(alloc, why),
-        _ => error.with_context(alloc, why),
+/// A text in front of what is missing or has failed.
+fn in_front<D: Diagnostic, S: SourceCode, T: WrapErr<u32, D, S>>(
+    alloc: Global,
+    way: Way,
+    text: &str,
+    value: T,
+) -> Result<u32, Report<D, S>>
+where
+    Report<D, S>: UsualBoxes,
+{
+    let why = || String::from_str(alloc, text);
+    match way {
+        Way::WrapErr => value.wrap_err(alloc, text),
+        Way::Context => value.context(alloc, text),
+        Way::WrapErrWith => value.wrap_err_with(alloc, why),
+        Way::WithContext => value.with_context(alloc, why),
     }
 }
 
@@ -114,25 +134,21 @@ fn over_another(alloc: Global, row: &mut Rows) -> Called {
     Ok(())
 }
 
-/// The report that a call is given, which the row shows.
-fn given_report(alloc: Global, row: &mut Rows) -> Result<Report, AllocError> {
-    let report = full_report(alloc)?;
-    row.report(VALUE, &report);
-    Ok(report)
-}
-
 /// `oops!` with all parts, over two texts.
+///
+/// # Errors
+/// Where memory is refused.
 pub fn full_report(alloc: Global) -> Result<Report, AllocError> {
-    let texts = texts_of(alloc, &["b", "c"])?;
-    Ok(Report::new(full_diagnostic(alloc)?).with_cause_texts(texts))
+    let report = Report::new(full_diagnostic(alloc)?);
+    Ok(report.with_cause_texts(texts_of(alloc, &["b", "c"])?))
 }
 
-fn is_refused(alloc: Global, number: u32) -> Result<u32> {
-    bail!(in alloc; "{number} is too much")
+fn is_refused(alloc: Global) -> Result<u32> {
+    bail!(in alloc; "7 is too much")
 }
 
 fn is_held(alloc: Global, number: u32) -> Result<u32> {
-    ensure!(in alloc; number < 7, "{number} is too much");
+    ensure!(in alloc; number < 7, "7 is too much");
     Ok(number)
 }
 

@@ -35,25 +35,17 @@ pub fn red() -> Style {
 /// # Errors
 /// Where memory is refused for what it is given.
 pub fn make(alloc: Global, call: Call, row: &mut Rows) -> Called {
-    match call {
-        Call::New => {
-            row.value(&Runs::new(alloc));
-            Ok(())
-        }
-        _ => pushed(alloc, call, row),
-    }
-}
-
-fn pushed(alloc: Global, call: Call, row: &mut Rows) -> Called {
-    let more = read_text(alloc, "\u{1b}[32mb\u{1b}[0mc")?;
     let mut runs = Runs::new(alloc);
     row.value(&runs);
-    let answer = push(&mut runs, call, &more);
-    row.after(answer, &runs);
+    if !matches!(call, Call::New) {
+        let answer = push(&mut runs, alloc, call);
+        row.after(answer, &runs);
+    }
     Ok(())
 }
 
-fn push(runs: &mut Runs, call: Call, more: &Runs) -> Result<(), AllocError> {
+/// What the call answers; an error too where what it is given can't be made.
+fn push(runs: &mut Runs, alloc: Global, call: Call) -> Result<(), AllocError> {
     match call {
         Call::Push => runs.push('x'),
         Call::PushChars => runs.push_chars(&XY),
@@ -64,6 +56,6 @@ fn push(runs: &mut Runs, call: Call, more: &Runs) -> Result<(), AllocError> {
         Call::PushRunChars => runs.push_run_chars(red().dimmed(), &XY),
         Call::PushLink => runs.push_link("http://x"),
         Call::PushLinkEnd => runs.push_link_end(),
-        _ => runs.append(more),
+        _ => runs.append(&read_text(alloc, "\u{1b}[32mb\u{1b}[0mc")?),
     }
 }

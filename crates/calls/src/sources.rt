@@ -41,21 +41,19 @@ pub fn make(alloc: Global, call: Call, row: &mut Rows) -> Called {
             row,
             OwnedSource::named_unindexed(alloc, "bad_file.rs", Some("rust"), bytes),
         ),
-        Call::NamedWithLanguage => return with_language(alloc, row, bytes),
-        Call::NamedClones => return clones(alloc, row, bytes),
+        Call::NamedWithLanguage | Call::NamedClones => return named(alloc, call, row, bytes),
     }
     Ok(())
 }
 
-fn with_language(alloc: Global, row: &mut Rows, bytes: Vec<u8>) -> Called {
+fn named(alloc: Global, call: Call, row: &mut Rows, bytes: Vec<u8>) -> Called {
     let named = NamedSource::new(alloc, "bad_file.rs", bytes)?;
-    row.value(&named);
-    read(row, named.with_language(alloc, "rust"));
-    Ok(())
-}
-
-fn clones(alloc: Global, row: &mut Rows, bytes: Vec<u8>) -> Called {
-    let named = NamedSource::new(alloc, "bad_file.rs", bytes)?.with_language(alloc, "rust")?;
+    if let Call::NamedWithLanguage = call {
+        row.value(&named);
+        read(row, named.with_language(alloc, "rust"));
+        return Ok(());
+    }
+    let named = named.with_language(alloc, "rust")?;
     row.value(&named);
     read(row, named.clone());
     read(row, named.clone());

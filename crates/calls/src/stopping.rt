@@ -10,38 +10,77 @@ use std::alloc::{AllocError, Global};
 use std::cell::Cell;
 use std::io;
 use std::io::ErrorKind;
+use std::rc::Rc;
 
 /// Which reads fail, and how many there were.
 #[derive(Drop)]
 pub struct Reads {
-    /// How many reads there were.
-    pub count: Cell<usize>,
-    /// Which read fails, from 1; of 0 none does.
-    pub fails_at: usize,
-    /// Whether those after it fail too.
-    pub stays: bool,
+    count: Cell<usize>,
+    // which read fails, from 1; of 0 none does
+    fails_at: Cell<usize>,
+    // whether those after it fail too
+    stays: Cell<bool>,
 }
 
 impl Reads {
+    /// Reads of which none fails.
+    ///
+    /// # Errors
+    /// Where memory is refused.
+    pub fn new(alloc: Global) -> Result<Rc<Reads>, AllocError> {
+        Ok(Rc::new(
+            alloc,
+            Reads {
+                count: Cell::new(0),
+                fails_at: Cell::new(0),
+                stays: Cell::new(false),
+            },
+        )?)
+    }
+
+    /// Begins to count anew. This read fails, from 1, alone or with those after it.
+    pub fn begin(&self, fails_at: usize, stays: bool) {
+        self.count.set(0);
+        self.fails_at.set(fails_at);
+        self.stays.set(stays);
+    }
+
+    /// How many reads there were.
+    pub fn count(&self) -> usize {
+        self.count.get()
+    }
+
     /// Whether the next read fails.
     fn fails(&self) -> bool {
         let count = self.count.get().saturating_add(1);
         self.count.set(count);
-        count == self.fails_at || (self.stays && self.fails_at < count)
+        let fails_at = self.fails_at.get();
+        count == fails_at || (self.stays.get() && fails_at < count)
     }
 }
 
 /// Bytes of which a read fails, the first, the second, or a later one.
 #[derive(Drop)]
-pub struct Stopping<'a> {
-    /// The bytes.
-    pub bytes: &'a [u8],
-    /// Which read fails; sources that share them are counted together.
-    pub reads: &'a Reads,
+pub struct Stopping {
+    bytes: Vec<u8>,
+    // sources that share them are counted together
+    reads: Rc<Reads>,
 }
 
-impl<'a> SourceCode for Stopping<'a> {
-    ghost source = { λ it. record { bytes = it.bytes.now; name = None; language = None; always_reads = false } };
+impl Stopping {
+    /// These bytes, of which these reads fail.
+    ///
+    /// # Errors
+    /// Where memory is refused.
+    pub fn over(alloc: Global, bytes: &[u8], reads: &Rc<Reads>) -> Result<Stopping, AllocError> {
+        let reads = reads.clone()?;
+        let bytes = bytes.to_vec(alloc)?;
+        Ok(Stopping { bytes, reads })
+    }
+}
+
+impl SourceCode for Stopping {
+    ghost source = { λ it. record { bytes = it.bytes.items; name = None; language = None; always_reads = false } };
 
     fn read_span(
         &self,

@@ -37,8 +37,7 @@ const TEXT: &str =
 pub fn make(alloc: Global, call: Call, row: &mut Rows) -> Called {
     match call {
         Call::Fill | Call::AppendWhole => return appended(alloc, call, row),
-        Call::Wrap => return wrapped(alloc, row),
-        Call::PushFitting => return fitted(alloc, row),
+        Call::Wrap | Call::PushFitting => wrapped(alloc, call, row),
         Call::Read => {
             let codes: Vec<char> = TEXT.chars().collect(alloc)?;
             row.answer(read(alloc, codes));
@@ -89,19 +88,23 @@ fn append(text: &mut String, call: Call) -> Result<(), RenderError> {
     }
 }
 
-fn wrapped(alloc: Global, row: &mut Rows) -> Called {
+/// An output, and the same after the call.
+fn wrapped(alloc: Global, call: Call, row: &mut Rows) {
     let mut output = Output::for_runs(alloc);
     row.value(&output);
-    let answer = wrap_text(&mut output, alloc)?;
+    let answer = push(&mut output, alloc, call);
     row.after(answer, &output);
-    Ok(())
 }
 
-/// What the call answers; an error where what it is given can't be made.
-fn wrap_text(output: &mut Output, alloc: Global) -> Result<Result<(), AllocError>, AllocError> {
-    let text = read_text(alloc, TEXT)?;
+/// What the call answers; an error too where what it is given can't be made.
+fn push(output: &mut Output, alloc: Global, call: Call) -> Result<(), AllocError> {
     let first = read_text(alloc, "* ")?;
+    if let Call::PushFitting = call {
+        push_fitting(output, true, 13, &first, "word-and-\u{6f22}")?;
+        return Ok(());
+    }
     let further = read_text(alloc, "| ")?;
+    let text = read_text(alloc, TEXT)?;
     let plan = Plan {
         wraps: true,
         separator: WordSeparator::AsciiSpace,
@@ -111,14 +114,5 @@ fn wrap_text(output: &mut Output, alloc: Global) -> Result<Result<(), AllocError
         first: &first,
         further: &further,
     };
-    Ok(wrap(output, alloc, plan, &text))
-}
-
-fn fitted(alloc: Global, row: &mut Rows) -> Called {
-    let first = read_text(alloc, "* ")?;
-    let mut output = Output::for_runs(alloc);
-    row.value(&output);
-    let answer = push_fitting(&mut output, true, 13, &first, "word-and-\u{6f22}");
-    row.after(answer, &output);
-    Ok(())
+    wrap(output, alloc, plan, &text)
 }
