@@ -40,14 +40,19 @@ def header(name):
     return file_in(next(it for it in done.stdout.split() if it.endswith("/" + name)))
 
 
+def quoted(text):
+    """A text in TOML: as in JSON, but that TOML escapes DEL, and has no halves of surrogate pairs."""
+    return json.dumps(text, ensure_ascii=False).replace("\x7f", "\\u007f")
+
+
 def toml(name):
     """The texts of a file of cases as TOML."""
     text = ""
     for line in file_in(f"cases/{name}.jsonl").decode().splitlines():
         case = json.loads(line)
-        text += f"[[case]]\nwhat = {json.dumps(case.get('what', name))}\nwords = [\n"
-        text += "".join(f"    {json.dumps(word)},\n" for word in case["argv"])
-        text += f"]\nwanted = {json.dumps(case.get('stdout_text', ''))}\n\n"
+        text += f"[[case]]\nwhat = {quoted(case.get('what', name))}\nwords = [\n"
+        text += "".join(f"    {quoted(word)},\n" for word in case["argv"])
+        text += f"]\nwanted = {quoted(case.get('stdout_text', ''))}\n\n"
     return text.rstrip("\n").encode() + b"\n"
 
 
