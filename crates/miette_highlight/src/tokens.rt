@@ -4,10 +4,9 @@ ghost use Rattle.std.specs.Prelude.{◌≡◌, ◌+◌, ◌^◌, ◌<◌, ◌≤
 ghost use Rattle.std.specs.Prelude.{false, length, drop, string_bytes};
 ghost use Rattle.std.specs.List.{starts_with};
 ghost use Rattle.miette_highlight.specs.rules.Patterns.{begins_within, character_end, close_end, escapes_next};
-ghost use Rattle.miette_highlight.specs.rules.Patterns.{hash_count, held_end, is_among, is_hash, is_held, is_word_byte};
-ghost use Rattle.miette_highlight.specs.rules.Patterns.{open_over, quoted, raw_end};
-ghost use Rattle.miette_highlight.specs.rules.Patterns.{inside, match_of, prefixed_word};
-ghost use Rattle.miette_highlight.specs.rules.Patterns.{raw_inside, raw_text, word_end};
+ghost use Rattle.miette_highlight.specs.rules.Patterns.{hash_count, held_end, inside, is_among, is_hash, is_held};
+ghost use Rattle.miette_highlight.specs.rules.Patterns.{is_word_byte, match_of, open_over, prefixed_word, quoted};
+ghost use Rattle.miette_highlight.specs.rules.Patterns.{raw_end, raw_inside, raw_text, word_end};
 ghost use Rattle.miette_highlight.specs.rules.Tokens.{AreTokens, IsToken, first_match, running_token, token_at};
 ghost use Rattle.miette_highlight.specs.rules.Tokens.{token_of};
 ghost use Rattle.miette_highlight.specs.rules.Pieces.{CutsLine};

@@ -32,7 +32,7 @@ use std::mem;
 
 /// What the labels over one source are drawn with.
 #[derive(Clone, Copy)]
-pub(crate) struct Look<'a> {
+pub(crate) struct ThemedLayout<'a> {
     pub(crate) theme: &'a GraphicalTheme,
     pub(crate) layout: &'a LayoutOptions,
 }
@@ -92,20 +92,20 @@ fn theme_after(alloc: Global, n: usize, theme: GraphicalTheme) -> Result<Graphic
 // Appends the text of the rows of some labels' snippets, over a source.
 fn push_drawn<S: SourceCode, H: Highlighter>(
     painter: &mut Painter<'_, H>,
-    look: &Look<'_>,
+    themed: &ThemedLayout<'_>,
     source: SourceRef<'_, S>,
     labels: &[LabeledSpan],
 ) -> Result<(), RenderError>
     ensures ok { OnOk result (Paints H.is_blank H.may_follow (AreDrawn
-        (settings_with (settings_of painter.old) look.now)
+        (settings_with (settings_of painter.old) themed.now)
         (shown_source S.source source.entry) labels.now) painter.old painter.new) }
     ensures refused { (result ≡ Err RenderError.Refused) → (shown_source S.source source.entry).always_reads ≡ false }
     ensures keeps { Keeps H.is_blank painter.old painter.new }
 {
     let drawn_with = SnippetSettings {
         alloc: painter.alloc,
-        theme: look.theme,
-        layout: look.layout,
+        theme: themed.theme,
+        layout: themed.layout,
     };
     let page = Page::over(mem::replace(&mut painter.out, Output::for_text(painter.alloc)));
     let page = snippets(page, &mut painter.highlighter, &drawn_with, &source, labels)?;
@@ -116,12 +116,12 @@ fn push_drawn<S: SourceCode, H: Highlighter>(
 // Appends the text of the rows of some labels' snippets, over a source that is there.
 fn push_shown<S: SourceCode, H: Highlighter>(
     painter: &mut Painter<'_, H>,
-    look: &Look<'_>,
+    themed: &ThemedLayout<'_>,
     source: SourceRef<'_, S>,
     labels: &[LabeledSpan],
 ) -> Result<(), RenderError>
     ensures ok { OnOk result (Paints H.is_blank H.may_follow
-        (IsSourceDrawn (settings_with (settings_of painter.old) look.now)
+        (IsSourceDrawn (settings_with (settings_of painter.old) themed.now)
         (labelled (Some (shown_source S.source source.entry)) labels.now)) painter.old painter.new) }
     ensures refused { (result ≡ Err RenderError.Refused) →
         always_reads (Some (shown_source S.source source.entry)) labels.now ≡ false }
@@ -129,19 +129,19 @@ fn push_shown<S: SourceCode, H: Highlighter>(
 {
     match labels {
         [] => Ok(()),
-        [_, ..] => push_drawn(painter, look, source, labels),
+        [_, ..] => push_drawn(painter, themed, source, labels),
     }
 }
 
 // Appends the text of the rows of some labels' snippets, over a source where there is one.
 fn push_source<S: SourceCode, H: Highlighter>(
     painter: &mut Painter<'_, H>,
-    look: &Look<'_>,
+    themed: &ThemedLayout<'_>,
     source: Option<SourceRef<'_, S>>,
     labels: &[LabeledSpan],
 ) -> Result<(), RenderError>
     ensures ok { OnOk result (Paints H.is_blank H.may_follow
-        (IsSourceDrawn (settings_with (settings_of painter.old) look.now)
+        (IsSourceDrawn (settings_with (settings_of painter.old) themed.now)
         (labelled (source_shown S.source source.entry) labels.now)) painter.old painter.new) }
     ensures refused { (result ≡ Err RenderError.Refused) →
         always_reads (source_shown S.source source.entry) labels.now ≡ false }
@@ -149,7 +149,7 @@ fn push_source<S: SourceCode, H: Highlighter>(
 {
     match source {
         None => Ok(()),
-        Some(source) => push_shown(painter, look, source, labels),
+        Some(source) => push_shown(painter, themed, source, labels),
     }
 }
 
@@ -175,11 +175,11 @@ fn push_further<S: SourceCode, H: Highlighter>(
     let mut rest = sections;
     while let [section, more @ ..] = rest {
         let labels = section.labels();
-        let look = Look {
+        let themed = ThemedLayout {
             theme: &theme,
             layout,
         };
-        push_source(painter, &look, Some(section.source()), labels)?;
+        push_source(painter, &themed, Some(section.source()), labels)?;
         theme = theme_after(alloc, labels.len(), theme)?;
         rest = more;
     }
@@ -202,11 +202,11 @@ pub(crate) fn push_rows<D: Diagnostic, S: SourceCode, H: Highlighter>(
     let sections = report.further_snippets();
     let settings = painter.settings;
     let layout = layout_with(&settings.layout, sections);
-    let look = Look {
+    let themed = ThemedLayout {
         theme: &settings.theme,
         layout: &layout,
     };
     let labels = labels_of(report);
-    push_source(painter, &look, source, labels)?;
+    push_source(painter, &themed, source, labels)?;
     push_further(painter, &layout, labels.len(), sections)
 }

@@ -7,7 +7,7 @@ pub use Rattle.miette_tree.specs.views.Owned.{source_shown}
 use Rattle.miette_picture_rules.specs.rules.Settings.{Settings}
 use Rattle.miette_picture_rules.specs.views.Settings.{handler_settings}
 use Rattle.miette_painting.specs.declared.painter.Painter.{Painter}
-use Rattle.miette_painting.specs.declared.sources.Look.{Look}
+use Rattle.miette_painting.specs.declared.sources.ThemedLayout.{ThemedLayout}
 use Rattle.miette_style.specs.rules.Themes.{theme_of}
 
 -- the handler's settings, with the painter's width
@@ -15,8 +15,8 @@ abbrev pub settings_of : {H : Type 0} → Painter H → Settings
 settings_of painter = record (handler_settings painter.settings.now) { width = painter.width }
 
 -- the same with a theme and a layout of their own
-abbrev pub settings_with : Settings → Look → Settings
-settings_with s look = record s { theme = theme_of look.theme.now; layout = look.layout.now }
+abbrev pub settings_with : Settings → ThemedLayout → Settings
+settings_with s themed = record s { theme = theme_of themed.theme.now; layout = themed.layout.now }
 
 -- By what a part of a report is printed: by these settings, with plain lines of sources or not, while these calls on
 -- the highlighter happen.

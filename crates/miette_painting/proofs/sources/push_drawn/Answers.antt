@@ -14,7 +14,7 @@ use Rattle.miette_painting.proofs.sources.push_drawn.Goals as goal
 pub returns-in_err-page-clause-refused : goal.returns-in_err-page-clause-refused
 returns-in_err-page-clause-refused g c = λ h.
     let u = settings_of c.args.painter.now in
-    let s = settings_with u c.args.look.now in
+    let s = settings_with u c.args.themed.now in
     let was = c.args.painter.now.highlighter in
     let blank = leaves_plain g.H.Highlighter.is_blank was in
     let source = shown_source g.S.SourceCode.source c.args.source in
@@ -27,7 +27,7 @@ returns-in_err-page-clause-refused g c = λ h.
 pub returns-clause-ok : goal.returns-clause-ok
 returns-clause-ok g c =
     let u = settings_of c.args.painter.now in
-    let s = settings_with u c.args.look.now in
+    let s = settings_with u c.args.themed.now in
     let was = c.args.painter.now.highlighter in
     let blank = leaves_plain g.H.Highlighter.is_blank was in
     let source = shown_source g.S.SourceCode.source c.args.source in

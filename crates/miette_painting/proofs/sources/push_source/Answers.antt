@@ -11,7 +11,7 @@ pub returns-in-None-clause-ok : goal.returns-in-None-clause-ok
 returns-in-None-clause-ok g c =
     let old = c.args.painter.now in
     let by = printing_of g.H.Highlighter.is_blank g.H.Highlighter.may_follow old old in
-    let s = settings_with (settings_of old) c.args.look.now in
+    let s = settings_with (settings_of old) c.args.themed.now in
     let labels = c.args.labels.now in
     nothing_after (IsSourceDrawn s (labelled (source_shown g.S.SourceCode.source c.args.source) labels) by) old.out
     (subst (λ o. IsSourceDrawn s (labelled (source_shown g.S.SourceCode.source o) labels) by []) (sym c.in-None.is)
