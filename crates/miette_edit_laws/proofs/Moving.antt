@@ -29,14 +29,14 @@ sum_put f edit (next ∷ edits) =
     (λ g. let there : put_edit edit (next ∷ edits) ≡ edit ∷ next ∷ edits = rw g refl in
     ap (sum_by f) there ∙ sum_by-cons f edit (next ∷ edits))
 
-sum_by_offset : (f : Replacement → ℕ) (edits : List Replacement) → sum_by f (by_offset edits) ≡ sum_by f edits
+pub sum_by_offset : (f : Replacement → ℕ) (edits : List Replacement) → sum_by f (by_offset edits) ≡ sum_by f edits
 sum_by_offset f [] = refl
 sum_by_offset f (edit ∷ edits) = sum_put f edit (by_offset edits)
     ∙ ap (λ n. f edit + n) (sum_by_offset f edits) ∙ sym (sum_by-cons f edit edits)
 
 -- ---- the length
 
-range_length : (source : List ℕ) (a b : ℕ) → a ≤ b → b ≤ length source → length (slice_range source a b) + a ≡ b
+pub range_length : (source : List ℕ) (a b : ℕ) → a ≤ b → b ≤ length source → length (slice_range source a b) + a ≡ b
 range_length source a b le within =
     let x : length (drop a source) ≡ length source - a = length-drop a source in
     let y = length-take (b - a) (drop a source) in
@@ -98,11 +98,11 @@ get_take (suc n) (x ∷ xs) (suc i) lt = get_take n xs i (omega (arith, lt))
 
 -- ---- where bytes stand
 
-abbrev weight : (Replacement → ℕ) → ℕ → Replacement → ℕ
+abbrev pub weight : (Replacement → ℕ) → ℕ → Replacement → ℕ
 weight f k edit = cond (leb edit.span.offset k) (f edit) 0
 
 -- edits after a place don't count
-none_counts : (f : Replacement → ℕ) (n a k : ℕ) (edits : List Replacement) → FitFrom n a edits → k < a
+pub none_counts : (f : Replacement → ℕ) (n a k : ℕ) (edits : List Replacement) → FitFrom n a edits → k < a
     → sum_by (weight f k) edits ≡ 0
 none_counts f n a k [] h lt = refl
 none_counts f n a k (e ∷ es) h lt =
@@ -114,7 +114,7 @@ none_counts f n a k (e ∷ es) h lt =
     omega (arith, w, rest, s)
 
 -- one more edit that begins at or before a place counts, and one after it doesn't
-counts : (f : Replacement → ℕ) (k : ℕ) (e : Replacement) (es : List Replacement) → e.span.offset ≤ k
+pub counts : (f : Replacement → ℕ) (k : ℕ) (e : Replacement) (es : List Replacement) → e.span.offset ≤ k
     → sum_by (weight f k) (e ∷ es) ≡ f e + sum_by (weight f k) es
 counts f k e es le =
     let yes : leb e.span.offset k ≡ true = le-leb e.span.offset k le in

@@ -1,17 +1,18 @@
 //! Laws of applied texts. Each function does nothing: its contract is the law, and a proof above calls it.
 
 ghost use Rattle.std.specs.Prelude.{◌≡◌, ◌≢◌, ◌⊎◌, ℕ, ◌+◌, ◌<◌, List, [], ◌∷◌, ◌++◌, length, slice_get, slice_index_or};
-ghost use Rattle.std.specs.Prelude.{take, None, Some, false, true};
+ghost use Rattle.std.specs.Prelude.{slice_range, take, None, Some, false, true};
 ghost use Rattle.std.specs.List.Sorted.{IsPermutation};
 ghost use Rattle.miette_fixes.specs.laws.Conflicts.{NoTwoConflict};
-ghost use Rattle.miette_edit_laws.specs.laws.Places.{deleted, inserted, is_covered, moved};
-ghost use Rattle.miette_fixes.specs.rules.Applying.{applied, refusal};
+ghost use Rattle.miette_edit_laws.specs.laws.Places.{IsInserted, Stays, deleted, inserted, is_covered, moved, text_at};
+ghost use Rattle.miette_fixes.specs.rules.Applying.{applied, by_offset, refusal};
 ghost use Rattle.miette_fixes.specs.rules.ApplyingAll.{all_applied, all_of, counted, some_conflict, taken};
 ghost use Rattle.miette_fixes.specs.rules.Edits.{Replacement};
 
 /// Of edits that can be applied: the text has the source's length, less what is deleted and more what is inserted. A
-/// byte that no edit's span covers stands in the text, in order, moved by what was inserted and deleted before it. No
-/// edits give the source.
+/// byte that no edit's span covers stands in the text, in order, moved by what was inserted and deleted before it. The
+/// text of each edit stands where its span began, moved by what the edits before it insert and delete. The text has
+/// nothing else. No edits give the source.
 pub fn applied_laws()
     ensures lengths { (source : List ℕ) (edits : List Replacement) → refusal (length source) edits ≡ None →
         length (applied source edits) + deleted edits ≡ length source + inserted edits }
@@ -21,6 +22,12 @@ pub fn applied_laws()
     ensures order { (source : List ℕ) (edits : List Replacement) (at next : ℕ) →
         refusal (length source) edits ≡ None → at < next → is_covered at edits ≡ false →
         is_covered next edits ≡ false → moved edits at < moved edits next }
+    ensures texts { (source : List ℕ) (edits before : List Replacement) (edit : Replacement)
+        (after : List Replacement) → refusal (length source) edits ≡ None →
+        by_offset edits ≡ before ++ edit ∷ after → slice_range (applied source edits) (text_at before edit)
+        (text_at before edit + length edit.text) ≡ edit.text }
+    ensures whole { (source : List ℕ) (edits : List Replacement) (at : ℕ) → refusal (length source) edits ≡ None →
+        at < length (applied source edits) → Stays source edits at ⊎ IsInserted edits at }
     ensures nothing { (source : List ℕ) → applied source [] ≡ source }
 {}
 

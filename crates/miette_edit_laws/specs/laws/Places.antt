@@ -1,6 +1,8 @@
--- How many bytes edits delete and insert, and where a byte stands after them.
-use Rattle.std.specs.Prelude.{ℕ, ◌+◌, ◌-◌, List, length, Bool, ◌&&◌, nat_lt, nat_le, if◌then◌else◌}
+-- How many bytes edits delete and insert, and what stands where after them.
+use Rattle.std.specs.Prelude.{ℕ, ◌+◌, ◌-◌, ◌<◌, ◌≤◌, ◌≡◌, List, ◌∷◌, ◌++◌, length, Bool, false, ◌&&◌, nat_lt, nat_le}
+use Rattle.std.specs.Prelude.{if◌then◌else◌}
 use Rattle.std.specs.List.{list_any, sum_by}
+use Rattle.miette_fixes.specs.rules.Applying.{by_offset}
 use Rattle.miette_fixes.specs.rules.Edits.{Replacement, end_of}
 
 -- how many bytes edits delete, and how many they insert
@@ -24,3 +26,23 @@ inserted_before at edits = sum_by (λ edit. if nat_le edit.span.offset at then l
 -- where the byte at a place of the source stands in the applied text
 abbrev pub moved : List Replacement → ℕ → ℕ
 moved edits at = at + inserted_before at edits - deleted_before at edits
+
+-- where the text of an edit stands in the applied text that these edits come before
+abbrev pub text_at : List Replacement → Replacement → ℕ
+text_at before edit = edit.span.offset + inserted before - deleted before
+
+-- at a place of the applied text stands a byte of the source that no edit covers
+pub record Stays (source : List ℕ) (edits : List Replacement) (at : ℕ) : Type 0 where
+  pub from : ℕ
+  pub within : from < length source
+  pub stays : is_covered from edits ≡ false
+  pub place : moved edits from ≡ at
+
+-- at a place of the applied text stands a byte of an edit's text
+pub record IsInserted (edits : List Replacement) (at : ℕ) : Type 0 where
+  pub before : List Replacement
+  pub edit : Replacement
+  pub after : List Replacement
+  pub order : by_offset edits ≡ before ++ edit ∷ after
+  pub low : text_at before edit ≤ at
+  pub high : at < text_at before edit + length edit.text

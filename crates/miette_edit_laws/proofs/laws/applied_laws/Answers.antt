@@ -1,4 +1,5 @@
 use Rattle.miette_edit_laws.proofs.Moving.{lengths, outside, order}
+use Rattle.miette_edit_laws.proofs.Standing.{texts, whole}
 use Rattle.miette_edit_laws.proofs.laws.applied_laws.Goals as goal
 
 pub returns-clause-lengths : goal.returns-clause-lengths
@@ -9,3 +10,9 @@ returns-clause-outside c = outside
 
 pub returns-clause-order : goal.returns-clause-order
 returns-clause-order c = order
+
+pub returns-clause-texts : goal.returns-clause-texts
+returns-clause-texts c = texts
+
+pub returns-clause-whole : goal.returns-clause-whole
+returns-clause-whole c = whole
