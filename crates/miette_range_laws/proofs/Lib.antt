@@ -1,4 +1,5 @@
 pub mod Blocks
+pub mod FarInside
 pub mod FoldedRuns
 pub mod Inside
 pub mod LeftOutPairs

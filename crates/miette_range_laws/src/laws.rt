@@ -10,9 +10,9 @@ ghost use Rattle.miette_style.specs.declared.style.Style.{Style};
 ghost use Rattle.miette_protocol.specs.views.Meaning.{Label};
 ghost use Rattle.miette_protocol.specs.rules.Reading.{Source};
 ghost use Rattle.miette_range_laws.specs.laws.Belonging.{HasOneGroup};
-ghost use Rattle.miette_range_laws.specs.laws.Folding.{EndsPass, FitsIn, IsInside};
+ghost use Rattle.miette_range_laws.specs.laws.Folding.{EndsPass, FitsIn, IsFarInside, IsInside};
 ghost use Rattle.miette_label_rules.specs.rules.Answers.{Answers, AlwaysReads, NoneFails};
-ghost use Rattle.miette_label_rules.specs.rules.Around.{HaveContext, group_context};
+ghost use Rattle.miette_label_rules.specs.rules.Around.{HaveContext, group_context, lines_around};
 ghost use Rattle.miette_label_rules.specs.rules.Groups.{AreAccepted, in_order, groups_of, lines_of_groups};
 ghost use Rattle.miette_snippet_rules.specs.rules.Snippets.{snippets, shown_numbers, is_kept, is_left_out};
 ghost use Rattle.miette_label_rules.specs.rules.Labels.{drawn_from, multi_line};
@@ -58,7 +58,8 @@ pub fn ranges_end_kept()
 
 /// No label begins or ends on a line that no label keeps, so each that lies on it runs through it (`inside`); and the
 /// labels on such a line are those on the next one, where no label keeps that one either (`same`). So a break's row has
-/// a bar for just the labels that run through all lines that it stands for. No line is left out alone (`pairs`).
+/// a bar for just the labels that run through all lines that it stands for. No line is left out alone (`pairs`), and
+/// none as near to a label's first or last line as the lines that are shown around it (`near`).
 pub fn left_out_lines_are_inside()
     ensures inside { (ends : Bool) (styles : List Style) (limit : ℕ) (context : ℕ) (bytes : List ℕ)
         (labels : List Label) (k : ℕ) → HaveContext context labels → k < length (lines_of bytes) →
@@ -75,6 +76,9 @@ pub fn left_out_lines_are_inside()
         is_left_out (Some limit) context bytes labels k ≡ true →
         (is_left_out (Some limit) context bytes labels (k - 1) || is_left_out (Some limit) context bytes labels (k + 1))
         ≡ true }
+    ensures near { (limit : ℕ) (context : ℕ) (bytes : List ℕ) (labels : List Label) (k : ℕ) →
+        is_left_out (Some limit) context bytes labels k ≡ true →
+        AllByRecursion (λ label. IsFarInside (lines_around context labels label) bytes k label.span) labels }
 {}
 
 /// Where no label has more lines than labels are folded to, the rows are those without folding.

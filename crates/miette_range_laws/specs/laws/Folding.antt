@@ -1,11 +1,12 @@
 -- What holds of folded labels.
-use Rattle.std.specs.Prelude.{ℕ, ◌+◌, ◌-◌, ◌≤◌, ◌≡◌, true, false, Bool, List, [], ◌∷◌}
+use Rattle.std.specs.Prelude.{ℕ, ◌+◌, ◌-◌, ◌<◌, ◌≤◌, ◌≡◌, true, false, Bool, List, [], ◌∷◌}
 use Rattle.miette_source_lines.specs.rules.Lines.{Line, line_of}
 use Rattle.miette_protocol.specs.views.Meaning.{Label}
 use Rattle.miette_protocol.specs.rules.Reading.{Span}
 use Rattle.miette_label_rules.specs.rules.Labels.{DrawnLabel, starts_on, ends_on}
 use Rattle.miette_snippet_rules.specs.rules.Folds.{last_byte}
 use Rattle.miette_snippet_rules.specs.rules.Numbers.{last_of}
+use Rattle.miette_snippet_rules.specs.rules.Snippets.{is_in_context}
 
 -- over how many lines a label is drawn
 abbrev pub lines_drawn : List ℕ → Span → ℕ
@@ -22,3 +23,9 @@ EndsPass kept (k ∷ ks) = (kept k ≡ true) × (kept (last_of k ks) ≡ true)
 -- a label neither begins nor ends on a line
 abbrev pub IsInside : Line → DrawnLabel → Type 0
 IsInside line label = (starts_on line label ≡ false) × (ends_on line label ≡ false)
+
+-- Where a line lies in the context of a span, it lies more lines after the span's first one, and more before its last
+-- one, than are shown around it.
+abbrev pub IsFarInside : ℕ → List ℕ → ℕ → Span → Type 0
+IsFarInside around bytes k span = is_in_context around bytes k span ≡ true →
+    (line_of bytes span.offset + around < k) × (k + around < line_of bytes (last_byte bytes span))

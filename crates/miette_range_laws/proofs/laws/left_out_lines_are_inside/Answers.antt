@@ -2,6 +2,7 @@ use Rattle.std.proofs.Common.{◌+◌, Some, ◌∙◌}
 use Rattle.miette_label_rules.specs.rules.Groups.{in_order}
 use Rattle.miette_range_laws.proofs.Inside.{left_out_inside, left_out_same}
 use Rattle.miette_range_laws.proofs.LeftOutPairs.{left_pairs}
+use Rattle.miette_range_laws.proofs.FarInside.{left_far}
 use Rattle.miette_range_laws.proofs.LeftOutRuns.{kept_ordered}
 use Rattle.miette_range_laws.proofs.MaximalRanges.{around_ordered}
 use Rattle.miette_range_laws.proofs.laws.left_out_lines_are_inside.Goals as goal
@@ -19,3 +20,6 @@ returns-clause-same c = λ ends styles limit context bytes labels k h there out 
 
 pub returns-clause-pairs : goal.returns-clause-pairs
 returns-clause-pairs c = left_pairs
+
+pub returns-clause-near : goal.returns-clause-near
+returns-clause-near c = left_far
