@@ -9,3 +9,4 @@ pub mod patterns;
 mod rule;
 mod sets;
 mod tokens;
+mod words;

@@ -4,14 +4,15 @@ ghost use Rattle.std.specs.Prelude.{◌≡◌, ◌+◌, ◌^◌, ◌<◌, ◌≤
 ghost use Rattle.std.specs.Prelude.{false, length, drop, string_bytes};
 ghost use Rattle.std.specs.List.{starts_with};
 ghost use Rattle.miette_highlight.specs.rules.Patterns.{begins_within, character_end, close_end, escapes_next};
-ghost use Rattle.miette_highlight.specs.rules.Patterns.{hash_count, held_end, inside, is_among, is_hash, is_held};
-ghost use Rattle.miette_highlight.specs.rules.Patterns.{is_word_byte, match_of, open_over, prefixed_word, quoted};
+ghost use Rattle.miette_highlight.specs.rules.Patterns.{hash_count, held_end, inside, is_hash, is_held};
+ghost use Rattle.miette_highlight.specs.rules.Patterns.{match_of, open_over, prefixed_word, quoted};
 ghost use Rattle.miette_highlight.specs.rules.Patterns.{raw_end, raw_inside, raw_text, word_end};
 ghost use Rattle.miette_highlight.specs.rules.Tokens.{AreTokens, IsToken, first_match, running_token, token_at};
 ghost use Rattle.miette_highlight.specs.rules.Tokens.{token_of};
 ghost use Rattle.miette_highlight.specs.rules.Pieces.{CutsLine};
 
 use crate::rule::{Delimiters, Pattern, Rule};
+use crate::words::{is_among, is_word_byte, word_end};
 use miette_style::style::Style;
 use std::alloc::{AllocError, Global};
 
@@ -36,44 +37,6 @@ pub struct Token {
     pub style: Style,
     /// What it leaves open.
     pub left_open: Option<OpenPart>,
-}
-
-// Whether it belongs to a word.
-fn is_word_byte(byte: u8) -> bool
-    ensures { result ≡ is_word_byte byte }
-{
-    byte.is_ascii_alphanumeric() || byte == b'_' || 128 <= byte
-}
-
-// How many bytes the word has that a text begins with.
-fn word_end(text: &[u8]) -> usize
-    ensures end { result ≡ word_end 0 text.now }
-    ensures within { result ≤ length text.now }
-{
-    let mut at = 0;
-    let mut rest = text;
-    while let Some((byte, tail)) = rest.split_first() {
-        if !is_word_byte(*byte) {
-            return at;
-        }
-        rest = tail;
-        at += 1;
-    }
-    at
-}
-
-// Whether a word is one of these.
-fn is_among(words: &[String], word: &[u8]) -> bool
-    ensures { result ≡ is_among words.now word.now }
-{
-    let mut rest = words;
-    while let Some((first, tail)) = rest.split_first() {
-        if first.as_bytes() == word {
-            return true;
-        }
-        rest = tail;
-    }
-    false
 }
 
 // Whether a text begins with a byte from the first up to the last.

@@ -1,6 +1,6 @@
 use Rattle.std.proofs.Common.{◌≡◌, ◌+◌, length}
 use Rattle.miette_highlight.specs.rules.Patterns.{word_end}
-use Rattle.miette_highlight.proofs.tokens.word_end.Given as goal
+use Rattle.miette_highlight.proofs.words.word_end.Given as goal
 
 abbrev pub invariant-loop-byte : goal.invariant-loop-byte
 invariant-loop-byte l = record {

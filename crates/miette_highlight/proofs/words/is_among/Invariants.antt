@@ -1,6 +1,6 @@
 use Rattle.std.proofs.Common.{◌≡◌, length}
 use Rattle.miette_highlight.specs.rules.Patterns.{is_among}
-use Rattle.miette_highlight.proofs.tokens.is_among.Given as goal
+use Rattle.miette_highlight.proofs.words.is_among.Given as goal
 
 abbrev pub invariant-loop-first : goal.invariant-loop-first
 invariant-loop-first l = is_among l.rest l.word ≡ is_among l.words l.word

@@ -1,0 +1,42 @@
+//! Words, of which rules tell, and how a text begins with one.
+
+ghost use Rattle.std.specs.Prelude.{◌≡◌, ◌≤◌, length};
+ghost use Rattle.miette_highlight.specs.rules.Patterns.{is_among, is_word_byte, word_end};
+
+/// Whether a byte belongs to a word.
+pub(crate) fn is_word_byte(byte: u8) -> bool
+    ensures { result ≡ is_word_byte byte }
+{
+    byte.is_ascii_alphanumeric() || byte == b'_' || 128 <= byte
+}
+
+/// How many bytes the word has that a text begins with.
+pub(crate) fn word_end(text: &[u8]) -> usize
+    ensures end { result ≡ word_end 0 text.now }
+    ensures within { result ≤ length text.now }
+{
+    let mut at = 0;
+    let mut rest = text;
+    while let Some((byte, tail)) = rest.split_first() {
+        if !is_word_byte(*byte) {
+            return at;
+        }
+        rest = tail;
+        at += 1;
+    }
+    at
+}
+
+/// Whether a word is one of these.
+pub(crate) fn is_among(words: &[String], word: &[u8]) -> bool
+    ensures { result ≡ is_among words.now word.now }
+{
+    let mut rest = words;
+    while let Some((first, tail)) = rest.split_first() {
+        if first.as_bytes() == word {
+            return true;
+        }
+        rest = tail;
+    }
+    false
+}
