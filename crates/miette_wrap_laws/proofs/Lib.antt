@@ -8,3 +8,4 @@ pub mod Printing
 pub mod Cuts
 pub mod Encoding
 pub mod FilledColours
+pub mod KeptTokens

@@ -1,5 +1,5 @@
 -- What is wrapped stays tame.
-use Rattle.std.proofs.Common.{◌≡◌, ℕ, ◌+◌, Bool, true, false, ◌&&◌, ◌||◌, List, [], ◌∷◌, ◌++◌, map}
+use Rattle.std.proofs.Common.{◌≡◌, ℕ, Bool, true, false, ◌&&◌, ◌||◌, List, [], ◌∷◌, ◌++◌, map}
 use Rattle.std.proofs.Common.{flat_map, refl, sym, ap, ◌∙◌, subst, arith, eqb-true, append_assoc, append-nil}
 use Rattle.std.proofs.Common.{if◌then◌else◌, ◌⊎◌, inl, inr}
 use Rattle.std.proofs.lemmas.Bool.Decides.{nat_tests}
@@ -12,7 +12,7 @@ use Rattle.miette_runs.specs.rules.Colours.{is_colour, is_link}
 use Rattle.miette_basics.specs.rules.Lists.{is_nil}
 use Rattle.miette_wrap_rules.specs.rules.Wrapping.{TextLine, Word, Cuts, Plan, on_first, with_tag, with_code}
 use Rattle.miette_wrap_rules.specs.rules.Wrapping.{no_characters}
-use Rattle.miette_wrap_rules.specs.rules.Wrapping.{text_lines, cell_tokens, columns, is_space, words, pieces}
+use Rattle.miette_wrap_rules.specs.rules.Wrapping.{text_lines, cell_tokens, columns, is_space}
 use Rattle.miette_wrap_rules.specs.rules.Wrapping.{first_room, further_room, cuts_of}
 use Rattle.miette_wrap_rules.specs.rules.Wrapping.{cut_words, word_cells, rows_after, rows, only_spaces}
 use Rattle.miette_wrap_rules.specs.rules.Wrapping.{trimmed_row, row_tokens, with_rest, text_line_rows, text_rows}

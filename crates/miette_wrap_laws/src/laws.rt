@@ -1,14 +1,16 @@
 //! Laws of the definitions: deleting colours commutes with wrapping, with joining, with cutting line feeds and
-//! with what runs print.
+//! with what runs print; and what wrapping keeps.
 
-ghost use Rattle.std.specs.Prelude.{◌≡◌, ℕ, List, ◌++◌, map, encode_utf8_all};
+ghost use Rattle.std.specs.Prelude.{◌≡◌, ℕ, List, [], ◌++◌, flat_map, map, encode_utf8_all};
 ghost use Rattle.miette_runs.specs.rules.Cutting.{without_leading, without_trailing};
 ghost use Rattle.miette_runs.specs.rules.Runs.{HaveNoEscape, Fragment, made_plain, print};
 ghost use Rattle.miette_runs.specs.rules.Sequences.{Token, erase, tokens};
 ghost use Rattle.miette_wrap_rules.specs.rules.ColouredTexts.{AreColoured, plain_plan};
 ghost use Rattle.miette_wrap_rules.specs.laws.FilledRows.{IsFilled, IsTrimmed, all_words};
 ghost use Rattle.miette_wrap_rules.specs.laws.Tame.{AllTame, IsTame};
-ghost use Rattle.miette_wrap_rules.specs.rules.Wrapping.{Plan, Word, rows, trimmed_row, wrapped_text};
+ghost use Rattle.miette_wrap_rules.specs.rules.Wrapping.{Cuts, Plan, Word, rows, text_lines, text_rows, trimmed_row};
+ghost use Rattle.miette_wrap_rules.specs.rules.Wrapping.{wrapped_text, wrapped_tokens};
+ghost use Rattle.miette_wrap_laws.specs.laws.Kept.{solid};
 ghost use Rattle.miette_runs.specs.rules.Cells.{columns_of};
 
 /// Wrapping tame parts gives a tame text, and colours can be deleted before or after.
@@ -64,4 +66,13 @@ pub fn rows_law()
         found ≡ rows room further (all_words found) }
     ensures spaces { (row : List Token) → IsTrimmed row (trimmed_row row) }
     ensures only_spaces { (row found : List Token) → IsTrimmed row found → found ≡ trimmed_row row }
+{}
+
+/// Nothing but spaces and line feeds is lost or comes again, and all else stays in order, sequences too: in the rows of
+/// a text, and in the text that is wrapped, or indented, without indents.
+pub fn keeping_law()
+    ensures rows { (c : Cuts) (room further : ℕ) (text : List Token) →
+        solid (flat_map (λ row. row) (text_rows c room further (text_lines text))) ≡ solid text }
+    ensures text { (p : Plan (List Token)) (text : List Token) → p.first ≡ [] → p.further ≡ [] →
+        solid (wrapped_tokens p text) ≡ solid text }
 {}

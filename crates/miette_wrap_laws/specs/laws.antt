@@ -1,0 +1,2 @@
+-- What holds of the rules.
+pub mod Kept
