@@ -8,14 +8,15 @@ use Rattle.miette_basics.specs.rules.Lists.{is_nil}
 use Rattle.miette_runs.specs.rules.Cells.{Cell}
 use Rattle.miette_runs.specs.rules.Sequences.{Token, Character, Sequence, is_line_feed}
 use Rattle.miette_wrap_rules.specs.laws.FilledRows.{all_words}
-use Rattle.miette_wrap_rules.specs.rules.Wrapping.{Cuts, Plan, TextLine, Word, all_white, cell_tokens, columns, cut_words}
+use Rattle.miette_wrap_rules.specs.rules.Wrapping.{Cuts, Plan, TextLine, Word, all_white, cell_tokens, cut_words}
 use Rattle.miette_wrap_rules.specs.rules.Wrapping.{cuts_of, first_room, further_room, indented_row, is_space, joined_rows}
 use Rattle.miette_wrap_rules.specs.rules.Wrapping.{last_indented, line_feed, no_characters, on_first, only_spaces}
-use Rattle.miette_wrap_rules.specs.rules.Wrapping.{row_tokens, rows, rows_after, text_line_rows, text_line_tokens}
+use Rattle.miette_wrap_rules.specs.rules.Wrapping.{row_tokens, rows, text_line_rows, text_line_tokens}
 use Rattle.miette_wrap_rules.specs.rules.Wrapping.{text_lines, text_rows, trimmed_row, whole_lines, with_code, with_rest}
-use Rattle.miette_wrap_rules.specs.rules.Wrapping.{with_tag, word_cells, wrapped_tokens}
-use Rattle.miette_wrap_rules.proofs.KeptCells.{cut_words-flat, onto_some}
+use Rattle.miette_wrap_rules.specs.rules.Wrapping.{with_tag, wrapped_tokens}
+use Rattle.miette_wrap_rules.proofs.KeptCells.{cut_words-flat}
 use Rattle.miette_wrap_laws.proofs.RowEnds.{rows-hold}
+use Rattle.miette_wrap_laws.proofs.TameResults.{raw, raw-append, rows_some}
 use Rattle.miette_wrap_laws.specs.laws.Kept.{solid}
 
 abbrev whole : List (List Token) → List Token
@@ -99,14 +100,6 @@ trimmed_solid (Character c ∷ ts) =
     (λ f. let stays : trimmed_row (Character c ∷ ts) ≡ Character c ∷ trimmed_row ts = rw f refl in
     ap solid stays ∙ one_solid (Character c) (trimmed_row ts) ts (trimmed_solid ts))
 
--- what words have before the last spaces of rows are dropped
-abbrev raw : List Word → List Token
-raw ws = flat_map cell_tokens (flat_map word_cells ws)
-
-raw-append : (us vs : List Word) → raw (us ++ vs) ≡ raw us ++ raw vs
-raw-append us vs = ap (flat_map cell_tokens) (flat_map-append word_cells us vs)
-    ∙ flat_map-append cell_tokens (flat_map word_cells us) (flat_map word_cells vs)
-
 words_solid : (rs : List (List Word)) → solid (whole (map row_tokens rs)) ≡ solid (raw (all_words rs))
 words_solid [] = refl
 words_solid (r ∷ rs) =
@@ -121,10 +114,6 @@ rest_last rest (r ∷ []) h =
     append-nil (r ++ map Sequence rest) ∙ ap (λ x. x ++ map Sequence rest) (sym (append-nil r))
 rest_last rest (r ∷ s ∷ ss) h =
     ap (λ x. r ++ x) (rest_last rest (s ∷ ss) refl) ∙ sym (append_assoc r (whole (s ∷ ss)) (map Sequence rest))
-
-rows_some : (room further : ℕ) (ws : List Word) → is_nil (rows room further ws) ≡ false
-rows_some room further [] = refl
-rows_some room further (w ∷ ws) = onto_some w (rows_after (columns (word_cells w)) room further ws)
 
 map_some : (rs : List (List Word)) → is_nil rs ≡ false → is_nil (map row_tokens rs) ≡ false
 map_some [] h = h

@@ -335,15 +335,15 @@ pieces-pass s (Character c ∷ ts) h =
           (pieces-pass (step s (Character c)) ts h)
     ] refl
 
-rows_some : (room further : ℕ) (ws : List Word) → is_nil (rows room further ws) ≡ false
+pub rows_some : (room further : ℕ) (ws : List Word) → is_nil (rows room further ws) ≡ false
 rows_some room further [] = refl
 rows_some room further (w ∷ ws) = onto_some w (rows_after (columns (word_cells w)) room further ws)
 
 -- what a row's words are before the last spaces are dropped
-abbrev raw : List Word → List Token
+abbrev pub raw : List Word → List Token
 raw ws = flat_map cell_tokens (flat_map word_cells ws)
 
-raw-append : (us vs : List Word) → raw (us ++ vs) ≡ raw us ++ raw vs
+pub raw-append : (us vs : List Word) → raw (us ++ vs) ≡ raw us ++ raw vs
 raw-append us vs = ap (flat_map cell_tokens) (flat_map-append word_cells us vs)
     ∙ flat_map-append cell_tokens (flat_map word_cells us) (flat_map word_cells vs)
 
