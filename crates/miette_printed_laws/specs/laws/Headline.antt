@@ -7,7 +7,7 @@ use Rattle.miette_source_lines.specs.rules.Lines.{Line, lines_of}
 use Rattle.miette_protocol.specs.views.Meaning.{Label}
 use Rattle.miette_protocol.specs.rules.Reading.{Source, Span}
 use Rattle.miette_label_rules.specs.rules.Answers.{Highlight}
-use Rattle.miette_label_rules.specs.rules.Around.{HaveContext}
+use Rattle.miette_label_rules.specs.rules.Around.{HaveContext, lines_around}
 use Rattle.miette_label_rules.specs.rules.Contexts.{contents, lines_of_contents}
 use Rattle.miette_snippet_rules.specs.rules.Folds.{Spread}
 use Rattle.miette_snippet_rules.specs.rules.Settings as snippets
@@ -27,7 +27,7 @@ use Rattle.miette_snippet_rules.specs.rules.Marks.{Mark, marks_at, AreApart}
 use Rattle.miette_snippet_rules.specs.rules.PrintedCells.{cells_width}
 use Rattle.miette_snippet_rules.specs.rules.Numbers.{ranges, IsRange, AreParted}
 use Rattle.miette_row_laws.specs.laws.Ends.{AreAfterShown, EndsStandAfter, asks_ends, draws_ends, with_ends}
-use Rattle.miette_range_laws.specs.laws.Folding.{EndsPass, FitsIn, IsInside}
+use Rattle.miette_range_laws.specs.laws.Folding.{EndsPass, FitsIn, IsFarInside, IsInside}
 use Rattle.miette_row_laws.specs.laws.Pictures.{BodyShows, marks_of_line, text_of_line}
 use Rattle.miette_snippet_rules.specs.rules.ShownLines.{framed_ranges, line_at}
 use Rattle.miette_snippet_rules.specs.rules.Snippets.{is_shown, shown_numbers, snippets, is_kept, is_left_out}
@@ -136,7 +136,8 @@ labels_through s source labels k = multi_line (line_at (lines_of source.bytes) k
 
 -- A frame begins and ends with a line that is kept. No label begins or ends on a line that is left out, and the same
 -- labels lie on two such lines that follow each other; so the row of a break has a bar for just the labels that run
--- through all lines that it stands for. No line is left out alone. Where no label has more lines than labels are folded
+-- through all lines that it stands for. No line is left out alone, and none that lies in a label's context as near to
+-- its first or last line as the lines that are shown around these. Where no label has more lines than labels are folded
 -- to, the rows are those without folding.
 pub record FoldsTo (limit : ℕ) (s : Settings) (source : Source) (labels : List Label) : Type 0 where
   pub ends : AllByRecursion (EndsPass (is_kept_at limit s source labels)) (ranges (shown_lines s source labels))
@@ -147,6 +148,8 @@ pub record FoldsTo (limit : ℕ) (s : Settings) (source : Source) (labels : List
       labels_through s source labels k ≡ labels_through s source labels (k + 1)
   pub pairs : (k : ℕ) → is_left_out_at limit s source labels k ≡ true →
       (is_left_out_at limit s source labels (k - 1) || is_left_out_at limit s source labels (k + 1)) ≡ true
+  pub near : (k : ℕ) → is_left_out_at limit s source labels k ≡ true → AllByRecursion
+      (λ label. IsFarInside (lines_around (context_of s source labels) labels label) source.bytes k label.span) labels
   pub short : AllByRecursion (FitsIn limit source.bytes) labels → (pieces : List (List (List Highlight))) →
       source_rows s (Some source) labels (pieces_listed pieces)
       ≡ source_rows (record s { layout = record s.layout { label_lines = None } }) (Some source) labels

@@ -180,6 +180,7 @@ returns-clause-folds c = λ s t. everywhere LabelsAreFolded (λ s p.
       same = λ k. c.left_out_lines_are_inside.ensures.same _ _ limit (context_of s source labels) source.bytes labels k
           context;
       pairs = c.left_out_lines_are_inside.ensures.pairs limit (context_of s source labels) source.bytes labels;
+      near = c.left_out_lines_are_inside.ensures.near limit (context_of s source labels) source.bytes labels;
       short = λ fit pieces. short_rows limit s source labels (pieces_listed pieces) is
           (c.short_labels_stay.ensures (label_settings s source labels) limit source labels (pieces_listed pieces)
           context accepted
