@@ -1,6 +1,6 @@
 -- What is known of each fix that can be applied, and of each that can't, is told of each fix; also of equal ones.
 use Rattle.std.proofs.Common.{◌≡◌, ◌⊎◌, ℕ, Bool, true, false, List, [], ◌∷◌, ◌++◌, Option, Some, None, map, refl}
-use Rattle.std.proofs.Common.{sym, subst}
+use Rattle.std.proofs.Common.{ap, sym, subst}
 use Rattle.std.proofs.Common.{inl, inr, length}
 use Rattle.std.specs.Prelude.{IfSome, MatchOption, bytes_eq, if◌then◌else◌, is_none, slice_range, ◌&&◌}
 use Rattle.std.specs.List.{AllByRecursion, list_all, list_any}
@@ -20,6 +20,7 @@ use Rattle.miette_sarif.specs.rules.Proposals.{Joined, joined, joined_from, late
 use Rattle.miette_sarif.specs.rules.Proposals.{proposal_in, proposal_over, proposals, proposed, refused, refused_fix}
 use Rattle.miette_sarif.specs.rules.Proposals.{replaced, replacements, text_between, widened}
 use Rattle.miette_sarif.specs.rules.Results.{first_values, one_first}
+use Rattle.miette_log_laws.specs.laws.Told.{CannotBeApplied}
 use Rattle.miette_log_laws.specs.laws.Values.{IsPart}
 use Rattle.miette_log_laws.proofs.Lists.{all_append, all_split}
 use Rattle.miette_log_laws.proofs.Parts.{part_left, part_right, part_self}
@@ -111,43 +112,54 @@ edits_told Q down bytes es h = order_told Q es (all_joined Q down bytes (by_offs
 abbrev pub Proposes : (List ℕ → Type 0) → (List ℕ → Type 0) → (SourceName → Type 0) → Proposed → Type 0
 Proposes M Q N it = M it.message × AllByRecursion (λ (r : Replaced). Q r.text) it.replacements × N it.source
 
--- of a message, of the texts of edits, and of the source; else of the message alone
+-- of a message, of the texts of edits, and of the source; else of the message alone, of a fix that can't be applied
+abbrev TellsIn : (List ℕ → Type 0) → (List ℕ → Type 0) → (SourceName → Type 0) → (List ℕ → Type 0) → SourceName
+    → Option (List ℕ) → Proposal → Type 0
+TellsIn M Q N U source text fix = (M fix.message × AllByRecursion (λ (e : Replacement). Q e.text) fix.edits × N source)
+    ⊎ (U fix.message × IfSome text (λ bytes. CannotBeApplied bytes fix))
+
+-- over a source, or over none, where it is the message alone
 abbrev pub TellsBy : (List ℕ → Type 0) → (List ℕ → Type 0) → (SourceName → Type 0) → (List ℕ → Type 0)
     → Option SeenSource → Proposal → Type 0
-TellsBy M Q N U over fix =
-    (M fix.message × AllByRecursion (λ (e : Replacement). Q e.text) fix.edits × IfSome over (λ it. N it.source))
-    ⊎ U fix.message
+TellsBy M Q N U None fix = U fix.message
+TellsBy M Q N U (Some it) fix = TellsIn M Q N U it.source it.text fix
+
+no_edits : (edits : List Replacement) → is_nil edits ≡ true → edits ≡ []
+no_edits [] e = refl
+no_edits (edit ∷ edits) e = absurd (cc)
 
 module _ (M Q : List ℕ → Type 0) (N : SourceName → Type 0) (U : List ℕ → Type 0)
     (down : (part whole : List ℕ) → IsPart part whole → Q whole → Q part) where
-  fix_with_edits : (it : SeenSource) (fix : Proposal) (bytes : List ℕ) (b : Bool)
+  fix_with_edits : (source : SourceName) (fix : Proposal) (bytes : List ℕ) (b : Bool) → is_nil fix.edits ≡ b
       → MatchOption (if b then None else Some (record {
         message = fix.message;
         applicability = fix.applicability;
-        source = it.source;
+        source = source;
         replacements = replacements bytes fix.edits;
-      })) (U fix.message) (Proposes M Q N) → TellsBy M Q N U (Some it) fix
-  fix_with_edits it fix bytes true h = inr h
-  fix_with_edits it fix bytes false h = inl (h.0, edits_told Q down bytes fix.edits h.1, h.2)
+      })) (U fix.message) (Proposes M Q N) → TellsIn M Q N U source (Some bytes) fix
+  fix_with_edits source fix bytes true e h = inr (h, inl (no_edits fix.edits e))
+  fix_with_edits source fix bytes false e h = inl (h.0, edits_told Q down bytes fix.edits h.1, h.2)
 
-  fix_applied : (it : SeenSource) (fix : Proposal) (bytes : List ℕ) (b : Bool)
-      → MatchOption (proposed it.source fix (if b then Some (replacements bytes fix.edits) else None)) (U fix.message)
-      (Proposes M Q N) → TellsBy M Q N U (Some it) fix
-  fix_applied it fix bytes true h = fix_with_edits it fix bytes (is_nil fix.edits) h
-  fix_applied it fix bytes false h = inr h
+  fix_applied : (source : SourceName) (fix : Proposal) (bytes : List ℕ) (b : Bool)
+      → (is_none (refusal (length bytes) fix.edits)
+      && list_all (λ (r : Replaced). is_utf8 r.text) (replacements bytes fix.edits)) ≡ b
+      → MatchOption (proposed source fix (if b then Some (replacements bytes fix.edits) else None)) (U fix.message)
+      (Proposes M Q N) → TellsIn M Q N U source (Some bytes) fix
+  fix_applied source fix bytes true e h = fix_with_edits source fix bytes (is_nil fix.edits) refl h
+  fix_applied source fix bytes false e h =
+      inr (h, inr (ap (λ (b : Bool). if b then Some (replacements bytes fix.edits) else None) e))
 
-  fix_in : (it : SeenSource) (source : Option (List ℕ)) (fix : Proposal)
-      → MatchOption (proposal_in it.source source fix) (U fix.message) (Proposes M Q N)
-      → TellsBy M Q N U (Some it) fix
-  fix_in it None fix h = inr h
-  fix_in it (Some bytes) fix h =
-      fix_applied it fix bytes (is_none (refusal (length bytes) fix.edits)
-      && list_all (λ (r : Replaced). is_utf8 r.text) (replacements bytes fix.edits)) h
+  fix_in : (source : SourceName) (text : Option (List ℕ)) (fix : Proposal)
+      → MatchOption (proposal_in source text fix) (U fix.message) (Proposes M Q N) → TellsIn M Q N U source text fix
+  fix_in source None fix h = inr (h, tt)
+  fix_in source (Some bytes) fix h =
+      fix_applied source fix bytes (is_none (refusal (length bytes) fix.edits)
+      && list_all (λ (r : Replaced). is_utf8 r.text) (replacements bytes fix.edits)) refl h
 
   fix_over : (over : Option SeenSource) (fix : Proposal)
       → MatchOption (proposal_over over fix) (U fix.message) (Proposes M Q N) → TellsBy M Q N U over fix
-  fix_over None fix h = inr h
-  fix_over (Some it) fix h = fix_in it it.text fix h
+  fix_over None fix h = h
+  fix_over (Some it) fix h = fix_in it.source it.text fix h
 
   one_told : (o : Option Proposed) (message : List ℕ) (more : List Proposed) (later : List (List ℕ))
       → AllByRecursion (Proposes M Q N) (listed_fix o more) → AllByRecursion U (refused_fix o message later)

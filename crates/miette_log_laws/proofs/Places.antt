@@ -25,7 +25,8 @@ use Rattle.miette_tree.specs.rules.Diagnosis.{Diagnosis, Section}
 use Rattle.miette_tree.specs.rules.DiagnosticParts.{given_labels}
 use Rattle.miette_tree.specs.rules.Reads.{MayMeet}
 use Rattle.miette_tree.specs.rules.Tree.{Cause, diagnostic, effective, texts, tree}
-use Rattle.miette_log_laws.specs.laws.Told.{NamesSource, TellsCauses, TellsFix, TellsLabel, TellsPlaces}
+use Rattle.miette_log_laws.specs.laws.Told.{CannotBeApplied, NamesSource, TellsCauses, TellsFix, TellsLabel}
+use Rattle.miette_log_laws.specs.laws.Told.{TellsPlaces}
 use Rattle.miette_log_laws.specs.laws.Values.{IsPart, StandsIn}
 use Rattle.miette_log_laws.proofs.Fixes.{TellsBy, fixes_told}
 use Rattle.miette_log_laws.proofs.Labels.{GroupSays, HoldsOfNone, Says, groups_say, order_says}
@@ -35,17 +36,19 @@ use Rattle.miette_log_laws.proofs.Rows.{FixStands, MarkStands, Names}
 
 -- ---- sources
 
--- a source that always reads is seen with its name
+-- a source that always reads is seen with its name and its text
 abbrev pub IsSeen : Option Source → Option SeenSource → Type 0
 IsSeen None over = Unit {0}
 IsSeen (Some s) over =
     s.always_reads ≡ true → (it : SeenSource) × (over ≡ Some it) × (it.source.name ≡ unwrap_or s.name [])
+    × (it.text ≡ Some s.bytes)
 
 seen_one : (s : Source) (fault : Bool) (n : ℕ) → MayMeet (Some s) fault → IsSeen (Some s) (Some (seen fault n s))
 seen_one s fault n may = λ reads. (
   seen fault n s,
   refl,
   ap (λ (b : Bool). (seen b n s).source.name) (fault_free (Some s) fault may reads),
+  ap (λ (b : Bool). (seen b n s).text) (fault_free (Some s) fault may reads),
 )
 
 pub seen_own : (own inherited : Option Source) (fault : Bool) (n : ℕ) (over : Option SeenSource) → MayMeet own fault
@@ -113,12 +116,23 @@ goes_down v part whole p h =
 abbrev pub RowStands : Json → List ℕ → Type 0
 RowStands v message = StandsIn v (row (codes "fix: ") message)
 
+-- over a source that always reads, what can't be applied to its text
+refused_told : (source : Option Source) (over : Option SeenSource) → IsSeen source over → (fix : Proposal)
+    → IfSome over (λ it. IfSome it.text (λ bytes. CannotBeApplied bytes fix))
+    → IfSome source (λ s. s.always_reads ≡ true → CannotBeApplied s.bytes fix)
+refused_told None over is fix h = tt
+refused_told (Some s) over is fix h = λ reads.
+    let found = is reads in
+    subst (λ (o : Option (List ℕ)). IfSome o (λ bytes. CannotBeApplied bytes fix)) found.3
+    (subst (λ (o : Option SeenSource). IfSome o (λ it. IfSome it.text (λ bytes. CannotBeApplied bytes fix))) found.1 h)
+
 fix_told : (v : Json) (a : Artifacts) (source : Option Source) (over : Option SeenSource) → IsSeen source over
     → (fix : Proposal)
     → TellsBy (λ words. StandsIn v (doubled words)) (StandsIn v) (Names v a) (RowStands v) over fix
     → TellsFix v source fix
-fix_told v a source over is fix (inl h) = inl (h.0, h.1, over_named v a source over is h.2)
-fix_told v a source over is fix (inr h) = inr h
+fix_told v a source None is fix h = inr (h, refused_told source None is fix tt)
+fix_told v a source (Some it) is fix (inl h) = inl (h.0, h.1, over_named v a source (Some it) is h.2)
+fix_told v a source (Some it) is fix (inr h) = inr (h.0, refused_told source (Some it) is fix h.1)
 
 all_fixes_told : (v : Json) (a : Artifacts) (source : Option Source) (over : Option SeenSource) → IsSeen source over
     → (fixes : List Proposal) → AllByRecursion (FixStands v a) (proposals over fixes)

@@ -9,6 +9,7 @@ use Rattle.miette_protocol.specs.views.Meaning.{Label}
 use Rattle.miette_sarif.specs.rules.Codes.{rule_value}
 use Rattle.miette_sarif.specs.rules.Gathered.{level}
 use Rattle.miette_sarif.specs.rules.Messages.{doubled, row}
+use Rattle.miette_sarif.specs.rules.Proposals.{applicable}
 use Rattle.miette_sarif.specs.rules.Uris.{address_uri, name_uri}
 use Rattle.miette_tree.specs.rules.Diagnosis.{Diagnosis}
 use Rattle.miette_tree.specs.rules.DiagnosticParts.{given_labels}
@@ -64,11 +65,17 @@ abbrev pub TellsLabel : Json → Option Source → Label → Type 0
 TellsLabel result over label =
     IfSome label.text (λ words. StandsIn result (doubled words)) × NamesSource result over
 
--- of a fix: its message, the texts of its edits and the source; or, where it can't be applied, a row with its message
+-- a fix without edits, or whose edits can't be applied to these bytes so that text is left
+abbrev pub CannotBeApplied : List ℕ → Proposal → Type 0
+CannotBeApplied bytes fix = (fix.edits ≡ []) ⊎ (applicable bytes fix.edits ≡ None)
+
+-- Of a fix: its message, the texts of its edits and the source; or a row with its message, but over a source that always
+-- reads only of a fix that can't be applied.
 abbrev pub TellsFix : Json → Option Source → Proposal → Type 0
 TellsFix result over fix =
     (StandsIn result (doubled fix.message) × AllByRecursion (λ edit. StandsIn result edit.text) fix.edits
-    × NamesSource result over) ⊎ StandsIn result (row (codes "fix: ") fix.message)
+    × NamesSource result over) ⊎ (StandsIn result (row (codes "fix: ") fix.message)
+    × IfSome over (λ s. s.always_reads ≡ true → CannotBeApplied s.bytes fix))
 
 -- the labels of a diagnostic over a source and over its further ones, and its fixes
 pub record TellsPlaces (result : Json) (over : Option Source) (m : Diagnosis) : Type 0 where
