@@ -4,8 +4,8 @@ on SARIF logs (`sarif_read/`), and compares it with the model of show_model.py, 
 
 The recorded rows are tried as they are, as cargo wraps them, cut at every 50th byte, with members removed or of other
 types, offsets, lines and columns that are off or after the end, other files, files that are gone or shorter. Where
-rustc, gcc, shellcheck, clang 16 and flawfinder are installed, they are run anew. `--many` reads 100,000 messages, and
-looks at the memory.
+rustc, gcc, shellcheck, clang 16 and flawfinder are installed, they are run anew. Of 100,000 messages it looks at the
+memory.
 The last line is 'N passed, M failed', and the exit status is 0 only where nothing failed."""
 import json
 import os
@@ -340,7 +340,7 @@ def memory_tried(count):
     return [many.status == 1 and many.written == 100 * few.written and many.memory <= few.memory + 500 * kb]
 
 
-def main(words):
+def main():
     with tempfile.TemporaryDirectory() as folder:
         for name in ("mine.rs", "multi.rs", "util.rs"):
             shutil.copy(os.path.join(FOLDER, name), folder)
@@ -361,9 +361,9 @@ def main(words):
             file.write("#!/bin/sh\r\n# 漢字\r\nlist=".encode())
         done += [tried(folder, *it, "shellcheck") for it in shellcheck_cases.inputs(folder)]
     done += words_tried() + handlers_tried() + terminal_tried() + live_tried() + stream_tried()
-    done += memory_tried(100000 if "--many" in words else 10000)
+    done += memory_tried(100000)
     return counted(sum(done), len(done) - sum(done))
 
 
 if __name__ == "__main__":
-    sys.exit(main(sys.argv[1:]))
+    sys.exit(main())
