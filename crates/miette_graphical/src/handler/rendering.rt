@@ -141,8 +141,8 @@ impl<H: Highlighter> GraphicalReportHandler<H> {
         // bars of a break are those of the labels that run through it, and short labels change nothing
         ensures folds { OnOk result (EachPrinted LabelsAreFolded self.old (tree_of D.meaning S.source report.now)) }
         // of each of its fixes that can be applied, over a source that always reads: its rows are the frames of what it
-        // changes, in order, truly numbered, with nothing left out but unchanged lines; the removed and unchanged lines
-        // are exactly the source's, the added and unchanged ones the applied text's
+        // changes, in order, each after the true number of lines, with nothing left out but unchanged lines; the
+        // removed and unchanged lines are exactly the source's, the added and unchanged ones the applied text's
         ensures fixes { OnOk result (AllByRecursion (FixesAreTold self.old.settings)
             (diagnostics_of self.old.settings (tree_of D.meaning S.source report.now))) }
         ensures refused { (result ≡ Err RenderError.Refused) →

@@ -65,12 +65,12 @@ abbrev pub TellsLabel : Json → Option Source → Label → Type 0
 TellsLabel result over label =
     IfSome label.text (λ words. StandsIn result (doubled words)) × NamesSource result over
 
--- a fix without edits, or whose edits can't be applied to these bytes so that text is left
+-- a fix without edits, or whose edits can't be applied to these bytes, or leave there what is no UTF-8
 abbrev pub CannotBeApplied : List ℕ → Proposal → Type 0
 CannotBeApplied bytes fix = (fix.edits ≡ []) ⊎ (applicable bytes fix.edits ≡ None)
 
--- Of a fix: its message, the texts of its edits and the source; or a row with its message, but over a source that always
--- reads only of a fix that can't be applied.
+-- Of a fix: its message, the texts of its edits and the source; or a row with its message, but over a source that
+-- always reads only of a fix that can't be applied.
 abbrev pub TellsFix : Json → Option Source → Proposal → Type 0
 TellsFix result over fix =
     (StandsIn result (doubled fix.message) × AllByRecursion (λ edit. StandsIn result edit.text) fix.edits
