@@ -62,18 +62,23 @@ old_only_kept (l ∷ ls) = ap (λ t. l ∷ t) (old_only_kept ls)
 grouped : (a b c d : List (List ℕ)) → a ++ (b ++ (c ++ d)) ≡ ((a ++ b) ++ c) ++ d
 grouped a b c d = sym (append_assoc (a ++ b) c d ∙ append_assoc a b (c ++ d))
 
-old_with : (after : List (List ℕ)) (hunks : List Hunk) → old_texts (lines_with after hunks)
-    ≡ flat_map (λ (hunk : Hunk). hunk.kept ++ removed_lines hunk.changes) hunks ++ after
-old_with after [] = old_only_kept after
-old_with after (h ∷ hunks) =
-    let more : List (List ℕ) = flat_map (λ (hunk : Hunk). hunk.kept ++ removed_lines hunk.changes) hunks in
-    old_kept h.kept (changed_lines h.changes ++ lines_with after hunks)
-    ∙ ap (λ t. h.kept ++ t) (old_changed h.changes (lines_with after hunks))
-    ∙ ap (λ t. h.kept ++ (removed_lines h.changes ++ t)) (old_with after hunks)
-    ∙ grouped h.kept (removed_lines h.changes) more after
+-- those of hunks, of which each kept line is one, and of changed lines these
+texts_with : (texts : List DiffLine → List (List ℕ)) (changed : List Change → List (List ℕ))
+    → ((ls : List (List ℕ)) → texts (kept_lines ls) ≡ ls)
+    → ((ls : List (List ℕ)) (x : List DiffLine) → texts (kept_lines ls ++ x) ≡ ls ++ texts x)
+    → ((cs : List Change) (x : List DiffLine) → texts (changed_lines cs ++ x) ≡ changed cs ++ texts x)
+    → (after : List (List ℕ)) (hunks : List Hunk) → texts (lines_with after hunks)
+    ≡ flat_map (λ (hunk : Hunk). hunk.kept ++ changed hunk.changes) hunks ++ after
+texts_with texts changed only kept changes after [] = only after
+texts_with texts changed only kept changes after (h ∷ hunks) =
+    let more : List (List ℕ) = flat_map (λ (hunk : Hunk). hunk.kept ++ changed hunk.changes) hunks in
+    kept h.kept (changed_lines h.changes ++ lines_with after hunks)
+    ∙ ap (λ t. h.kept ++ t) (changes h.changes (lines_with after hunks))
+    ∙ ap (λ t. h.kept ++ (changed h.changes ++ t)) (texts_with texts changed only kept changes after hunks)
+    ∙ grouped h.kept (changed h.changes) more after
 
 pub old_lines : (diff : Diff) → old_texts (all_lines diff) ≡ lines_before diff
-old_lines diff = old_with diff.after_hunks diff.hunks
+old_lines diff = texts_with old_texts removed_lines old_only_kept old_kept old_changed diff.after_hunks diff.hunks
 
 -- ---- the lines after them
 
@@ -120,18 +125,8 @@ new_only_kept : (ls : List (List ℕ)) → new_texts (kept_lines ls) ≡ ls
 new_only_kept [] = refl
 new_only_kept (l ∷ ls) = ap (λ t. l ∷ t) (new_only_kept ls)
 
-new_with : (after : List (List ℕ)) (hunks : List Hunk) → new_texts (lines_with after hunks)
-    ≡ flat_map (λ (hunk : Hunk). hunk.kept ++ added_lines hunk.changes) hunks ++ after
-new_with after [] = new_only_kept after
-new_with after (h ∷ hunks) =
-    let more : List (List ℕ) = flat_map (λ (hunk : Hunk). hunk.kept ++ added_lines hunk.changes) hunks in
-    new_kept h.kept (changed_lines h.changes ++ lines_with after hunks)
-    ∙ ap (λ t. h.kept ++ t) (new_changed h.changes (lines_with after hunks))
-    ∙ ap (λ t. h.kept ++ (added_lines h.changes ++ t)) (new_with after hunks)
-    ∙ grouped h.kept (added_lines h.changes) more after
-
 pub new_lines : (diff : Diff) → new_texts (all_lines diff) ≡ lines_after diff
-new_lines diff = new_with diff.after_hunks diff.hunks
+new_lines diff = texts_with new_texts added_lines new_only_kept new_kept new_changed diff.after_hunks diff.hunks
 
 -- ---- frames
 
@@ -274,5 +269,5 @@ stand_from context after at (hunk ∷ hunks) =
       subst (λ s. StandAmong true s frames h.0) (sym (past_frame at hunk n shown)) h.2,
     )
 
-pub frames_stand : (context : ℕ) (diff : Diff) → StandAmong false at_start (frames_of context diff) (all_lines diff)
-frames_stand context diff = stand_from context diff.after_hunks at_start diff.hunks
+pub stand : (context : ℕ) (diff : Diff) → StandAmong false at_start (frames_of context diff) (all_lines diff)
+stand context diff = stand_from context diff.after_hunks at_start diff.hunks

@@ -40,7 +40,7 @@ pub fn a_diff_has_the_applied_text()
 /// The frames that are shown stand among all lines of a diff, in order and none twice (`frames`): nothing but unchanged
 /// lines is left out, and some between two frames; what a frame is numbered by is what stands before it. Those before
 /// the edits, of all lines, and those after them are the diff's (`before`, `after`).
-#[tactic(auto, using(crate::proofs::Frames::frames_stand, crate::proofs::Frames::old_lines, crate::proofs::Frames::new_lines))]
+#[tactic(auto, using(crate::proofs::Frames::stand, crate::proofs::Frames::old_lines, crate::proofs::Frames::new_lines))]
 pub fn frames_stand_in_a_diff()
     ensures frames { (context : ℕ) → (d : Diff) →
         StandAmong false at_start (frames_of context d) (all_lines d) }

@@ -29,8 +29,8 @@ far_inside limit c bytes span k off = λ t.
     let before : c < last - k = ltb-true c (last - k) both.1 in (omega (arith, after), omega (arith, before))
 
 each_far : (limit context : ℕ) (bytes : List ℕ) (all labels : List Label) (k : ℕ)
-    → list_any (λ label. N.is_in_folded_context limit (lines_around context all label) bytes k label.span) labels ≡ false
-    → AllByRecursion (λ label. IsFarInside (lines_around context all label) bytes k label.span) labels
+    → list_any (λ label. N.is_in_folded_context limit (lines_around context all label) bytes k label.span) labels
+    ≡ false → AllByRecursion (λ label. IsFarInside (lines_around context all label) bytes k label.span) labels
 each_far limit context bytes all [] k off = tt
 each_far limit context bytes all (label ∷ labels) k off =
     let both = or_parts (N.is_in_folded_context limit (lines_around context all label) bytes k label.span)

@@ -1,6 +1,6 @@
 -- Wrapping keeps all but spaces and line feeds, in order.
-use Rattle.std.proofs.Common.{◌≡◌, ℕ, Bool, true, false, cond, ◌&&◌, ◌||◌, List, [], ◌∷◌, ◌++◌, map, flat_map, refl, sym}
-use Rattle.std.proofs.Common.{ap, ap₂, ◌∙◌, append_assoc, append-nil}
+use Rattle.std.proofs.Common.{◌≡◌, ℕ, Bool, true, false, cond, ◌&&◌, ◌||◌, List, [], ◌∷◌, ◌++◌, map, flat_map, refl}
+use Rattle.std.proofs.Common.{sym, ap, ap₂, ◌∙◌, append_assoc, append-nil}
 use Rattle.std.proofs.lemmas.Bool.{and_parts, or_left, or_right}
 use Rattle.std.proofs.lemmas.List.Concat.{flat_map-append}
 use Rattle.miette_basics.proofs.Cases.{by_cases}
@@ -9,11 +9,11 @@ use Rattle.miette_runs.specs.rules.Cells.{Cell}
 use Rattle.miette_runs.specs.rules.Sequences.{Token, Character, Sequence, is_line_feed}
 use Rattle.miette_wrap_rules.specs.laws.FilledRows.{all_words}
 use Rattle.miette_wrap_rules.specs.rules.Wrapping.{Cuts, Plan, TextLine, Word, all_white, cell_tokens, cut_words}
-use Rattle.miette_wrap_rules.specs.rules.Wrapping.{cuts_of, first_room, further_room, indented_row, is_space, joined_rows}
-use Rattle.miette_wrap_rules.specs.rules.Wrapping.{last_indented, line_feed, no_characters, on_first, only_spaces}
-use Rattle.miette_wrap_rules.specs.rules.Wrapping.{row_tokens, rows, text_line_rows, text_line_tokens}
-use Rattle.miette_wrap_rules.specs.rules.Wrapping.{text_lines, text_rows, trimmed_row, whole_lines, with_code, with_rest}
-use Rattle.miette_wrap_rules.specs.rules.Wrapping.{with_tag, wrapped_tokens}
+use Rattle.miette_wrap_rules.specs.rules.Wrapping.{cuts_of, first_room, further_room, indented_row, is_space}
+use Rattle.miette_wrap_rules.specs.rules.Wrapping.{joined_rows, last_indented, line_feed, no_characters, on_first}
+use Rattle.miette_wrap_rules.specs.rules.Wrapping.{only_spaces, row_tokens, rows, text_line_rows, text_line_tokens}
+use Rattle.miette_wrap_rules.specs.rules.Wrapping.{text_lines, text_rows, trimmed_row, whole_lines, with_code}
+use Rattle.miette_wrap_rules.specs.rules.Wrapping.{with_rest, with_tag, wrapped_tokens}
 use Rattle.miette_wrap_rules.proofs.KeptCells.{cut_words-flat}
 use Rattle.miette_wrap_laws.proofs.RowEnds.{rows-hold}
 use Rattle.miette_wrap_laws.proofs.TameResults.{raw, raw-append, rows_some}
@@ -170,7 +170,8 @@ whole_solid (p ∷ q ∷ qs) =
 bare_solid : (wraps : Bool) (c : Cuts) (room further : ℕ) (ts : List Token)
     → solid (cond wraps (joined_rows [] [] (text_rows c room further (text_lines ts)))
     (whole_lines [] [] (text_lines ts))) ≡ solid ts
-bare_solid true c room further ts = joined_solid (text_rows c room further (text_lines ts)) ∙ rows_kept c room further ts
+bare_solid true c room further ts =
+    joined_solid (text_rows c room further (text_lines ts)) ∙ rows_kept c room further ts
 bare_solid false c room further ts = whole_solid (text_lines ts) ∙ lines_solid ts
 
 pub text_kept : (p : Plan (List Token)) (ts : List Token) → p.first ≡ [] → p.further ≡ []
