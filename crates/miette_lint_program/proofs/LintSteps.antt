@@ -8,7 +8,8 @@ use Rattle.miette_protocol.specs.views.Meaning.{Label}
 use Rattle.miette_lint.specs.rules.Findings.{findings_of}
 use Rattle.miette_lint_program.specs.views.LintReports.{CallIsClean, CallLints, CallLintsText, IsClean, IsLinted}
 use Rattle.miette_lint_program.specs.views.LintReports.{IsShown, Lints, LintsText}
-use Rattle.miette_lint_program.specs.rules.Words.{AreLintWords, AreNamedWords, AskFor, IsNoLintCall, form_named}
+use Rattle.miette_lint_program.specs.rules.Words.{AreLintWords, AreNamedWords, AskFor, IsNoLintCall, IsNoNamedCall}
+use Rattle.miette_lint_program.specs.rules.Words.{form_named}
 use Rattle.miette_devices.specs.rules.Words.{IsReadAs}
 use Rattle.miette_devices.specs.views.Endings.{IsFound}
 use Rattle.miette_devices.specs.declared.fault.Fault.{Fault}
@@ -104,6 +105,12 @@ named_words words key first name width (Some it) h are is = record {
   are = are ∙ ap (λ f. f ∷ name ∷ width ∷ []) is ∙ ap (λ n. key ∷ n ∷ width ∷ []) (sym h.1);
   width_is = h.2;
 }
+
+-- three words, the first of which is another one
+pub other_words : (words : List (List ℕ)) (key first name width : List ℕ) → words ≡ first ∷ name ∷ width ∷ []
+    → (first ≡ key → ⊥) → IsNoNamedCall key words
+other_words words key first name width are other n m h =
+    other (ap (λ (l : List (List ℕ)). get_or l 0 []) (sym are ∙ h.are))
 
 -- fewer or more
 pub no_others : (words : List (List ℕ)) → (length words ≡ 2 → ⊥) → (length words ≡ 3 → ⊥) → IsNoLintCall words

@@ -14,7 +14,7 @@ ghost use Rattle.miette_outputs.specs.rules.Pictures.{over_input};
 ghost use Rattle.miette_devices.specs.views.Endings.{IsFailure, IsFound};
 ghost use Rattle.miette_lint_program.specs.views.LintReports.{warning, IsClean, IsDiffed, LintDiffs, LintDiffsText};
 
-use crate::lint::{LintForm, LintWords, diagnostic, is_clean};
+use crate::lint::{LintWords, diagnostic, is_clean};
 use miette::error::RenderError;
 use miette::protocol::{Diagnostic, LabeledSpan};
 use miette::report::Report;
@@ -34,12 +34,7 @@ pub fn diffing(words: &[String]) -> Option<LintWords<'_>>
     ensures some { IfSome result (λ it. AreDiffWords (map string_bytes words.now) it.name.now it.width) }
     ensures none { IsNone result → IsNoDiffCall (map string_bytes words.now) }
 {
-    match words {
-        [word, name, width] if word.as_str() == "--diff" => {
-            LintWords::with_name(LintForm::Picture, name.as_str(), width.as_str())
-        }
-        _ => None,
-    }
+    LintWords::named("--diff", words)
 }
 
 // The report of what is found in the input, with one fix of all that is proposed.

@@ -41,12 +41,7 @@ pub fn fixing(words: &[String]) -> Option<LintWords<'_>>
     ensures some { IfSome result (λ it. AreFixWords (map string_bytes words.now) it.name.now it.width) }
     ensures none { IsNone result → IsNoFixCall (map string_bytes words.now) }
 {
-    match words {
-        [word, name, width] if word.as_str() == "--fix" => {
-            LintWords::with_name(LintForm::Picture, name.as_str(), width.as_str())
-        }
-        _ => None,
-    }
+    LintWords::named("--fix", words)
 }
 
 // The fixed text of an input, and what is left to be found in it.

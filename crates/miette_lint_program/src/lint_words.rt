@@ -1,7 +1,8 @@
 //! The words that `lint` is called with.
 
 ghost use Rattle.std.specs.Prelude.{◌≡◌, IfSome, IsNone, Some, None, map, string_bytes};
-ghost use Rattle.miette_lint_program.specs.rules.Words.{AreLintWords, IsNoLintCall, form_named};
+ghost use Rattle.miette_lint_program.specs.rules.Words.{AreLintWords, AreNamedWords, IsNoLintCall, IsNoNamedCall};
+ghost use Rattle.miette_lint_program.specs.rules.Words.{form_named};
 ghost use Rattle.miette_devices.specs.rules.Words.{IsReadAs};
 
 use miette_devices::words::number;
@@ -56,6 +57,21 @@ impl<'a> LintWords<'a> {
             }
             _ => None,
         }
+    }
+
+    /// What three words ask for, the first of which is this one: a name and a width. Nothing, where they are others, or
+    /// where the last is no number.
+    pub(crate) fn named(first: &str, words: &'a [String]) -> Option<Self>
+        ensures some { IfSome result (λ it. AreNamedWords first.now (map string_bytes words.now) it.name.now it.width) }
+        ensures none { IsNone result → IsNoNamedCall first.now (map string_bytes words.now) }
+    {
+        let [word, name, width] = words else {
+            return None;
+        };
+        if word.as_str() != first {
+            return None;
+        }
+        LintWords::with_name(LintForm::Picture, name.as_str(), width.as_str())
     }
 
     // In the form that this word asks for. Nothing, where it asks for none, or where the last is no number.
