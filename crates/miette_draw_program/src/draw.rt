@@ -3,20 +3,15 @@
 ghost use Rattle.std.specs.Prelude.{◌≡◌, ◌↔◌, ◌⊎◌, ◌<◌, false, IfOk, IfSome, IsNone, IsTrue, None, OnOk, OnErr, map};
 ghost use Rattle.std.specs.Prelude.{string_bytes};
 ghost use Rattle.std.specs.Io.KnownBytes.{Appends};
-ghost use Rattle.miette.specs.Diagnostic.{meaning_of};
-ghost use Rattle.miette.specs.Report.{tree_of};
 ghost use Rattle.miette_devices.specs.views.Device.{TakesBeginning};
 ghost use Rattle.miette_draw_program.specs.views.DrawReports.{CallPictures, Pictures};
 ghost use Rattle.miette_outputs.specs.rules.Pictures.{IsPicture};
+ghost use Rattle.miette_protocol.specs.views.Diagnostic.{meaning_of};
+ghost use Rattle.miette_tree.specs.views.Report.{tree_of};
 ghost use Rattle.miette_draw_program.specs.views.DrawReports.{draw_request, drawn_label, drawn_meaning, drawn_tree};
 ghost use Rattle.miette_devices.specs.rules.Faults.{status_of};
 ghost use Rattle.miette_draw_program.specs.rules.Words.{AreDrawWords, IsNoDrawCall};
 
-use miette::diagnostic::MietteDiagnostic;
-use miette::error::RenderError;
-use miette::protocol::{Diagnostic, LabeledSpan};
-use miette::report::Report;
-use miette::source::{NamedSource, SourceCode};
 use miette_devices::device::Device;
 /// An earlier name of `Fault`.
 pub use miette_devices::fault::Fault as DrawError;
@@ -24,6 +19,11 @@ use miette_devices::fault::{Fault, Program};
 use miette_devices::whole::{read_whole, write_whole};
 use miette_devices::words::number;
 use miette_outputs::picture::draw;
+use miette_protocol::diagnostic::MietteDiagnostic;
+use miette_protocol::error::RenderError;
+use miette_protocol::protocol::{Diagnostic, LabeledSpan};
+use miette_protocol::source::{NamedSource, SourceCode};
+use miette_tree::report::Report;
 use std::alloc::{AllocError, Global};
 use std::io::{Read, Write};
 

@@ -5,3 +5,4 @@ pub mod LintFixSteps
 pub mod LintServerSteps
 pub mod LintSteps
 pub mod LogSteps
+pub mod RowSteps

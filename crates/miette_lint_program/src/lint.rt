@@ -15,7 +15,7 @@ ghost use Rattle.miette_lint_program.specs.declared.lint_words.LintForm.TheVaria
 ghost use Rattle.miette_lint_program.specs.rules.Logs.{finding_trees};
 ghost use Rattle.miette_lint_program.specs.rules.Words.{IsNoLintCall};
 
-use crate::lint_reports::commands_over;
+use crate::lint_reports::{commands_over, rows_over};
 pub use crate::lint_words::{LintForm, LintWords};
 use itoa::Buffer;
 use miette::diagnostic::MietteDiagnostic;
@@ -27,7 +27,7 @@ use miette_devices::whole::{read_whole, write_whole};
 use miette_lint::coded::coded_findings;
 pub use miette_lint::findings::findings;
 use miette_lint::laws::coded_laws;
-use miette_outputs::picture::{picture_over, rows_over};
+use miette_outputs::picture::picture_over;
 use std::alloc::{AllocError, Global};
 use std::io::{Read, Write};
 

@@ -1,11 +1,16 @@
-//! The reports of what `lint` finds, one for each finding, and workflow commands of GitHub for them.
+//! The reports of what `lint` finds, one for each finding, workflow commands of GitHub for them, and brief rows.
 
 ghost use Rattle.std.specs.Prelude.{◌≡◌, ◌++◌, IfOk, OnOk, None, false, map, string_bytes};
+ghost use Rattle.miette.specs.Diagnostic.{meaning_of};
 ghost use Rattle.miette.specs.Report.{tree_of};
 ghost use Rattle.miette.specs.Tree.{trees};
 ghost use Rattle.miette_label_rules.specs.rules.Groups.{AreAccepted};
 ghost use Rattle.miette_lint.specs.views.Found.{coded_of};
+ghost use Rattle.miette_tree.specs.rules.DiagnosticParts.{given_labels};
 ghost use Rattle.miette_tree.specs.rules.Reads.{AllAlwaysRead, accepts, holds_of_all};
+ghost use Rattle.miette_brief.specs.rules.Report.{brief, unlisted};
+ghost use Rattle.miette_brief.specs.rules.Report.{default_settings as brief_settings};
+ghost use Rattle.miette_outputs.specs.rules.Pictures.{over_input};
 ghost use Rattle.miette_lint_program.specs.rules.Logs.{finding_tree, finding_trees};
 ghost use Rattle.miette_lint_program.specs.views.LintReports.{commands_of, label_of};
 
@@ -16,6 +21,7 @@ use miette::protocol::{Diagnostic, Severity};
 use miette::report::{OwnedSource, Report};
 use miette::source::SourceCode;
 use miette_lint::coded::CodedFinding;
+use miette_outputs::picture::report;
 use std::alloc::{AllocError, Global};
 
 // The report of a finding.
@@ -116,5 +122,29 @@ pub(crate) fn commands_over(
     };
     let mut text = String::new(alloc);
     push_commands(&mut text, reports.as_slice())?;
+    Ok(text)
+}
+
+/// The brief rows of a diagnostic over the input under its name.
+///
+/// # Errors
+/// Where no memory is found, and where a label isn't accepted.
+pub(crate) fn rows_over(
+    alloc: Global,
+    name: &str,
+    diagnostic: MietteDiagnostic,
+    input: Vec<u8>,
+) -> Result<String, RenderError>
+    ensures ok { IfOk result (λ text. string_bytes text
+        ≡ brief brief_settings (over_input name.now (meaning_of diagnostic) input.items) unlisted) }
+    ensures accepted { AreAccepted input.items (given_labels (meaning_of diagnostic).labels)
+        → ¬ (result ≡ Err RenderError.Refused) }
+{
+    let report: Report = match report(alloc, name, diagnostic, input) {
+        Ok(report) => report,
+        Err(_) => return Err(RenderError::Memory),
+    };
+    let mut text = String::new(alloc);
+    BriefReportHandler::new().render_report(&report, &mut text)?;
     Ok(text)
 }

@@ -1,3 +1,2 @@
 pub mod AlwaysRead
-pub mod AcceptedLabels
 pub mod PictureSteps

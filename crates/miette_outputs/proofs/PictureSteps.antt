@@ -3,7 +3,6 @@ use Rattle.std.proofs.Common.{◌≡◌, ℕ, Bool, List, [], ◌++◌, Option, 
 use Rattle.std.proofs.Common.{refl, sym, ◌∙◌, ap, ap₂, subst, encode_utf8_all, string_bytes, String}
 use Rattle.miette_protocol.specs.views.Meaning.{Meaning}
 use Rattle.miette_tree.specs.rules.Tree.{Tree}
-use Rattle.miette_tree.specs.rules.Reads.{AlwaysReads}
 use Rattle.miette_tree.proofs.Readings.{none_further}
 use Rattle.miette_style.specs.rules.Themes.{no_styles, theme_of, unicode_characters}
 use Rattle.miette_style.specs.declared.theme.GraphicalTheme.{GraphicalTheme}
@@ -13,7 +12,6 @@ use Rattle.miette_picture_rules.proofs.Lists.{labels_of_all}
 use Rattle.miette_picture_rules.specs.views.Handling.{Handling, draws_plain, without_highlighter}
 use Rattle.miette_picture_rules.specs.rules.Snippets.{whole_drawing}
 use Rattle.miette_picture_rules.specs.rules.Text.{report_text}
-use Rattle.miette_brief.specs.rules.Report as rows
 use Rattle.miette_outputs.proofs.AlwaysRead.{printed-reads}
 use Rattle.miette_outputs.specs.rules.Pictures.{draw_settings, over_input, settings_in, IsPicture, IsReadWhole}
 
@@ -59,14 +57,3 @@ over-same limit r name m n input same is = subst (λ v. IfOk r
 pub IfOk-same : {E Z : Type 0} (limit : Option ℕ) (r : Result (String Z) E) (t u : Tree) → t ≡ u
     → IfOk r (λ text. IsPicture limit t (string_bytes text)) → IfOk r (λ text. IsPicture limit u (string_bytes text))
 IfOk-same limit r t u same is = subst (λ v. IfOk r (λ text. IsPicture limit v (string_bytes text))) same is
-
--- ---- brief rows
-
-pub listed : (t : Tree) (name : List ℕ) (m : Meaning) (input : List ℕ) (s : rows.BriefSettings) (old new : List ℕ) → t
-    ≡ over_input name m input → s ≡ rows.default_settings → old ≡ []
-    → (AlwaysReads t → new ≡ old ++ rows.brief s t rows.unlisted) → new
-    ≡ rows.brief rows.default_settings (over_input name m input) rows.unlisted
-listed t name m input s old new same is none only =
-    let over : AlwaysReads (over_input name m input) = (refl, tt, tt, none_further) in
-    only (subst AlwaysReads (sym same) over) ∙ ap (λ o. o ++ rows.brief s t rows.unlisted) none
-    ∙ ap₂ (λ u v. rows.brief u v rows.unlisted) is same

@@ -1,4 +1,4 @@
-//! What programs make of reports: pictures and brief rows of a diagnostic over an input.
+//! What programs draw: the picture of a diagnostic over an input.
 #![tactic(auto)]
 
 pub mod picture;

@@ -1,24 +1,20 @@
-//! The picture of a diagnostic over a source, and its brief rows.
+//! The picture of a diagnostic over a source.
 
 ghost use Rattle.std.specs.Prelude.{◌≡◌, string_bytes, IfOk};
-ghost use Rattle.miette.specs.Diagnostic.{meaning_of};
-ghost use Rattle.miette.specs.Report.{tree_of};
-ghost use Rattle.miette_tree.specs.rules.DiagnosticParts.{given_labels};
-ghost use Rattle.miette_label_rules.specs.rules.Groups.{AreAccepted};
-ghost use Rattle.miette_brief.specs.rules.Report.{brief, unlisted};
-ghost use Rattle.miette_brief.specs.rules.Report.{default_settings as brief_settings};
+ghost use Rattle.miette_protocol.specs.views.Diagnostic.{meaning_of};
+ghost use Rattle.miette_tree.specs.views.Report.{tree_of};
 ghost use Rattle.miette_picture_rules.specs.views.Handling.{without_highlighter};
 ghost use Rattle.miette_style.specs.rules.Themes.{theme_of};
 ghost use Rattle.miette_outputs.specs.rules.Pictures.{over_input, settings_in, IsPicture};
 ghost use Rattle.miette_outputs.specs.rules.Pictures.{IsReadWhole};
 
-use miette::diagnostic::MietteDiagnostic;
-use miette::error::RenderError;
-use miette::handlers::{BriefReportHandler, GraphicalReportHandler};
-use miette::protocol::Diagnostic;
-use miette::report::{OwnedSource, Report};
-use miette::source::SourceCode;
-use miette::theme::GraphicalTheme;
+use miette_graphical::handler::GraphicalReportHandler;
+use miette_protocol::diagnostic::MietteDiagnostic;
+use miette_protocol::error::RenderError;
+use miette_protocol::protocol::Diagnostic;
+use miette_protocol::source::SourceCode;
+use miette_style::theme::GraphicalTheme;
+use miette_tree::report::{OwnedSource, Report};
 use std::alloc::{AllocError, Global};
 
 // How many columns a row may have.
@@ -96,28 +92,4 @@ pub fn picture_over(
         Err(_) => return Err(RenderError::Memory),
     };
     draw(alloc, &report, limit)
-}
-
-/// The brief rows of a diagnostic over the input under its name.
-///
-/// # Errors
-/// Where no memory is found, and where a label isn't accepted.
-pub fn rows_over(
-    alloc: Global,
-    name: &str,
-    diagnostic: MietteDiagnostic,
-    input: Vec<u8>,
-) -> Result<String, RenderError>
-    ensures ok { IfOk result (λ text. string_bytes text
-        ≡ brief brief_settings (over_input name.now (meaning_of diagnostic) input.items) unlisted) }
-    ensures accepted { AreAccepted input.items (given_labels (meaning_of diagnostic).labels)
-        → ¬ (result ≡ Err RenderError.Refused) }
-{
-    let report: Report = match report(alloc, name, diagnostic, input) {
-        Ok(report) => report,
-        Err(_) => return Err(RenderError::Memory),
-    };
-    let mut text = String::new(alloc);
-    BriefReportHandler::new().render_report(&report, &mut text)?;
-    Ok(text)
 }

@@ -1,3 +1,4 @@
+pub mod AlwaysTold
 pub mod HighlighterSteps
 pub mod JobHandlerSteps
 pub mod OptionWordSteps

@@ -1,8 +1,8 @@
 -- What the program `draw` reports.
 use Rattle.std.specs.Prelude.{ℕ, List, [], ◌∷◌, Option, Some, None, false}
-use Rattle.miette.specs.Diagnostic.{message_alone}
-use Rattle.miette.specs.Meaning.{Label, Meaning}
-use Rattle.miette.specs.Tree.{Tree}
+use Rattle.miette_protocol.specs.views.Diagnostic.{message_alone}
+use Rattle.miette_protocol.specs.views.Meaning.{Label, Meaning}
+use Rattle.miette_tree.specs.rules.Tree.{Tree}
 use Rattle.miette_outputs.specs.rules.Pictures.{over_input, IsPicture}
 use Rattle.miette_draw_program.specs.rules.Words.{AreDrawWords, DrawRequest}
 use Rattle.miette_draw_program.specs.declared.draw.DrawWords.{DrawWords}

@@ -1,8 +1,8 @@
 -- What programs draw of a diagnostic over an input.
 use Rattle.std.specs.Prelude.{◌≡◌, ℕ, List, Option, None, true, encode_utf8_all}
-use Rattle.miette.specs.Meaning.{Meaning}
-use Rattle.miette.specs.Reading.{named_source, plain_source}
-use Rattle.miette.specs.Tree.{Tree, alone, with_source}
+use Rattle.miette_protocol.specs.views.Meaning.{Meaning}
+use Rattle.miette_protocol.specs.rules.Reading.{named_source, plain_source}
+use Rattle.miette_tree.specs.rules.Tree.{Tree, alone, with_source}
 use Rattle.miette_tree.specs.rules.Diagnosis.{plain_diagnosis}
 use Rattle.miette_style.specs.rules.Themes.{Theme, no_styles, unicode_characters}
 use Rattle.miette_picture_rules.specs.rules.Answers.{unlisted}

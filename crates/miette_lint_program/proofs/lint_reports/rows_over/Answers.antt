@@ -1,7 +1,6 @@
 use Rattle.std.proofs.Common.{rules}
-use Rattle.miette_outputs.proofs.AcceptedLabels.{never_refused}
-use Rattle.miette_outputs.proofs.PictureSteps.{listed}
-use Rattle.miette_outputs.proofs.picture.rows_over.Goals as goal
+use Rattle.miette_lint_program.proofs.RowSteps.{listed, never_refused}
+use Rattle.miette_lint_program.proofs.lint_reports.rows_over.Goals as goal
 
 pub returns-clause-ok : goal.returns-clause-ok
 returns-clause-ok c = listed _ _ _ _ _ _ _ c.in-Ok.ensures c.new.ensures c.new-text.ensures.bytes
