@@ -6,8 +6,8 @@ use Rattle.std.proofs.Math.Seq.{drop-cons}
 use Rattle.std.proofs.lemmas.Bool.{and_from, or_right}
 use Rattle.std.proofs.lemmas.List.{drop_all}
 use Rattle.miette_basics.specs.rules.Lists.{is_nil}
-use Rattle.miette.specs.Meaning.{Label}
-use Rattle.miette.specs.Reading.{named_source, plain_source}
+use Rattle.miette_protocol.specs.views.Meaning.{Label}
+use Rattle.miette_protocol.specs.rules.Reading.{named_source, plain_source}
 use Rattle.miette_brief.specs.rules.Report as rows
 use Rattle.miette_labels.proofs.RefusedLabel.{accepted_is}
 use Rattle.miette_label_rules.specs.rules.Groups.{AreAccepted}

@@ -6,8 +6,8 @@ use Rattle.std.specs.List.{remove}
 use Rattle.std.specs.Prelude.{codes}
 use Rattle.std.proofs.lemmas.Bool.Decides.{nat_tests}
 use Rattle.std.proofs.lemmas.List.{map-append, nil_from_length}
-use Rattle.miette.specs.Meaning.{Label}
-use Rattle.miette.specs.Reading.{named_source, plain_source}
+use Rattle.miette_protocol.specs.views.Meaning.{Label}
+use Rattle.miette_protocol.specs.rules.Reading.{named_source, plain_source}
 use Rattle.miette_lint.specs.rules.Coded.{Coded, coded_findings}
 use Rattle.miette_lint.specs.rules.Findings.{findings_of}
 use Rattle.miette_protocol.specs.rules.Reading.{Source}

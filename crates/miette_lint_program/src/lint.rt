@@ -2,7 +2,7 @@
 
 ghost use Rattle.std.specs.Prelude.{◌≡◌, ◌↔◌, ◌⊎◌, ◌<◌, false, true, IfOk, IfSome, IsTrue, OnErr, map, string_bytes};
 ghost use Rattle.std.specs.Io.KnownBytes.{Appends};
-ghost use Rattle.miette.specs.Diagnostic.{meaning_of};
+ghost use Rattle.miette_protocol.specs.views.Diagnostic.{meaning_of};
 ghost use Rattle.miette_label_rules.specs.rules.Groups.{AreAccepted};
 ghost use Rattle.miette_devices.specs.views.Device.{TakesBeginning};
 ghost use Rattle.miette_devices.specs.views.Endings.{IsFailure, IsFound};
@@ -18,9 +18,6 @@ ghost use Rattle.miette_lint_program.specs.rules.Words.{IsNoLintCall};
 use crate::lint_reports::{commands_over, rows_over};
 pub use crate::lint_words::{LintForm, LintWords};
 use itoa::Buffer;
-use miette::diagnostic::MietteDiagnostic;
-use miette::error::RenderError;
-use miette::protocol::{LabeledSpan, Severity};
 use miette_devices::device::Device;
 use miette_devices::fault::{Ending, Fault, Program};
 use miette_devices::whole::{read_whole, write_whole};
@@ -28,6 +25,9 @@ use miette_lint::coded::coded_findings;
 pub use miette_lint::findings::findings;
 use miette_lint::laws::coded_laws;
 use miette_outputs::picture::picture_over;
+use miette_protocol::diagnostic::MietteDiagnostic;
+use miette_protocol::error::RenderError;
+use miette_protocol::protocol::{LabeledSpan, Severity};
 use std::alloc::{AllocError, Global};
 use std::io::{Read, Write};
 

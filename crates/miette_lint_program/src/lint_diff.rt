@@ -3,7 +3,7 @@
 ghost use Rattle.std.specs.Prelude.{◌≡◌, ◌↔◌, ◌⊎◌, ◌<◌, false, true, IfOk, IfSome, IsNone, IsTrue, OnErr, length, map};
 ghost use Rattle.std.specs.Prelude.{string_bytes};
 ghost use Rattle.std.specs.Io.KnownBytes.{Appends};
-ghost use Rattle.miette.specs.Report.{tree_of};
+ghost use Rattle.miette_tree.specs.views.Report.{tree_of};
 ghost use Rattle.miette_tree.specs.rules.Tree.{with_fix};
 ghost use Rattle.miette_lint.specs.rules.Findings.{findings_of};
 ghost use Rattle.miette_lint.specs.rules.Joint.{joint_proposal};
@@ -15,16 +15,16 @@ ghost use Rattle.miette_devices.specs.views.Endings.{IsFailure, IsFound};
 ghost use Rattle.miette_lint_program.specs.views.LintReports.{warning, IsClean, IsDiffed, LintDiffs, LintDiffsText};
 
 use crate::lint::{LintWords, diagnostic, is_clean};
-use miette::error::RenderError;
-use miette::protocol::{Diagnostic, LabeledSpan};
-use miette::report::Report;
-use miette::source::SourceCode;
 use miette_devices::device::Device;
 use miette_devices::fault::{Ending, Fault, Program};
 use miette_devices::whole::{read_whole, write_whole};
 use miette_lint::findings::findings;
 use miette_lint::joint::joint_proposal;
 use miette_outputs::picture::{draw, report};
+use miette_protocol::error::RenderError;
+use miette_protocol::protocol::{Diagnostic, LabeledSpan};
+use miette_protocol::source::SourceCode;
+use miette_tree::report::Report;
 use std::alloc::{AllocError, Global};
 use std::io::{Read, Write};
 

@@ -1,9 +1,9 @@
 //! The reports of what `lint` finds, one for each finding, workflow commands of GitHub for them, and brief rows.
 
 ghost use Rattle.std.specs.Prelude.{◌≡◌, ◌++◌, IfOk, OnOk, None, false, map, string_bytes};
-ghost use Rattle.miette.specs.Diagnostic.{meaning_of};
-ghost use Rattle.miette.specs.Report.{tree_of};
-ghost use Rattle.miette.specs.Tree.{trees};
+ghost use Rattle.miette_protocol.specs.views.Diagnostic.{meaning_of};
+ghost use Rattle.miette_tree.specs.views.Report.{tree_of};
+ghost use Rattle.miette_tree.specs.rules.Tree.{trees};
 ghost use Rattle.miette_label_rules.specs.rules.Groups.{AreAccepted};
 ghost use Rattle.miette_lint.specs.views.Found.{coded_of};
 ghost use Rattle.miette_tree.specs.rules.DiagnosticParts.{given_labels};
@@ -14,14 +14,15 @@ ghost use Rattle.miette_outputs.specs.rules.Pictures.{over_input};
 ghost use Rattle.miette_lint_program.specs.rules.Logs.{finding_tree, finding_trees};
 ghost use Rattle.miette_lint_program.specs.views.LintReports.{commands_of, label_of};
 
-use miette::diagnostic::MietteDiagnostic;
-use miette::error::RenderError;
-use miette::handlers::{BriefReportHandler, Form};
-use miette::protocol::{Diagnostic, Severity};
-use miette::report::{OwnedSource, Report};
-use miette::source::SourceCode;
+use miette_brief::form::Form;
+use miette_brief::handler::BriefReportHandler;
 use miette_lint::coded::CodedFinding;
 use miette_outputs::picture::report;
+use miette_protocol::diagnostic::MietteDiagnostic;
+use miette_protocol::error::RenderError;
+use miette_protocol::protocol::{Diagnostic, Severity};
+use miette_protocol::source::SourceCode;
+use miette_tree::report::{OwnedSource, Report};
 use std::alloc::{AllocError, Global};
 
 // The report of a finding.

@@ -11,7 +11,6 @@ ghost use Rattle.miette_devices.specs.rules.Words.{IsReadAs};
 ghost use Rattle.miette_lint_program.specs.views.LintReports.{IsClean};
 
 use crate::lint_reports::reports_over;
-use miette::report::Report;
 use miette_devices::device::Device;
 use miette_devices::fault::{Ending, Fault, Program};
 use miette_devices::whole::{read_whole, write_whole};
@@ -19,6 +18,7 @@ use miette_devices::words::number;
 use miette_lint::coded::coded_findings;
 use miette_lint::laws::coded_laws;
 use miette_logs::logs::log_of;
+use miette_tree::report::Report;
 use std::alloc::{AllocError, Global};
 use std::io::{Read, Write};
 

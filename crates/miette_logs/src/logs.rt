@@ -8,12 +8,12 @@ ghost use Rattle.miette_tree.specs.rules.Tree.{trees};
 ghost use Rattle.miette_tree.specs.views.Report.{tree_of};
 ghost use Rattle.miette_logs.specs.rules.LogWords.{form_named, logged_text, logging_of, of_tool, tool_called};
 
-use miette::protocol::Diagnostic;
-use miette::report::Report;
-use miette::source::SourceCode;
 use miette_devices::fault::Fault;
 use miette_lsp::handler::LspReportHandler;
+use miette_protocol::protocol::Diagnostic;
+use miette_protocol::source::SourceCode;
 use miette_sarif::handler::SarifReportHandler;
+use miette_tree::report::Report;
 use std::alloc::Global;
 use std::marker::Model;
 

@@ -1,10 +1,10 @@
 -- What `lint --sarif` takes, and the logs that it writes.
 use Rattle.std.specs.Prelude.{◌≡◌, ℕ, List, [], ◌∷◌, ◌++◌, Option, Some, None, map, unwrap_or}
 use Rattle.std.specs.Prelude.{codes}
-use Rattle.miette.specs.Diagnostic.{message_alone}
-use Rattle.miette.specs.Meaning.{Meaning}
-use Rattle.miette.specs.Reading.{named_source, plain_source}
-use Rattle.miette.specs.Tree.{Tree, Trees, alone, no_trees, trees, with_fixes, with_related, with_source}
+use Rattle.miette_protocol.specs.views.Diagnostic.{message_alone}
+use Rattle.miette_protocol.specs.views.Meaning.{Meaning}
+use Rattle.miette_protocol.specs.rules.Reading.{named_source, plain_source}
+use Rattle.miette_tree.specs.rules.Tree.{Tree, Trees, alone, no_trees, trees, with_fixes, with_related, with_source}
 use Rattle.miette_lint.specs.rules.Coded.{Coded, coded_findings}
 use Rattle.miette_protocol.specs.declared.protocol.Severity.TheVariants.{Warning}
 use Rattle.miette_logs.specs.rules.LogWords.{tool_called}

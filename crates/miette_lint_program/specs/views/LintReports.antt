@@ -1,10 +1,10 @@
 -- What the program `lint` reports.
 use Rattle.std.specs.Prelude.{◌≡◌, ℕ, ◌<◌, Bool, true, false, List, [], ◌∷◌, ◌++◌, Some, codes, decimal, length}
-use Rattle.miette.specs.Diagnostic.{message_alone}
-use Rattle.miette.specs.Tree.{Trees, more_trees, no_trees, with_fix}
+use Rattle.miette_protocol.specs.views.Diagnostic.{message_alone}
+use Rattle.miette_tree.specs.rules.Tree.{Trees, more_trees, no_trees, with_fix}
 use Rattle.miette_brief.specs.declared.form.Form.TheVariants.{Github}
 use Rattle.miette_brief.specs.rules.Report as rows
-use Rattle.miette.specs.Meaning.{Label, Meaning}
+use Rattle.miette_protocol.specs.views.Meaning.{Label, Meaning}
 use Rattle.miette_protocol.specs.declared.protocol.Severity.TheVariants.{Warning}
 use Rattle.miette_outputs.specs.rules.Pictures.{over_input, IsPicture}
 use Rattle.miette_lint.specs.rules.Coded.{Coded, coded_findings}

@@ -1,6 +1,6 @@
 -- The words that ask for one log of all reports, and its text.
 use Rattle.std.specs.Prelude.{ℕ, List, [], ◌∷◌, Option, Some, None, bytes_eq, codes, if◌then◌else◌, option_map}
-use Rattle.miette.specs.Tree.{Trees}
+use Rattle.miette_tree.specs.rules.Tree.{Trees}
 use Rattle.miette_lsp.specs.rules.LspText.{lsp_text}
 use Rattle.miette_sarif.specs.rules.Log.{ToolName}
 use Rattle.miette_sarif.specs.rules.LogText.{log_text}
