@@ -62,7 +62,7 @@ const OWN: Written = Written {
     ..PLAIN
 };
 
-/// So many lines that a picture asks their source which one a fix stands in.
+/// As many lines as it takes for a picture to ask their source which one a fix stands in.
 const MANY: Written = Written {
     source: Source::Stopping(&[b'\n'; 1200]),
     ..M

@@ -9,7 +9,7 @@ ghost use Rattle.miette_brief.specs.rules.Commands.{region_properties, saying_te
 ghost use Rattle.miette_brief.specs.steps.CommandParts.{site_of, title_text};
 
 use crate::escapes::{Part, push_escaped};
-use crate::words::push_number;
+use miette_basics::numbers::push_number;
 use miette_basics::sums::sum;
 use miette_positions::place::Region;
 use miette_protocol::protocol::Severity;

@@ -5,7 +5,7 @@ ghost use Rattle.miette_brief.specs.rules.FixIts.{octal, escaped_byte, escaped, 
 ghost use Rattle.miette_brief.specs.rules.FixIts.{range_text, fix_it_text};
 ghost use Rattle.miette_brief.specs.steps.Conversions.{fix_it_of};
 
-use crate::words::push_number;
+use miette_basics::numbers::push_number;
 use std::alloc::AllocError;
 
 /// A line and a column, both counted from 1, the column in bytes.

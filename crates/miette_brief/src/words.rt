@@ -1,9 +1,8 @@
-//! Texts and numbers as they stand in a row.
+//! Texts as they stand in a row.
 
-ghost use Rattle.std.specs.Prelude.{◌≡◌, ◌++◌, OnOk, string_bytes, decimal, encode_utf8_all};
+ghost use Rattle.std.specs.Prelude.{◌≡◌, ◌++◌, OnOk, string_bytes, encode_utf8_all};
 ghost use Rattle.miette_brief.specs.rules.Rows.{gap, shown_for, one_row};
 
-use itoa::Buffer;
 use std::alloc::AllocError;
 
 /// Appends a space for a control character, unless a stretch of them goes on.
@@ -36,12 +35,4 @@ pub(crate) fn push_one_row(out: &mut String, text: &str) -> Result<(), AllocErro
         goes_on = c.is_control();
     }
     Ok(())
-}
-
-/// Appends a number in decimal.
-pub(crate) fn push_number(out: &mut String, number: usize) -> Result<(), AllocError>
-    ensures { OnOk result (string_bytes out.new ≡ string_bytes out.old ++ decimal number) }
-{
-    let mut digits = Buffer::new();
-    out.push_str(digits.format(number))
 }
