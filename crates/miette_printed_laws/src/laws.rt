@@ -30,11 +30,14 @@ use miette_diff_laws::laws::{
 use miette_fix_laws::laws::{
     fix_rows_hold_no_escape, fix_rows_turn_plain, frames_show_the_context,
 };
-use miette_layout::laws::{
-    cut_lines_are_parted, cut_rows_are_narrow, ends_are_drawn, groups_are_ranges,
-    left_out_lines_are_inside, lines_are_cut_by_reach, lines_that_fit_stay, marks_are_apart,
-    marks_stand_on_their_characters, ranges_are_maximal, ranges_end_kept, rows_hold_no_escape,
-    rows_turn_plain, short_labels_stay, snippets_draw_ranges, texts_hang, wide_lines_are_cut,
+use miette_range_laws::laws::{
+    groups_are_ranges, left_out_lines_are_inside, ranges_are_maximal, ranges_end_kept,
+    short_labels_stay, snippets_draw_ranges,
+};
+use miette_row_laws::laws::{
+    cut_lines_are_parted, cut_rows_are_narrow, ends_are_drawn, lines_are_cut_by_reach,
+    lines_that_fit_stay, marks_are_apart, marks_stand_on_their_characters, rows_hold_no_escape,
+    rows_turn_plain, texts_hang, wide_lines_are_cut,
 };
 use miette_wrap_laws::laws::{
     columns_law, cutting_law, encoding_law, joining_law, printing_law, wrapping_law,

@@ -3,7 +3,7 @@ use Rattle.std.proofs.Common.{◌≡◌, ◌⊎◌, ◌↔◌, IsTrue, true, fal
 use Rattle.std.proofs.Common.{None, IfSome, refl, sym, ap, ◌∙◌, subst, arith, ◌++◌, Bool, Result, Ok, Err, OnOk}
 use Rattle.std.proofs.Common.{codes, decimal}
 use Rattle.std.proofs.lemmas.Result.{on_ok_weaker}
-use Rattle.miette.specs.rules.Options.{Options}
+use Rattle.miette_program.specs.Options.{Options}
 use Rattle.miette_style.specs.declared.theme.Terminal.{Terminal}
 use Rattle.miette_devices.specs.rules.Faults.{end_status, usual_status}
 use Rattle.miette_report.specs.rules.Job.{IsDescription, IsNoDescription, IsRefused, Writes}

@@ -2,7 +2,7 @@
 use Rattle.std.proofs.Common.{◌≡◌, ℕ, Bool, List, length, ◌∙◌, Option, None, Some, IfSome, Result, Ok}
 use Rattle.std.proofs.Common.{Err, IfOk, IsUtf8, String, string_bytes, refl}
 use Rattle.std.proofs.Common.{subst}
-use Rattle.miette.specs.rules.Options.{Options}
+use Rattle.miette_program.specs.Options.{Options}
 use Rattle.miette_style.specs.declared.theme.Terminal.{Terminal}
 use Rattle.miette_tree.specs.rules.Tree.{Tree}
 use Rattle.miette_program.specs.steps.JobHandler.{IsAsked, IsGiven, MayRefuse}

@@ -12,11 +12,11 @@ ghost use Rattle.miette_report.specs.rules.JobCalls.{Measures};
 ghost use Rattle.miette_devices.specs.rules.Faults.{status_of};
 
 use crate::pipeline::rendered_length;
-use miette::highlight::Highlighter;
 use miette_devices::device::Device;
 use miette_devices::fault::{Fault, Program};
 use miette_devices::whole::{read_whole, write_whole};
 use miette_devices::words::number;
+use miette_highlight::highlight::Highlighter;
 use miette_program::arguments::Arguments;
 use miette_program::language::LanguageHighlighter;
 use std::alloc::{AllocError, Global};

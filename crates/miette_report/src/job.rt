@@ -10,10 +10,10 @@ ghost use Rattle.miette_devices.specs.rules.Faults.{status_of};
 pub use miette_program::arguments::Arguments;
 /// An earlier name of `Arguments`.
 pub use crate::pipeline::run;
-use miette::highlight::Highlighter;
 use miette_devices::device::Device;
 use miette_devices::fault::Program;
 pub use miette_devices::fault::{Fault, Fault as JobError, Fault as WordsFault};
+use miette_highlight::highlight::Highlighter;
 pub use miette_program::arguments::Arguments as Settings;
 use miette_program::language::LanguageHighlighter;
 pub use miette_program::option_words::Choice;

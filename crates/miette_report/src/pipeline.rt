@@ -11,11 +11,11 @@ ghost use Rattle.miette_program.specs.steps.JobHandler.{IsAsked, IsGiven, MayRef
 ghost use Rattle.miette_report.specs.rules.Job.{IsDescription, IsNoDescription, IsRefused, Writes};
 ghost use Rattle.miette_program.specs.rules.JobText.{IsTelling};
 
-use miette::highlight::Highlighter;
 use miette_description::error::BuildError;
 use miette_devices::device::Device;
 use miette_devices::fault::Fault;
 use miette_devices::whole::{read_whole, write_whole};
+use miette_highlight::highlight::Highlighter;
 use miette_program::arguments::Arguments;
 use miette_program::job_handler::JobHandler;
 use miette_program::language::LanguageHighlighter;

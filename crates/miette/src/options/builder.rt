@@ -6,9 +6,9 @@ ghost use Rattle.miette.specs.rules.Options.{no_options};
 
 mod choice;
 
-use miette_graphical::settings::Wrapping;
 use miette_handlers::handlers::Form;
 use miette_highlight::highlight::Highlighter;
+use miette_picture_rules::settings::Wrapping;
 use miette_snippet_rules::options::LayoutOptions;
 use miette_style::theme::GraphicalTheme;
 use miette_text::wrap::{WordSeparator, WordSplitter};

@@ -1,6 +1,6 @@
 -- The text of a job: by the bytes that were read, and by what was asked for.
 use Rattle.std.specs.Prelude.{◌≡◌, ℕ, Bool, List, Some, None, false, IsUtf8}
-use Rattle.miette.specs.rules.Options.{Options}
+use Rattle.miette_program.specs.Options.{Options}
 use Rattle.miette_style.specs.declared.theme.Terminal.{Terminal}
 use Rattle.miette_tree.specs.rules.Tree.{Tree}
 use Rattle.miette_tree.specs.rules.Reads.{report_accepted}

@@ -1,7 +1,7 @@
 -- The logs that `job --sarif` and `job --lsp` write.
 use Rattle.std.specs.Prelude.{◌≡◌, ℕ, ◌<◌, List, [], ◌∷◌, Option, Some, IfSome}
 use Rattle.std.specs.Prelude.{IsUtf8}
-use Rattle.miette.specs.Tree.{Tree, trees}
+use Rattle.miette_tree.specs.rules.Tree.{Tree, trees}
 use Rattle.miette_description.specs.rules.Description.{tree_for}
 use Rattle.miette_logs.specs.rules.LogWords.{LogRequest, logged_text}
 use Rattle.miette_report.specs.rules.Job.{IsDescription, IsNoDescription}

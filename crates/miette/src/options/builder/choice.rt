@@ -10,11 +10,11 @@ ghost use Rattle.miette.specs.rules.Choice.{picture_settings, takes_colours};
 
 use crate::options::builder::{MietteHandlerOpts, RgbColors};
 use crate::options::handler::MietteHandler;
-use miette_graphical::settings::{Settings, UrlMode};
 use miette_handlers::handlers::{
     BriefReportHandler, GraphicalReportHandler, NarratableReportHandler,
 };
 use miette_highlight::highlight::Highlighter;
+use miette_picture_rules::settings::{Settings, UrlMode};
 use miette_snippet_rules::options::LayoutOptions;
 use miette_style::theme::{GraphicalTheme, Terminal, ThemeCharacters, ThemeStyles};
 use std::alloc::{AllocError, Global};

@@ -1,0 +1,19 @@
+pub use Rattle.miette_picture_rules.specs.views.Handling
+pub use Rattle.miette_picture_rules.specs.rules.Settings
+pub use Rattle.miette_picture_rules.specs.views.Settings as HandlerSettings
+pub use Rattle.miette_picture_rules.specs.rules.Answers
+pub use Rattle.miette_picture_rules.specs.rules.Indents
+pub use Rattle.miette_picture_rules.specs.rules.DiagnosticText
+pub use Rattle.miette_picture_rules.specs.rules.Text
+pub use Rattle.miette_printed_laws.specs.laws.Clean
+pub use Rattle.miette_printed_laws.specs.laws.PlainTexts
+pub use Rattle.miette_picture_rules.specs.rules.PrintedDiagnostics
+pub use Rattle.miette_printed_laws.specs.laws.Paths
+pub use Rattle.miette_printed_laws.specs.laws.Alike
+pub use Rattle.miette_printed_laws.specs.laws.CharacterSets
+pub use Rattle.miette_picture_rules.specs.rules.PossibleAnswers
+pub use Rattle.miette_picture_rules.specs.rules.Calls
+pub use Rattle.miette_picture_rules.specs.rules.ByLine
+pub use Rattle.miette_picture_rules.specs.rules.Snippets
+pub use Rattle.miette_printed_laws.specs.laws.Headline
+pub use Rattle.miette_printed_laws.specs.laws.Holding
