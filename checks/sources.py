@@ -1,5 +1,6 @@
 """What the scripts of this folder read: the crates, their files, their functions, and the toolchain's command."""
 import glob
+import functools
 import importlib.machinery
 import importlib.util
 import os
@@ -291,3 +292,14 @@ def load_rt(command=None):
     module = importlib.util.module_from_spec(importlib.util.spec_from_loader("rt", loader))
     loader.exec_module(module)
     return module
+
+
+def load_once():
+    """The same for a run during which no text changes: it reads each crate once.
+
+    By itself rt reads the text of what a crate stands on once for each path of crates.txt that leads there.
+    """
+    rt = load_rt()
+    for name in ("below", "stamp"):
+        setattr(rt.rtlib.Crate, name, functools.cache(getattr(rt.rtlib.Crate, name)))
+    return rt
