@@ -1,6 +1,6 @@
 """What the scripts of this folder read: the crates, their files, their functions, and the toolchain's command."""
-import glob
 import functools
+import glob
 import importlib.machinery
 import importlib.util
 import os
