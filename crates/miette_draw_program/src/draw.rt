@@ -78,8 +78,7 @@ fn diagnostic(alloc: Global, words: &DrawWords<'_>) -> Result<MietteDiagnostic, 
     ensures { IfOk result (λ it. meaning_of it ≡ drawn_meaning (draw_request words.now)) }
 {
     let label = label(alloc, words.offset, words.length, words.label)?;
-    let diagnostic = MietteDiagnostic::new(alloc, words.message)?.with_label(alloc, label)?;
-    Ok(diagnostic)
+    MietteDiagnostic::new(alloc, words.message)?.with_label(alloc, label)
 }
 
 // A report over a named source without an index of its lines.

@@ -4,7 +4,7 @@ ghost use Rattle.std.specs.Prelude.{◌≡◌, ◌++◌, OnOk, decimal, string_b
 ghost use Rattle.miette_narrated.specs.rules.Labels.{row};
 ghost use Rattle.miette_narrated.specs.rules.Report.{row_if};
 
-use itoa::Buffer;
+use miette_basics::numbers;
 use std::alloc::AllocError;
 
 /// That rows were appended, or `AllocError` where memory is refused.
@@ -15,8 +15,7 @@ pub(crate) fn push_number(out: &mut String, words: &str, number: usize) -> Appen
     ensures { OnOk result (string_bytes out.new ≡ string_bytes out.old ++ (words.now ++ decimal number)) }
 {
     out.push_str(words)?;
-    let mut digits = Buffer::new();
-    out.push_str(digits.format(number))
+    numbers::push_number(out, number)
 }
 
 /// Appends a row: words, a text, and a line feed.

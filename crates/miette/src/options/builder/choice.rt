@@ -142,7 +142,7 @@ impl<H: Highlighter> MietteHandlerOpts<H> {
     {
         match self.theme.take() {
             Some(theme) => Ok(theme),
-            None => Ok(self.fitting_theme(alloc, terminal)?),
+            None => self.fitting_theme(alloc, terminal),
         }
     }
 
