@@ -33,7 +33,7 @@ use Rattle.miette_program.specs.rules.OptionWords.{Facts, JobRequest, chosen_by,
 use Rattle.miette_program.specs.declared.language.LanguageHighlighter.{LanguageHighlighter}
 use Rattle.miette_program.specs.declared.option_words.Choice.{Choice}
 use Rattle.miette_program.specs.declared.option_words.Choice.TheVariants.{Build, Json, Debug}
-use Rattle.miette_outputs.proofs.AlwaysRead.{printed-reads}
+use Rattle.miette_picture_rules.proofs.AlwaysRead.{printed-reads}
 use Rattle.miette_job_laws.proofs.RuleTexts.{follow-by}
 
 -- whether a highlighter of a language is blank: none is

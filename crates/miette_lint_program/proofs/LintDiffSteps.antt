@@ -8,7 +8,7 @@ use Rattle.miette_tree.proofs.Readings.{none_further}
 use Rattle.miette_picture_rules.specs.rules.PrintedDiagnostics.{all_read, diagnostics_of}
 use Rattle.miette_lint.specs.rules.Findings.{findings_of}
 use Rattle.miette_lint.specs.rules.Joint.{joint_proposal}
-use Rattle.miette_outputs.proofs.AlwaysRead.{printed-reads}
+use Rattle.miette_picture_rules.proofs.AlwaysRead.{printed-reads}
 use Rattle.miette_outputs.specs.rules.Pictures.{IsReadWhole}
 use Rattle.miette_outputs.specs.rules.Pictures.{draw_settings, over_input, IsPicture}
 use Rattle.miette_lint_program.specs.views.LintReports.{warning, IsClean, IsDiffed, LintDiffs, LintDiffsText}

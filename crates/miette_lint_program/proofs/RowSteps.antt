@@ -9,7 +9,7 @@ use Rattle.miette_tree.specs.rules.DiagnosticParts.{given_labels}
 use Rattle.miette_tree.specs.rules.Reads.{AlwaysReads, report_accepted}
 use Rattle.miette_tree.specs.rules.Tree.{Tree}
 use Rattle.miette_tree.proofs.Readings.{none_further}
-use Rattle.miette_outputs.proofs.AlwaysRead.{accept_all}
+use Rattle.miette_picture_rules.proofs.AlwaysRead.{accept_all}
 use Rattle.miette_outputs.specs.rules.Pictures.{over_input}
 
 pub listed : (t : Tree) (name : List ℕ) (m : Meaning) (input : List ℕ) (s : rows.BriefSettings) (old new : List ℕ) → t

@@ -1,2 +1,1 @@
-pub mod AlwaysRead
 pub mod PictureSteps

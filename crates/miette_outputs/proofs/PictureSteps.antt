@@ -12,7 +12,7 @@ use Rattle.miette_picture_rules.proofs.Lists.{labels_of_all}
 use Rattle.miette_picture_rules.specs.views.Handling.{Handling, draws_plain, without_highlighter}
 use Rattle.miette_picture_rules.specs.rules.Snippets.{whole_drawing}
 use Rattle.miette_picture_rules.specs.rules.Text.{report_text}
-use Rattle.miette_outputs.proofs.AlwaysRead.{printed-reads}
+use Rattle.miette_picture_rules.proofs.AlwaysRead.{printed-reads}
 use Rattle.miette_outputs.specs.rules.Pictures.{draw_settings, over_input, settings_in, IsPicture, IsReadWhole}
 
 -- what the handler is made with

@@ -1,3 +1,4 @@
+pub mod AlwaysRead
 pub mod GroupRows
 pub mod Lists
 pub mod Outermost

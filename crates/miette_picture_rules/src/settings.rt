@@ -5,8 +5,8 @@ ghost use Rattle.miette_picture_rules.specs.rules.Settings.{default_settings, ic
 ghost use Rattle.miette_picture_rules.specs.views.Settings.{handler_settings};
 ghost use Rattle.miette_style.specs.rules.Themes.{theme_of};
 
-use miette_layout::options::LayoutOptions;
 use miette_protocol::protocol::Severity;
+use miette_snippet_rules::options::LayoutOptions;
 use miette_style::style::Style;
 use miette_style::theme::GraphicalTheme;
 use miette_wrap_rules::options::{WordSeparator, WordSplitter};

@@ -20,7 +20,7 @@ use Rattle.miette_narrated.specs.rules.PossibleAnswers as told
 use Rattle.miette_narrated.specs.rules.Report.{Answers, ReadAnswers, related_answers, first_answers, later_answers}
 use Rattle.miette_narrated.specs.rules.Report.{first_fails, later_fails, own_answer}
 use Rattle.miette_labels.proofs.OwnContexts.{order_all}
-use Rattle.miette_outputs.proofs.AlwaysRead.{accept_all}
+use Rattle.miette_picture_rules.proofs.AlwaysRead.{accept_all}
 
 -- ---- a narrated report: each label that is told is accepted, where the report is
 

@@ -39,7 +39,7 @@ use Rattle.miette_program.specs.declared.language.LanguageHighlighter.{LanguageH
 use Rattle.miette_program.specs.declared.option_words.Choice.{Choice}
 use Rattle.miette_program.specs.rules.LanguageRules.{TokensFollow}
 use Rattle.miette_program.proofs.HighlighterSteps.{happen-after, report-follows}
-use Rattle.miette_outputs.proofs.AlwaysRead.{printed-reads}
+use Rattle.miette_picture_rules.proofs.AlwaysRead.{printed-reads}
 use Rattle.miette_program.proofs.AlwaysTold.{told-accepted, brief-accepted, told-fixed}
 
 -- ---- what a handler of the library appends
