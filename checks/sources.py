@@ -294,6 +294,13 @@ def load_rt(command=None):
     return module
 
 
+def free_memory():
+    """The bytes of memory that nothing uses."""
+    with open("/proc/meminfo", encoding="ascii") as told:
+        found = re.search(r"(?m)^MemAvailable: *(\d+) kB", told.read())
+    return 1024 * int(found[1]) if found else 0
+
+
 def load_once():
     """The same for a run during which no text changes: it reads each crate once.
 
