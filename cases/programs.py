@@ -13,7 +13,7 @@ SHOWN = 5
 # the programs that read a report or a source, and the status of each where memory or a device fails
 STATUS = {"draw": 1, "job": 1, "bench": 1, "lint": 2, "show": 2}
 # those that are one program, `examples`, whose first word names one of them
-EXAMPLES = ("typos", "confcheck", "calc", "testdiff", "minilisp", "breaks")
+EXAMPLES = ("confcheck", "calc", "testdiff", "minilisp", "breaks")
 # no run meets more growths of memory than these
 MOST_GROWTHS = 20000
 

@@ -1,4 +1,4 @@
-//! Six examples in one program, whose first word names one: `examples confcheck settings.toml`. Each takes the words
+//! Five examples in one program, whose first word names one: `examples confcheck settings.toml`. Each takes the words
 //! after its name, and could be a program of its own.
 #![tactic(auto)]
 
@@ -8,7 +8,6 @@ mod confcheck;
 mod minilisp;
 mod reading;
 mod testdiff;
-mod typos;
 
 use std::io::Eprint;
 use std::process::ExitCode;
@@ -26,12 +25,9 @@ fn main(rt: HostRuntime) -> ExitCode {
         "confcheck" => confcheck::main(&rt, words),
         "minilisp" => minilisp::main(&rt, words),
         "testdiff" => testdiff::main(&rt, words),
-        "typos" => typos::main(&rt, words),
         _ => fail(
             &rt,
-            io::Error::other(
-                "usage: examples breaks|calc|confcheck|minilisp|testdiff|typos WORDS..",
-            ),
+            io::Error::other("usage: examples breaks|calc|confcheck|minilisp|testdiff WORDS.."),
         ),
     }
 }

@@ -2,6 +2,7 @@
 //! their text. This crate names what its users need from the layers below.
 #![tactic(auto)]
 
+pub mod handlers;
 pub mod host;
 pub mod input;
 pub mod laws;
@@ -14,10 +15,9 @@ pub mod source_text;
 pub mod terminal;
 
 pub use miette_fixes::fix;
-pub use miette_handlers::handlers;
-pub use miette_handlers::handlers::ReportHandler as EyreContext;
 pub use miette_highlight::highlight;
 pub use miette_protocol::{diagnostic, error, protocol, source};
 pub use miette_text::{style, theme, wrap};
 pub use miette_tree::report::{Report as ErrReport, Report as Error};
+pub use miette_tree::report_handler::ReportHandler as EyreContext;
 pub use miette_tree::{bail, diagnostic, ensure, miette, report};

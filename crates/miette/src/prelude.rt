@@ -1,5 +1,8 @@
 //! The names that most programs use: `use miette::prelude::*;`.
 
+pub use crate::handlers::{
+    BriefReportHandler, GraphicalReportHandler, JSONReportHandler, ReportHandler,
+};
 pub use crate::host::Host;
 pub use crate::input::{input_name, read_text};
 pub use crate::options::{MietteHandlerOpts, Terminal};
@@ -11,9 +14,6 @@ pub use crate::reporter::{Form, Reporter, RunWords};
 pub use crate::source_text::SourceText;
 pub use crate::terminal::{Stream, Streams};
 pub use miette_fixes::fix::{Applicability, Edit, Fix};
-pub use miette_handlers::handlers::{
-    BriefReportHandler, GraphicalReportHandler, JSONReportHandler, ReportHandler,
-};
 pub use miette_protocol::diagnostic::MietteDiagnostic;
 pub use miette_protocol::protocol::{Diagnostic, LabeledSpan, Severity, SourceSpan};
 pub use miette_protocol::source::{NamedSource, SourceCode};

@@ -10,9 +10,9 @@ ghost use Rattle.miette.specs.rules.Options.{no_options};
 ghost use Rattle.miette.specs.rules.Printing.{IsPrinted, MayRefuse, WritesOne, unprinted_row};
 ghost use Rattle.miette.specs.views.Handler.{GivesByCalls};
 
+use crate::handlers::ReportHandler;
 use crate::options::MietteHandlerOpts;
 use crate::terminal::{Lookup, Stream, Streams, detect};
-use miette_handlers::handlers::ReportHandler;
 use miette_highlight::highlight::{BlankHighlighter, Highlighter};
 use miette_protocol::error::RenderError;
 use miette_protocol::protocol::Diagnostic;

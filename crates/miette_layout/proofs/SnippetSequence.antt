@@ -46,9 +46,9 @@ use Rattle.miette_labels.proofs.NoFailures.{some_none}
 use Rattle.miette_layout.proofs.PrimaryOfReads.{framed_place, place_is, unread_fails}
 use Rattle.miette_labels.proofs.LabelEnds.{placed_drawn}
 use Rattle.miette_labels.proofs.SourceEnd.{shows_around, told_is}
-use Rattle.miette_drawing.proofs.HighlightedPieces.{snippets_plain, calls_plain}
+use Rattle.miette_layout.proofs.HighlightedPieces.{snippets_plain, calls_plain}
 use Rattle.miette_labels.specs.views.Sweeping.{AreSorted}
-use Rattle.miette_drawing.proofs.ReadRows.{placed_sorted, contents_body, contents_texts, contents_texts_are}
+use Rattle.miette_layout.proofs.ReadRows.{placed_sorted, contents_body, contents_texts, contents_texts_are}
 use Rattle.miette_snippet_rules.proofs.RowTokens.{told_rows-append}
 use Rattle.miette_snippet_rules.proofs.NoPieces.{none_have}
 use Rattle.miette_labels.proofs.OwnContexts.{own_ordered}

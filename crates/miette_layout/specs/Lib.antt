@@ -1,1 +1,2 @@
 pub mod views
+pub mod steps

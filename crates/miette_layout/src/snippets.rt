@@ -12,7 +12,7 @@ ghost use Rattle.miette_label_rules.specs.rules.Groups.{in_order};
 ghost use Rattle.miette_snippet_rules.specs.rules.Highlighting.{leaves_plain};
 
 use crate::ends::asks_for_end;
-use miette_drawing::snippet::{Drawing, Snippet, SweepPosition, push_snippet};
+use crate::snippet::{Drawing, Snippet, SweepPosition, push_snippet};
 use miette_folds::spreads::spreads;
 use miette_frames::frame::{Frame, push_refused_row};
 use miette_highlight::highlight::Highlighter;

@@ -6,7 +6,7 @@ ghost use Rattle.miette.specs.rules.Options.{no_options};
 
 mod choice;
 
-use miette_handlers::handlers::Form;
+use crate::handlers::Form;
 use miette_highlight::highlight::Highlighter;
 use miette_picture_rules::settings::Wrapping;
 use miette_snippet_rules::options::LayoutOptions;

@@ -4,10 +4,10 @@ ghost use Rattle.std.specs.Prelude.{IfOk};
 ghost use Rattle.miette.specs.rules.Choice.{IsChosen};
 ghost use Rattle.miette.specs.rules.Options.{no_options};
 
-use crate::options::builder::MietteHandlerOpts;
-use miette_handlers::handlers::{
+use crate::handlers::{
     BriefReportHandler, GraphicalReportHandler, NarratableReportHandler, ReportHandler,
 };
+use crate::options::builder::MietteHandlerOpts;
 use miette_highlight::highlight::Highlighter;
 use miette_protocol::error::RenderError;
 use miette_protocol::protocol::Diagnostic;

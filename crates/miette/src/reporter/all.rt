@@ -9,8 +9,8 @@ ghost use Rattle.miette.specs.rules.Reported.{AreReported, behaving};
 ghost use Rattle.miette.specs.rules.Run.{run_status};
 ghost use Rattle.miette.specs.views.Severities.{severity_of};
 
+use crate::handlers::ReportHandler;
 use crate::reporter::run::Reporter;
-use miette_handlers::handlers::ReportHandler;
 use miette_protocol::protocol::Diagnostic;
 use miette_protocol::source::SourceCode;
 use miette_tree::report::Report;

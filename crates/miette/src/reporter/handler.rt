@@ -3,9 +3,9 @@
 ghost use Rattle.std.specs.Prelude.{IfOk};
 ghost use Rattle.miette.specs.views.FormHandler.{IsChosenInForm};
 
+use crate::handlers::{JSONReportHandler, ReportHandler};
 use crate::options::{MietteHandler, MietteHandlerOpts};
 use crate::reporter::form::Form;
-use miette_handlers::handlers::{JSONReportHandler, ReportHandler};
 use miette_highlight::highlight::{BlankHighlighter, Highlighter};
 use miette_protocol::error::RenderError;
 use miette_protocol::protocol::Diagnostic;

@@ -15,11 +15,11 @@ ghost use Rattle.miette.specs.rules.Printing.{WritesOne, unprinted_row};
 ghost use Rattle.miette.specs.rules.Reported.{IsReported, behaving};
 ghost use Rattle.miette.specs.rules.Run.{EndsBy, new_run, run_status};
 
+use crate::handlers::ReportHandler;
 use crate::print::{Outputs, PrintError, tell};
 use crate::reporter::counts::Counts;
 use crate::reporter::form::Form;
 use crate::reporter::handler::FormHandler;
-use miette_handlers::handlers::ReportHandler;
 use miette_protocol::protocol::Diagnostic;
 use miette_protocol::source::SourceCode;
 use miette_tree::report::Report;

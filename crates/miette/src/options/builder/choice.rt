@@ -8,11 +8,9 @@ ghost use Rattle.miette.specs.rules.Choice.{chosen_line_columns, chosen_urls, ch
 ghost use Rattle.miette.specs.rules.Choice.{coloured_styles, fitting_theme, is_graphical, narration_settings};
 ghost use Rattle.miette.specs.rules.Choice.{picture_settings, takes_colours};
 
+use crate::handlers::{BriefReportHandler, GraphicalReportHandler, NarratableReportHandler};
 use crate::options::builder::{MietteHandlerOpts, RgbColors};
 use crate::options::handler::MietteHandler;
-use miette_handlers::handlers::{
-    BriefReportHandler, GraphicalReportHandler, NarratableReportHandler,
-};
 use miette_highlight::highlight::Highlighter;
 use miette_picture_rules::settings::{Settings, UrlMode};
 use miette_snippet_rules::options::LayoutOptions;

@@ -18,7 +18,7 @@ use Rattle.miette_labels.specs.views.Placing.{placed_of, placed_from}
 use Rattle.miette_labels.specs.views.Primary.{PointsTo}
 use Rattle.miette_labels.proofs.GroupsOfReads.{are_grouped}
 use Rattle.miette_labels.proofs.KnownLabels.{read_known, read_last}
-use Rattle.miette_drawing.proofs.ReadRows.{contents_texts}
+use Rattle.miette_layout.proofs.ReadRows.{contents_texts}
 use Rattle.miette_highlight.specs.rules.HighlighterCalls.{Call, Leads, restarted}
 use Rattle.miette_labels.proofs.GroupsOfReads.{reads_rise}
 use Rattle.miette_folds.proofs.LineNumbers.{are_numbered}
