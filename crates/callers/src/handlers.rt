@@ -12,11 +12,11 @@ ghost use Rattle.callers.specs.Known.{warning_tree};
 
 use miette::diagnostic::MietteDiagnostic;
 use miette::error::RenderError;
-use miette::handlers::{GraphicalReportHandler, ReportHandler};
 use miette::protocol::Diagnostic;
 use miette::report::{OwnedSource, Report};
 use miette::source::SourceCode;
 use miette::theme::GraphicalTheme;
+use miette_handlers::handlers::{GraphicalReportHandler, ReportHandler};
 use miette_picture_laws::laws::{
     number_rows_law, only_law, plain_law, shown_lines_law, themes_law,
 };

@@ -37,7 +37,7 @@ fn run<R: Env + Files + Print + AllocGlobal>(rt: &R) -> Result<()> {
     rt.write_all(fixed.as_slice()).into_diagnostic(alloc)
 }
 
-/// Whether the file is to be mended, and its name.
+/// Whether the file is to be mended, and its name, by the words after the program's.
 fn words_of(mut words: Args) -> (bool, Option<String>) {
     let first = words.nth(1);
     if first.as_deref() == Some("--fix") {
