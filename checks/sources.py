@@ -33,6 +33,14 @@ def dependencies():
     return {name: [it for it in uses if it in found] for name, uses in found.items()}
 
 
+def below(uses, name):
+    """The libraries that a crate stands on, lowest first."""
+    found = []
+    for it in uses[name]:
+        found += [low for low in [*below(uses, it), it] if low not in found]
+    return found
+
+
 def library():
     """The crates of the library."""
     return [it for it in dependencies() if it.startswith("miette")]
