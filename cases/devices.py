@@ -57,6 +57,7 @@ LABELLED_JSON = (
     '{"message": "漢","severity": "error","causes": [],"filename": "","labels": [{"label": "x","span": '
     '{"offset": 2,"length": 1}}],"related": []}'
 )
+MESSAGE = '{"message":"%s","level":"error","spans":[],"children":[]}'
 MESSAGE_M = '{"level": "error","message": {"text": "m"}}'
 # words, input, status, text
 RUNS = [
@@ -74,14 +75,13 @@ RUNS = [
     (["job", "--json"], LABELLED, 0, LABELLED_JSON),
     (["job", "--debug"], LABELLED, 0, LABELLED_DEBUG),
     (["bench", "2", "--narrated"], SMALL, 0, "33\n"),
-    (["show", "--theme", "unicode_nocolor"], '{"message":"漢","level":"error"}', 1, "  × 漢\n\n"),
+    (["show", "--theme", "unicode_nocolor"], MESSAGE % "漢", 1, "  × 漢\n\n"),
     (["show", "--brief"], '{ "comments": [{"message": "m"}]}', 0, "warning: m\nnote: caused by: :0:0\n\n"),
     (["show", "--sarif"], "", 0, LOG % ("show", "")),
-    (["show", "--sarif"], '{"message":"m","level":"error"}', 1, LOG % ("show", MESSAGE_M)),
-    (["show", "--tool", "a", "--lsp"], '{"message":"m"}', 0, "[]"),
+    (["show", "--tool", "a", "--lsp"], MESSAGE % "m", 1, "[]"),
 ]
 LINT_USAGE = "usage: lint [--brief | --github | --fix | --diff | --sarif [--tool TOOL]] NAME WIDTH | --lsp WIDTH\n"
-SHOW_USAGE = "usage: show [--from auto|rustc|gcc|sarif|shellcheck] [--root DIR] [--fix | OPTIONS]\n"
+SHOW_USAGE = "usage: show [--from auto|rustc|gcc|sarif|shellcheck] [--root DIR] [--fix [--broken-code] | OPTIONS]\n"
 # words that are refused, status, row
 REFUSED = [
     (["draw"], "usage: draw NAME OFFSET LENGTH LABEL MESSAGE\n"),
@@ -108,6 +108,7 @@ SILENT = [
 PASSED = [
     (["show"], "chatter", 0, "chatter"),
     (["show"], 'a\n{"\nb', 3, 'a\nshow: row 2: no message that can be read\n{"\nb'),
+    (["show"], 'a\n{"reason":"build-finished","success":false}\nb', 1, "a\nshow: row 2: the build failed\nb"),
 ]
 
 

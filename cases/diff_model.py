@@ -1,5 +1,5 @@
 """diff_model.py: a model of the rules of what a fix changes and of its picture (docs/RULES.md, 'What a fix changes',
-'Fixes in pictures'), made without the programs.
+'Fixes in the report'), made without the programs.
 
 It draws the rows below a fix's message: frames of unchanged, removed and added lines, rows of marks where such lines
 look alike, lines that are cut, in colours too, or the one row of a fix that can't be applied. fix_worked.py has

@@ -2,7 +2,7 @@
 made without the programs: each diagnostic is put in rustc's form, of which readers_model.py makes the report."""
 import re
 
-from readers_model import member, objects, report_of, text
+from readers_model import made_of, member, objects, text
 
 ERRORS = ["error", "fatal error", "internal compiler error", "sorry, unimplemented", "permerror"]
 LEVELS = {**{it: "error" for it in ERRORS}, "warning": "warning", "pedwarn": "warning"}
@@ -97,5 +97,5 @@ def reports_of(value, files):
     made = []
     for it in value:
         url = member(it, "option_url", str)
-        made.append({**report_of(as_rustc(it, files), files), **({} if url is None else {"url": url})})
+        made.append({**made_of(as_rustc(it, files), files), **({} if url is None else {"url": url})})
     return made

@@ -76,20 +76,27 @@ def fixes_of(found):
 
 
 def fixed(found, data):
-    """Which findings are mended, and the text then."""
+    """The fixes that are taken, and the text after them."""
     took, text = taken(data, fixes_of(found))
-    mended = [edits for edits, is_taken in zip(fixes_of(found), took) if is_taken]
-    return mended, text
+    made = [edits for edits, is_taken in zip(fixes_of(found), took) if is_taken]
+    return made, text
+
+
+def mended(data, width):
+    """How many findings are gone once all that is proposed is done, of how many."""
+    found = findings(data, width)
+    _, text = fixed(found, data)
+    return f"{len(found) - len(findings(text, width))} of {len(found)} findings"
 
 
 def diff(data, name, width):
     """What `lint --diff` prints, and its status."""
     found = findings(data, width)
-    mended, _ = fixed(found, data)
+    made, _ = fixed(found, data)
     rows = picture(found, data, name, width)
     if found:
-        edits = [it for one in mended for it in one]
-        rows += [f"  fix: {len(mended)} of {len(found)} findings"]
+        edits = [it for one in made for it in one]
+        rows += [f"  fix: {mended(data, width)}"]
         rows += fix_rows(edits, data, name, Settings(1, TAB, width)) if edits else []
     return text_of(rows), 1 if found else 0
 

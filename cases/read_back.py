@@ -82,6 +82,8 @@ class Kept:
     def __init__(self, it, files, artifacts):
         self.it, self.files, self.artifacts = it, files, artifacts
         self.settled, self.offers, self.lost = Settled(files), [], []
+        # the files that are told as a whole: by the result's own location, and by any of which nothing is said
+        self.wholes, self.bare = [], []
 
     def name(self, source):
         return name_of(self.artifacts.located(source)["uri"])
@@ -93,12 +95,19 @@ class Kept:
         if not source and rows:
             self.settled.add(Told(rows, None))
         elif source and not stretch:
-            self.settled.add(Told([": ".join([self.name(source), *rows])], None))
+            self.tell_whole(self.name(source), rows, primary)
         elif source:
             start, end = stretch
             span = {"file_name": self.name(source), "byte_start": start.offset, "byte_end": end.offset}
             place = {"line_start": start.line + 1, "column_start": start.column + 1}
             self.settled.add(Told(rows, {**span, **place}, True, primary))
+
+    def tell_whole(self, name, rows, is_own):
+        """A file as a whole: what is said of it is told by its name, the name of another one after all else."""
+        self.wholes += [name] if is_own else []
+        self.bare += [] if rows else [name]
+        for row in rows:
+            self.settled.add(Told([f"{name}: {row}"], None))
 
     def tell_all(self):
         groups = groups_of(self.it.report, self.it.source, self.it.further)
@@ -106,12 +115,15 @@ class Kept:
         if primary:
             self.tell(*primary, True)
         elif self.it.source:
-            self.settled.tell(self.name(self.it.source))
+            self.tell_whole(self.name(self.it.source), [], True)
         causes = [group for cause, own, more in self.it.causes for group in groups_of(cause, own, more)]
         for source, given in groups + causes:
             for label in sorted(given, key=lambda it: it["offset"]):
                 if primary is None or label is not primary[1]:
                     self.tell(source, label)
+        for name in self.bare:
+            if name not in self.settled.lists[:1]:
+                self.settled.tell(name)
 
     def propose(self, source, fix):
         """A fix that can be applied is proposed over its source, or is help; another one is a row of the message."""
@@ -132,20 +144,28 @@ class Kept:
             for fix in cause.get("fixes") or []:
                 self.propose(source, fix)
 
+    def named(self, main):
+        """The name of a report's source, as JSON tells it: without labels there is none."""
+        return {} if main is None else {"filename": main if self.settled.lists else ""}
+
     def report(self, message, rules):
         """The report, as JSON tells it."""
         self.tell_all()
         self.propose_all()
         settled, given = self.settled, self.it.report
-        main = settled.lists[0] if settled.lists else None
+        whole = next((it for it in self.wholes if it in self.files), None)
+        main = settled.lists[0] if settled.lists else whole
+        # over a file as a whole only proposals are the report's own of which all is in that file
+        alone = [it for it in self.offers if settled.lists or {name for name, *_ in it[2]} == {main}]
+        apart = self.offers if settled.lists else [it for it in self.offers if it not in alone]
         code = given.get("code") or None
         made = {"message": message, "severity": SEVERITIES.get(given.get("severity"), "error"), "causes": settled.texts}
         made.update({"code": code} if code else {}, **({"url": rules[code]} if code and rules[code] else {}))
-        made.update({"help": "\n".join(self.lost)} if self.lost else {}, **({"filename": main} if main else {}))
+        made.update({"help": "\n".join(self.lost)} if self.lost else {}, **self.named(main))
         further = [{"filename": it, "labels": told(settled, at)} for at, it in enumerate(settled.lists) if at]
-        own = [fix for offer in self.offers if main for fix in fixes(offer, main, offer[0])]
+        own = [fix for offer in alone if main for fix in fixes(offer, main, offer[0])]
         made.update(labels=told(settled, 0), **({"snippets": further} if further else {}), **proposed(own))
-        more = [it for offer in self.offers for it in advice(offer, main, self.files)]
+        more = [it for offer in apart for it in advice(offer, main if settled.lists else None, self.files)]
         return {**made, "related": [advised(it) for it in more]}
 
 

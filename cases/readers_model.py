@@ -38,16 +38,37 @@ def primary_first(spans):
     return sorted(spans, key=lambda it: member(it, "is_primary", bool) is not True)
 
 
-def standing(span, files):
-    """The span, or the first call of a macro around it whose file is there."""
-    at = span
-    for _ in range(64):
-        if at is None or text(at, "file_name") in files:
-            break
-        at = member(member(at, "expansion", dict) or {}, "span", dict)
-    else:
-        at = None
-    return span if at is None else at
+def is_in_package(name, row):
+    """Whether some of the last parts of the folder of a row's package are the first parts of a file's name."""
+    manifest = text(row, "manifest_path")
+    if not manifest.endswith("/Cargo.toml"):
+        return False
+    folder, parts = manifest[: -len("/Cargo.toml")].split("/"), name.split("/")[:-1]
+    counts = range(1, min(len(folder), len(parts)) + 1)
+    return any(folder[-count:] == parts[:count] and parts[:count] != [""] for count in counts)
+
+
+class Build(NamedTuple):
+    """The row that is read, and the texts of files by their names."""
+
+    row: dict
+    files: dict
+
+    def standing(self, span):
+        """The first span that is the user's own, of this one and the calls of macros around it."""
+        around, at = [], span
+        while at is not None and len(around) < 64:
+            around.append(at)
+            at = member(member(at, "expansion", dict) or {}, "span", dict)
+        there = [it for it in around if text(it, "file_name") in self.files]
+        packaged = [it for it in there if is_in_package(text(it, "file_name"), self.row)]
+        relative = [it for it in there if not text(it, "file_name").startswith("/")]
+        return [*packaged, *relative, *there, span][0]
+
+    def moved(self, span):
+        """The place, without a text, of a span that stands elsewhere though its file is there."""
+        name = text(span, "file_name")
+        return [Told([], span)] if name in self.files and text(self.standing(span), "file_name") != name else []
 
 
 def stretch(span):
@@ -55,7 +76,7 @@ def stretch(span):
     return None if start is None or end is None else (start, end)
 
 
-def called(span, files):
+def called(span, build):
     """What is told at the outermost call of the macro that a span stands in."""
     at = member(span, "expansion", dict)
     if at is None:
@@ -65,7 +86,7 @@ def called(span, files):
         if outer is None:
             break
         at = outer
-    call, name, inner = member(at, "span", dict), text(at, "macro_decl_name"), standing(span, files)
+    call, name, inner = member(at, "span", dict), text(at, "macro_decl_name"), build.standing(span)
     begun = [said for front, said in CALLS.items() if name.startswith(front)]
     said = begun[0] if begun else "in this macro invocation" if name.endswith("!") else None
     if call is None or said is None:
@@ -76,33 +97,35 @@ def called(span, files):
     return [Told([said], call)]
 
 
-def told_by(span, files, rows=(), own=False):
+def told_by(span, build, rows=(), own=False):
     label = [text(span, "label")] if text(span, "label") else []
-    return Told([*rows, *label], standing(span, files), member(span, "is_primary", bool) is True, own)
+    return Told([*rows, *label], build.standing(span), member(span, "is_primary", bool) is True, own)
 
 
 def is_edit(span):
     return member(span, "suggested_replacement", str) is not None
 
 
-def child_told(child, files):
+def child_told(child, build):
     spans = primary_first(objects(child, "spans"))
     said, is_help = text(child, "message"), text(child, "level") == "help"
     if any(map(is_edit, spans)):
-        return [told_by(it, files) for it in spans if not is_edit(it) or text(it, "label")]
+        return [told_by(it, build) for it in spans if not is_edit(it) or text(it, "label")]
     rows = [[("help: " if is_help else "") + said], *([[]] * len(spans))]
     if spans:
-        return [told_by(it, files, row) for it, row in zip(spans, rows)]
+        return [told_by(it, build, row) for it, row in zip(spans, rows)]
     return [] if is_help else [Told([said], None)]
 
 
-def all_told(message, files):
+def all_told(message, build):
     spans = primary_first(objects(message, "spans"))
-    told = [told_by(it, files, own=True) for it in spans]
+    told = [told_by(it, build, own=True) for it in spans]
     for it in spans:
-        told += called(it, files)
+        told += build.moved(it)
+    for it in spans:
+        told += called(it, build)
     for child in objects(message, "children"):
-        told += child_told(child, files)
+        told += child_told(child, build)
     return told
 
 
@@ -235,6 +258,17 @@ class NoMessage(Exception):
     """The row is to be a message, but has none."""
 
 
+def code_of(message):
+    return member(member(message, "code", object) or {}, "code", str)
+
+
+def is_closing(message):
+    """Whether a message only speaks of those before it."""
+    said, bare = message["message"], not objects(message, "spans") and not objects(message, "children")
+    counts = said.startswith("aborting due to ") or said.endswith((" warning emitted", " warnings emitted"))
+    return text(message, "level") == "failure-note" or (bare and code_of(message) is None and counts)
+
+
 def diagnostic_in(row):
     """The diagnostic in a row, or None in another row of cargo or rustc."""
     reason = member(row, "reason", str)
@@ -253,14 +287,22 @@ def severity(level):
     return "error" if level in errors else "warning" if level == "warning" else "advice"
 
 
-def helps(message, settled):
+def help_row(child):
+    """The message of a help or a proposal, with the texts of its edits that are short."""
+    texts = [text(it, "suggested_replacement") for it in objects(child, "spans") if is_edit(it)]
+    told = ", ".join(f"`{it}`" for it in texts if it and "\n" not in it)
+    return text(child, "message") + (": " + told if told else "")
+
+
+def helps(message, settled, row_of):
+    """What helps, each row once, as `row_of` tells a help or a proposal that can't be found."""
     rows = []
     for child in objects(message, "children"):
         spans = objects(child, "spans")
         edits = list(filter(is_edit, spans))
         lost = edits and not all(map(settled.found, edits))
-        if (lost or (not spans and text(child, "level") == "help")) and text(child, "message") not in rows:
-            rows.append(text(child, "message"))
+        if (lost or (not spans and text(child, "level") == "help")) and row_of(child) not in rows:
+            rows.append(row_of(child))
     return rows
 
 
@@ -271,16 +313,22 @@ def labels(settled, number):
 
 
 def report_of(row, files):
-    """The report of a row over these files; None of another row of cargo or rustc."""
+    """The report of a row of rustc over these files; None of its words at its end, and of another row."""
+    message = diagnostic_in(row)
+    return None if message is None or is_closing(message) else made_of(row, files, help_row)
+
+
+def made_of(row, files, row_of=lambda child: text(child, "message")):
+    """The report of a row over these files, and of one that is told in rustc's form; None of another row."""
     message = diagnostic_in(row)
     if message is None:
         return None
     settled = Settled(files)
-    for told in all_told(message, files):
+    for told in all_told(message, Build(row, files)):
         settled.add(told)
     main = settled.lists[0] if settled.lists else None
     report = {"message": message["message"], "severity": severity(text(message, "level"))}
-    code = member(member(message, "code", object) or {}, "code", str)
+    code = code_of(message)
     report.update({"code": code} if code is not None else {})
     if main is not None:
         report.update(source=source(main, files), labels=labels(settled, 0))
@@ -290,5 +338,5 @@ def report_of(row, files):
     report["fixes"] = [fix for offer in made if main is not None for fix in fixes(offer, main, offer[0])]
     report["related"] = [it for offer in made for it in advice(offer, main, files)]
     report["causes"] = settled.texts
-    rows = helps(message, settled)
+    rows = helps(message, settled, row_of)
     return {**report, **({"help": "\n".join(rows)} if rows else {})}

@@ -17,12 +17,14 @@ from sarif_reader_model import name_of
 
 FOLDER = os.path.join(HERE, "sarif_read")
 # the members of a run and of a result that are read
-READ = ("tool", "columnKind", "newlineSequences", "artifacts", "originalUriBaseIds", "results")
+READ = ("tool", "columnKind", "newlineSequences", "artifacts", "originalUriBaseIds", "results", "invocations")
 # the logs made by hand
-LOGS = ("places", "messages", "flows", "newlines")
+LOGS = ("places", "messages", "flows", "newlines", "rules", "hidden", "wholes")
 URIS = ["wide.c", "line%20ends.txt", "file:wide.c", "file:///gone.c", "gone%2", "%e6%bc%a2", "short.c", "", "x://y", 7]
 BAD = [b'{"runs":{}}\n', b'{"version":"2.1.0"}\n', b'{"runs":[]\n', b'{"runs":[],}\n', b'{"runs":[]} x\n']
+BAD += [b'{"version":"1.0.0","runs":[{"results":[{"message":"m"}]}]}\n', b'{"version":"","runs":[]}\n']
 OTHER = [b'{"runs":[]}\n', b'{"runs":[5,{"results":{}}]}\n', b' {"runs":[]}\n', b'{ "runs": []}\n', b"2 warnings.\n"]
+OTHER += [b'{"version":"2.1","runs":[]}\n', b'{"version":1,"runs":[]}\n']
 
 
 def log(name):
@@ -162,16 +164,20 @@ def other_value(dice, key, old):
                         [0, 1, 2, 3, 5, 10**6, 2**63, 2**64 - 1, "7", -1, 1.5, None, *near]),
         "uri": URIS,
         "helpUri": ["", "https://x/y", 5],
-        **dict.fromkeys(("id", "ruleId"), ["W1", "W2", "none", "", 5]),
+        **dict.fromkeys(("id", "ruleId"), ["W1", "W2", "W1/a", "W2/b/c", "none", "none/", "", "/", 5]),
+        "status": ["accepted", "rejected", "underReview", "", 5],
+        "baselineState": ["absent", "new", "unchanged", "", 5],
+        "toolComponent": [{}, {"index": 0}, {"index": 1}, {"index": 9}, {"name": "B"}, "x", None],
         "text": ["", "here", "two\nrows", "{{a}}}} {0} }{{{", "}}", "{1}[{0}](1){{", "\\\\[\\[a\\](b)[c](d e)](f)", None, 5],
         "uriBaseId": ["ROOT", "SOURCES", "LOOP", "none", "", 5],
         "arguments": [[], ["x"], ["{0}", "[a](b)"], [5, "y"], "z", None],
         "level": ["error", "warning", "note", "none", "loud", 3],
-        "kind": ["fail", "pass", "open", "", 3],
+        "kind": ["fail", "pass", "notApplicable", "open", "", 3],
         "newlineSequences": [[], ["\n"], ["\r", "\r\n"], ["\u2028", "", 5], ["e", "\n\n"], [*"\r\n\x85e"], "\n", None],
         "columnKind": ["utf16CodeUnits", "unicodeCodePoints", "", 3],
         **dict.fromkeys(("locations", "relatedLocations", "rules", "artifacts", "results", "fixes", "artifactChanges",
-                         "replacements", "codeFlows", "threadFlows"), [[], None, "x", [5], [{}], {}]),
+                         "replacements", "codeFlows", "threadFlows", "extensions", "suppressions", "invocations",
+                         "toolExecutionNotifications"), [[], None, "x", [5], [{}], {}]),
     }
     return dice.choice(given.get(key, [None, 7, "s", [], {}]))
 

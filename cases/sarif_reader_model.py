@@ -7,7 +7,7 @@ from readers_model import Settled, Told, advice, fixes, labels, member, objects,
 
 
 class NoReports(Exception):
-    """It has no list of runs."""
+    """It has no list of runs, or tells another version."""
 
 
 def name_of(uri):
@@ -95,8 +95,11 @@ def span(name, region, run):
 
 class Run:
     def __init__(self, run, files):
-        driver = member(member(run, "tool", dict) or {}, "driver", dict) or {}
-        self.files, self.rules, self.artifacts = files, objects(driver, "rules"), objects(run, "artifacts")
+        tool = member(run, "tool", dict) or {}
+        parts = [member(tool, "driver", dict) or {}, *objects(tool, "extensions")]
+        # the rules of the driver, and of each extension
+        self.rules = [objects(it, "rules") for it in parts]
+        self.files, self.artifacts = files, objects(run, "artifacts")
         self.bases = member(run, "originalUriBaseIds", dict) or {}
         wide = text(run, "columnKind") == "utf16CodeUnits"
         listed = [it.encode() for it in member(run, "newlineSequences", list) or [] if isinstance(it, str) and it]
@@ -106,10 +109,21 @@ class Run:
     def rule(self, result):
         named = member(result, "rule", dict) or {}
         index = first(member(result, "ruleIndex", int), member(named, "index", int))
-        if index is not None and member(named, "toolComponent", dict) is None and index < len(self.rules):
-            return self.rules[index]
-        wanted = rule_id(result)
-        return next((it for it in self.rules if text(it, "id") == wanted), None)
+        part = member(named, "toolComponent", dict)
+        at = 0 if part is None else first(member(part, "index", int), len(self.rules)) + 1
+        found = self.rules[at] if at < len(self.rules) else []
+        if index is not None and index < len(found):
+            return found[index]
+        return self.rule_by_id(rule_id(result))
+
+    def rule_by_id(self, wanted):
+        """The first rule of an id, else of what stands in front of its last `/`, and so on."""
+        while wanted is not None:
+            for it in (rule for rules in self.rules for rule in rules):
+                if member(it, "id", str) == wanted:
+                    return it
+            wanted = wanted.rpartition("/")[0] if "/" in wanted else None
+        return None
 
     def level(self, result):
         said = member(result, "level", str)
@@ -136,11 +150,20 @@ class Run:
                 return name_of(full_uri(self.bases, it))
         return None
 
+    def whole(self, location):
+        """The name of the file of a location that has no region."""
+        physical = member(location, "physicalLocation", dict) or {}
+        region = member(physical, "region", dict) or {}
+        begun = any(member(region, key, int) is not None for key in ("startLine", "charOffset", "byteOffset"))
+        return None if begun else self.file(physical)
+
     def told(self, location, rows, primary, own):
         physical = member(location, "physicalLocation", dict) or {}
         name, region = self.file(physical), member(physical, "region", dict) or {}
         if name is None:
             return Told(rows, None, own=own)
+        if self.whole(location) is not None:
+            return Told([f"{name}: {it}" for it in rows], None, own=own)
         found = span(name, region, self)
         if member(region, "startLine", int) is None and "byte_start" not in found:
             return Told([": ".join([name, *rows])], None, own=own)
@@ -154,9 +177,21 @@ class Run:
                 said = message(location, strings)
                 yield self.told(location, [f"({number}) {said}" if said else f"({number})"], False, False)
 
+    def own_told(self, value, strings):
+        """What the `locations` of a result or of a notification tell."""
+        return [self.told(it, rows_of(it, strings), at == 0, True) for at, it in enumerate(objects(value, "locations"))]
+
+    def bare(self, locations, strings):
+        """The names of files that are told as a whole, of which nothing is said."""
+        return [it for it in map(self.whole, (it for it in locations if not rows_of(it, strings))) if it is not None]
+
+    def wholes(self, value):
+        """The names of files that the `locations` of a result or of a notification tell as a whole."""
+        return [it for it in map(self.whole, objects(value, "locations")) if it is not None]
+
     def all_told(self, result):
         strings = self.strings(result)
-        own = [self.told(it, rows_of(it, strings), at == 0, True) for at, it in enumerate(objects(result, "locations"))]
+        own = self.own_told(result, strings)
         related = [self.told(it, rows_of(it, strings), True, False) for it in objects(result, "relatedLocations")]
         threads = [it for flow in objects(result, "codeFlows") for it in objects(flow, "threadFlows")]
         return own + related + [step for it in threads for step in self.steps(it, strings)]
@@ -221,39 +256,89 @@ def words(texts):
 
 # ---- reports
 
+# the kinds of results that say that nothing is wrong
+PASSED = ("pass", "notApplicable")
+
+
+def counts(result):
+    """Whether a result gives a report."""
+    status = {first(member(it, "status", str), "accepted") for it in objects(result, "suppressions")}
+    hidden = status == {"accepted"} or text(result, "baselineState") == "absent"
+    return not hidden and text(result, "kind") not in PASSED
+
+
+def notices(run):
+    """The errors that a tool says of itself."""
+    for it in objects(run, "invocations"):
+        said = objects(it, "toolExecutionNotifications") + objects(it, "toolConfigurationNotifications")
+        yield from (notice for notice in said if text(notice, "level") == "error")
+
 
 def severity(level):
     return level if level in ("error", "warning") else "advice"
 
 
-def report(run, result, files):
+def over(made, telling, proposals, files):
+    """The report of what is said, told and proposed."""
+    told, wholes, bare = telling
     settled = Settled(files)
-    for told in run.all_told(result):
-        if told.rows or told.span is not None:
-            settled.add(told)
-    rule = run.rule(result) or {}
-    code, url = first(rule_id(result), member(rule, "id", str)), member(rule, "helpUri", str)
-    made = {"message": message(result, run.strings(result)) or "", "severity": severity(run.level(result))}
-    made.update({key: it for key, it in (("code", code), ("url", url)) if it is not None})
+    for it in told:
+        if it.rows or it.span is not None:
+            settled.add(it)
+    own = settled.lists[0] if settled.lists else next((it for it in wholes if it in files), None)
+    for name in bare:
+        if name not in settled.lists[:1]:
+            settled.add(Told([name], None, own=True))
+    if own is not None:
+        made.update(source=source(own, files))
     if settled.lists:
-        made.update(source=source(settled.lists[0], files), labels=labels(settled, 0))
+        made.update(labels=labels(settled, 0))
     further = list(enumerate(settled.lists))[1:]
     made["snippets"] = [{"source": source(name, files), "labels": labels(settled, at)} for at, name in further]
     offers, lost = [], []
-    for said, edits in run.proposals(result):
+    for said, edits in proposals:
         if edits and all(settled.found(it) for it, _ in edits):
             offers.append((said, None, [(*settled.found(it), new) for it, new in edits]))
         elif said and said not in lost:
             lost.append(said)
-    main = settled.lists[0] if settled.lists else None
-    made["fixes"] = [fix for it in offers if main is not None for fix in fixes(it, main, it[0])]
-    made["related"] = [more for it in offers for more in advice(it, main, files)]
+    # over a file as a whole only proposals are the report's own of which all is in that file
+    alone = [it for it in offers if settled.lists or {name for name, _, _ in it[2]} == {own}]
+    made["fixes"] = [fix for it in alone for fix in fixes(it, own, it[0])] if own is not None else []
+    apart = offers if settled.lists else [it for it in offers if it not in alone]
+    made["related"] = [more for it in apart for more in advice(it, own if settled.lists else None, files)]
     return {**made, "causes": settled.texts, **({"help": "\n".join(lost)} if lost else {})}
+
+
+def report(run, result, files):
+    """The report of a result."""
+    rule, strings = run.rule(result) or {}, run.strings(result)
+    code, url = first(rule_id(result), member(rule, "id", str)), member(rule, "helpUri", str)
+    made = {"message": message(result, strings) or "", "severity": severity(run.level(result))}
+    made.update({key: it for key, it in (("code", code), ("url", url)) if it is not None})
+    places = objects(result, "locations") + objects(result, "relatedLocations")
+    telling = run.all_told(result), run.wholes(result), run.bare(places, strings)
+    return over(made, telling, run.proposals(result), files)
+
+
+def notice_report(run, notice, files):
+    """The report of an error that a tool says of itself."""
+    ids = (member(member(notice, key, dict) or {}, "id", str) for key in ("descriptor", "associatedRule"))
+    code = first(*ids)
+    made = {"message": message(notice, {}) or "", "severity": "error", **({} if code is None else {"code": code})}
+    telling = run.own_told(notice, {}), run.wholes(notice), run.bare(objects(notice, "locations"), {})
+    return over(made, telling, [], files)
+
+
+def run_reports(value, files):
+    """The reports of a run."""
+    run = Run(value, files)
+    yield from (notice_report(run, it, files) for it in notices(value))
+    yield from (report(run, it, files) for it in objects(value, "results") if counts(it))
 
 
 def reports_of(value, files):
     """The reports of a log over these files."""
-    if member(value, "runs", list) is None:
+    version = member(value, "version", str)
+    if member(value, "runs", list) is None or not first(version, "2.1").startswith("2.1"):
         raise NoReports
-    runs = [(Run(it, files), objects(it, "results")) for it in objects(value, "runs")]
-    return [report(run, it, files) for run, results in runs for it in results]
+    return [it for run in objects(value, "runs") for it in run_reports(run, files)]

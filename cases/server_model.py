@@ -2,7 +2,7 @@
 for each message that it reads, and the status that it ends with."""
 import json
 
-from lint_model import findings
+from lint_model import findings, mended
 from model import TERMINATOR
 
 CODES = {"trailing": "trailing-blanks", "tab": "tab-after-space", "wider": "wide-line", "no": "final-terminator"}
@@ -117,7 +117,7 @@ def actions(uri, data, width, where):
             )
     if made:
         every = sorted((edit for _, edits in found for edit in edits), key=lambda it: (it.offset, it.length))
-        title = f"fix {len(every)} of {len(found)} findings"
+        title = f"fix {mended(data, width)}"
         changes = {"changes": {uri: text_edits(data, every)}}
         made.append({"title": title, "kind": "quickfix", "edit": changes})
     return made

@@ -2,7 +2,7 @@
 ShellCheck'), made without the programs: each comment is put in rustc's form, of which readers_model.py makes the
 report."""
 from gcc_model import said
-from readers_model import member, objects, report_of, text
+from readers_model import made_of, member, objects, text
 
 PAGE = "https://www.shellcheck.net/wiki/"
 
@@ -58,5 +58,5 @@ def reports_of(value, files):
     for it in comments:
         code = member(it, "code", int)
         url = {} if code is None else {"url": f"{PAGE}SC{code}"}
-        made.append({**report_of(as_rustc(it, files), files), **url})
+        made.append({**made_of(as_rustc(it, files), files), **url})
     return made

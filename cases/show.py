@@ -19,6 +19,7 @@ import tempfile
 from functools import partial
 
 import gcc_cases
+import rustc_cases
 import sarif_read_cases
 import shellcheck_cases
 import size_runs
@@ -27,7 +28,8 @@ from lsp_model import spelled_list
 from programs import HERE, counted, program, run, run_in_terminal
 from sarif_model import spelled_log
 from sarif_reader_model import name_of
-from show_model import is_error, parts_of, rows_of, shown_of, told_of
+from show_model import ALWAYS, MARK, has_place, is_error, left_out_note, note_of, parts_of, rows_of, shown_of
+from show_model import status_of, told_of, visible
 from tree_model import Page, whole_picture
 
 FOLDER = os.path.join(HERE, "rustc")
@@ -36,12 +38,40 @@ WORDS = ["--theme", "unicode_nocolor", "--links", "no", "--width", "120"]
 CHATTER = [b"   Compiling a v0.1.0\n", b"\n", b"{not json}\n", b"[1, 2]\n", b"\xff{\"\n", b" {\"message\":\"m\"}\n"]
 OTHER = [b'{"reason":"build-finished","success":true}\n', b'{"$message_type":"artifact","artifact":"a","emit":"b"}\n']
 BAD = [b'{"message":5}\n', b'{"\n', b'{"reason":"compiler-message"}\n', b'{"\xff":1}\n', b'{"message":"m"} x\n']
+# what other tools write for machines, which is none of the formats
+OTHERS = [
+    b'[{"file":"a.sh","line":1,"endLine":1,"column":6,"endColumn":8,"level":"info","code":2086,"message":"m"}]\n',
+    b'[{"cell":null,"code":"F401","filename":"a.py","location":{"column":8,"row":1},"message":"`os` imported"}]\n',
+    b'{"level":"error","message":"db down","ts":1}\n',
+    b'{"spans":[],"message":"no list of children"}\n{"kind":"error"}\n[{"kind":"error","locations":{}}]\n',
+    b'[{"kind":"error","locations":[],"message":"m"},{"kind":"error","message":"m"}]\n[[]]\n{}\n',
+]
+# and what is one of them
+FEW = [
+    b'[]\n[{"kind":"error","locations":[],"message":"m"}]\n',
+    b'{"$message_type":"diagnostic","message":"m"}\n{"spans":[],"children":[],"message":"m"}\n{"reason":"x"}\n',
+]
+# a build that failed, and rows that say nothing of one
+ENDS = [
+    b'{"reason":"build-finished","success":false}\n',
+    b'{"reason":"build-finished"}\n{"reason":"build-finished","success":0}\n{"reason":"x","success":false}\n',
+    b'{"$message_type":"build-finished","success":false}\n',
+]
+RESULT = {"message": {"text": "no place\nat all"}, "level": "warning"}
+# logs of tools that failed, of tools that didn't, and of what is no call
+FAILED = [
+    [{"invocations": [{"executionSuccessful": False}], "results": []}],
+    [{"results": [RESULT]}, {"invocations": [{}, 5, {"executionSuccessful": False}], "results": [RESULT]}],
+    [{"invocations": [{"executionSuccessful": True}, {"executionSuccessful": 0}, {}], "results": [RESULT]}],
+    [{"invocations": {"executionSuccessful": False}}, 7],
+]
 # the members of a message that are changed
 READ = ("message", "code", "level", "spans", "children")
 # what a run over many messages may take
 MANY = size_runs.Limits(size_runs.WIDE_STACK_KB, size_runs.WIDE_SPACE, 60)
 # a message as wide as two rows, with a code that is a link
 WIDE = [{"kind": "warning", "message": "a row of words " * 6, "option": "-Wa", "option_url": "https://x/y"}]
+WIDE[0]["locations"] = []
 XTERM = {"TERM": "xterm"}
 # variables, and the words that they stand for, in a terminal
 IN_TERMINAL = [
@@ -119,28 +149,26 @@ def recorded(name):
 
 def wanted(given, files, form):
     """Status, standard output and standard error, part by part, of what is read in a format."""
-    page, files = Page(120), {**files, **named_in(given)}
-    shown, notes, unread, error = [], [], False, False
+    page, files = Page(120), visible({**files, **named_in(given)})
+    shown, notes, verdict = [], [], []
     for number, part in parts_of(given):
-        text, passed, bad, grave = shown_of(part, files, lambda report: whole_picture(report, page), form)
+        text, passed, *told = shown_of(part, files, lambda report: whole_picture(report, page), form)
         shown.append(text)
-        notes += [f"show: row {number}: no message that can be read\n".encode()] if bad else []
-        notes.append(passed)
-        unread, error = unread or bad, error or grave
-    return 3 if unread else 1 if error else 0, b"".join(shown), b"".join(notes)
+        notes += [note_of(number, told[0], told[2]), passed]
+        verdict.append(told)
+    return status_of(verdict, form), b"".join(shown), b"".join(notes)
 
 
 def wanted_log(given, files, form, tool, spelled):
     """The same where one log of all reports is asked for."""
-    files, reports, notes, unread = {**files, **named_in(given)}, [], [], False
+    files, logged, notes, verdict = {**files, **named_in(given)}, [], [], []
     for number, part in parts_of(given):
-        told, passed, bad = told_of(part, files, form)
-        reports += told
-        notes += [f"show: row {number}: no message that can be read\n".encode()] if bad else []
-        notes.append(passed)
-        unread = unread or bad
-    error = any(map(is_error, reports))
-    return 3 if unread else 1 if error else 0, spelled(reports, tool).encode(), b"".join(notes)
+        told, passed, bad, failed = told_of(part, files, form)
+        left_out = [it for it in told if spelled is spelled_log and not has_place(it)]
+        logged += [it for it in told if it not in left_out]
+        notes += [note_of(number, bad, failed), passed, *(left_out_note(number, it) for it in left_out)]
+        verdict.append((bad, any(map(is_error, told)), failed))
+    return status_of(verdict, form), spelled(logged, tool).encode(), b"".join(notes)
 
 
 # ---- rows that are changed
@@ -212,6 +240,23 @@ def inputs(folder):
     yield "rows that are changed", hostile(random.Random(7), 1000), folder
     yield "both compilers, and a build's own rows", of_cargo("multi") + gcc_cases.recorded("leak"), FOLDER
     yield "nothing", b"", FOLDER
+    yield "what other tools write", b"".join(OTHERS), FOLDER
+    yield "little that is one of the formats", b"".join(FEW), FOLDER
+    yield "builds that fail or end", of_cargo("multi") + b"".join(ENDS), FOLDER
+    yield "control characters of a file", recorded("controls"), FOLDER
+    yield "rows after a byte order mark", MARK + recorded("borrow") + MARK + OTHER[0] + MARK + CHATTER[0], FOLDER
+    yield "an array after a byte order mark", MARK + b'[\n {"kind":"error","locations":[],"message":"m"}\n]\n', FOLDER
+    for order in ("utf-16-le", "utf-16-be"):
+        yield order, ("\ufeff" + OTHER[0].decode()).encode(order), FOLDER
+
+
+def logs_of_failures():
+    """Logs that say how the calls of their tools ended."""
+    for at, runs in enumerate(FAILED):
+        given = json.dumps({"version": "2.1.0", "runs": runs}).encode()
+        yield f"calls of tools, {at}", given, FOLDER
+        yield f"calls of tools, {at}, after a byte order mark", MARK + given, FOLDER
+    yield "no log", b"".join(CHATTER), FOLDER
 
 
 def told_apart(what, form, got, want):
@@ -243,7 +288,7 @@ def logged(folder, what, given, root, form):
 
 def words_tried():
     """Wrong words end with status 2 and say which are right, before anything is read."""
-    usage = b"usage: show [--from auto|rustc|gcc|sarif|shellcheck] [--root DIR] [--fix | OPTIONS]\n"
+    usage = b"usage: show [--from auto|rustc|gcc|sarif|shellcheck] [--root DIR] [--fix [--broken-code] | OPTIONS]\n"
     wrong = [["--from", "clang"], ["--root"], ["--from"], ["--width"], ["x"], ["--brief", "--root", "."]]
     wrong += [["--fix", "--brief"], ["--root", ".", "--fix", "x"], ["--fix", "--sarif"], ["--sarif", "--lsp"]]
     wrong += [["--sarif", "--tool"], ["--tool", "a"], ["--tool", "a", "--brief"], ["--sarif", "--width", "80"]]
@@ -252,7 +297,8 @@ def words_tried():
 
 def handlers_tried():
     """The words of `job` choose what reports look like."""
-    given = json.dumps({"message": "m", "level": "warning", "code": {"code": "c"}, "spans": [SPAN]}).encode()
+    told = {"message": "m", "level": "warning", "code": {"code": "c"}, "spans": [SPAN], "children": []}
+    given = json.dumps(told).encode()
     brief = run(["show", "--root", FOLDER, "--brief"], given)
     told = run(["show", "--root", FOLDER, "--json"], given)
     return [
@@ -307,7 +353,7 @@ def read_soon(stream, size):
 
 def stream_tried():
     """What is read is shown as soon as its last row has come, in one row or in many, also after one that is cut off."""
-    row, files = b'{"message":"m","level":"error"}\n', files_in(gcc_cases.FOLDER)
+    row, files = b'{"message":"m","level":"error","spans":[],"children":[]}\n', files_in(gcc_cases.FOLDER)
     rows = gcc_cases.formatted(gcc_cases.array_of("fatal")).encode() + b"\n"
     done, words = [], [program("show"), "--root", gcc_cases.FOLDER, *WORDS]
     with subprocess.Popen(words, stdin=subprocess.PIPE, stdout=subprocess.PIPE, stderr=subprocess.DEVNULL) as shown:
@@ -353,9 +399,12 @@ def main():
         with open(os.path.join(folder, "broken.c"), "wb") as file:
             file.write(b"#include <stdio.h>\r\nstruct point {\rint x;\n  ")
         done = [tried(folder, *it) for it in inputs(folder)]
+        done += [tried(folder, *it) for it in rustc_cases.inputs(FOLDER, folder)]
         done += [tried(folder, *it, "gcc") for it in gcc_cases.inputs(folder)]
         shutil.copy(os.path.join(sarif_read_cases.FOLDER, "line ends.txt"), os.path.join(folder, "wide.c"))
         done += [tried(folder, *it, "sarif") for it in sarif_read_cases.inputs(folder)]
+        done += [tried(folder, *it, "sarif") for it in logs_of_failures()]
+        done += [tried(folder, *it, form) for it in inputs(folder) if it[1] == b"" for form in ALWAYS]
         shutil.copy(os.path.join(shellcheck_cases.FOLDER, "quotes.sh"), os.path.join(folder, "short.sh"))
         with open(os.path.join(folder, "quotes.sh"), "wb") as file:
             file.write("#!/bin/sh\r\n# 漢字\r\nlist=".encode())

@@ -2,10 +2,11 @@
 """show_fix.py: runs the built program `show --fix` on what rustc wrote (`rustc/`) over copies of its sources, and
 compares the files and what is said of them with a model of the rules (docs/RULES.md, 'Programs').
 
-Tried are the recorded rows, the same rows twice, files that have changed since or are gone, names that lead out of the
-folder, fixes that overlap, files that can't be written, a disk that is full, and each growth of memory refused. Where
-cargo is installed, a crate is fixed by `cargo fix` too, and the files are compared. The last line is 'N passed, M
-failed', and the exit status is 0 only where nothing failed."""
+Tried are the recorded rows, the same rows twice, files that have changed since or are gone, packages that have errors,
+names that lead out of the folder, also through links, fixes that overlap, files that can't be written, two runs at
+once, a folder of a workspace, files of the system, a disk that is full, and each growth of memory refused. Where cargo
+is installed, crates are fixed by `cargo fix` too, and the files are compared. The last line is 'N passed, M failed',
+and the exit status is 0 only where nothing failed."""
 import json
 import os
 import resource
@@ -14,11 +15,13 @@ import signal
 import subprocess
 import sys
 import tempfile
+from concurrent.futures import ThreadPoolExecutor
 
 from fix_model import Edit, taken
-from programs import HERE, built, counted, library_in, refusals, run
-from readers_model import NoMessage, Settled, diagnostic_in, fixes, is_edit, member, objects, offers, stretch, text
-from show_model import BEGINNING, parts_of
+from programs import HERE, built, command, counted, library_in, refusals, run
+from readers_model import NoMessage, Settled, diagnostic_in, fixes, is_edit, member, objects, offers, severity, stretch
+from readers_model import text
+from show_model import begins, parts_of, unmarked
 
 FOLDER = os.path.join(HERE, "rustc")
 NAMES = ["borrow", "fixits", "life", "mine", "multi"]
@@ -45,6 +48,15 @@ fn main() {
     }
     println!("{total} {kept}");
     other::told(3);
+}
+"""
+# what has an error and a warning, both of which rustc is sure how to mend
+WRONG = """fn main() {
+    let some = String::new();
+    let other = some;
+    if (true) {
+        println!("{some} {other}");
+    }
 }
 """
 OTHER = "pub fn told(some: u32) {\n    let unused = 1;\n    while (false) {}\n}\n"
@@ -87,31 +99,57 @@ def sure_fixes(message, files):
                 yield name, [Edit(it["offset"], it["length"], it["text"].encode()) for it in fix["edits"]]
 
 
+def stale_files(message, files):
+    """The files of what is machine-applicable, edit by edit, where that doesn't stand as rustc saw it."""
+    for child in objects(message, "children"):
+        spans = [it for it in objects(child, "spans") if is_edit(it)]
+        if spans and text(spans[0], "suggestion_applicability") == "MachineApplicable":
+            lost = [it for it in spans if not (fresh(it, files) and Settled(files).found(it))]
+            yield from (text(it, "file_name") for it in lost)
+
+
 def leads_out(name):
     """Whether a file of this name is none below the folder."""
     return name.startswith("/") or ".." in name.split("/")
 
 
-def wanted(given, files, unwritable=()):
-    """Status, standard output and standard error, and the files after it."""
-    gathered, notes, unread = {}, [], False
+def given_by(given, files):
+    """What each row gives: its package, whether it is an error, its fixes and stale files; and the notes of others."""
+    rows, notes = [], []
     for number, row in parts_of(given):
-        if not BEGINNING["rustc"].match(row):
+        if not begins(row, "rustc"):
             continue
         try:
-            for name, edits in sure_fixes(diagnostic_in(json.loads(row)), files):
-                gathered.setdefault(name, []).append(edits)
+            value = json.loads(unmarked(row).decode())
+            message = diagnostic_in(value)
         except (ValueError, NoMessage):
-            unread = True
             notes.append(f"show: row {number}: no message that can be read\n".encode())
-    said, after = [], dict(files)
+            continue
+        if message is not None:
+            package, grave = text(value, "package_id"), severity(text(message, "level")) == "error"
+            rows.append((package, grave, list(sure_fixes(message, files)), list(stale_files(message, files))))
+    return rows, notes
+
+
+def wanted(given, files, unwritable=(), broken=False):
+    """Status, standard output and standard error, and the files after it."""
+    rows, notes = given_by(given, files)
+    unread, wrong = bool(notes), {package for package, grave, *_ in rows if grave}
+    counting = [it for it in rows if broken or it[0] not in wrong]
+    left = dict.fromkeys(it[0] or "what was compiled" for it in rows if it not in counting and it[2])
+    stale = dict.fromkeys(name for it in counting for name in it[3])
+    notes += [f"show: {it} has errors: not fixed (--broken-code fixes it)\n".encode() for it in left]
+    notes += [f"show: {it}: isn't what was compiled\n".encode() for it in stale]
+    gathered, said, after = {}, [], dict(files)
+    for name, edits in (fix for it in counting for fix in it[2]):
+        gathered.setdefault(name, []).append(edits)
     for name, lists in gathered.items():
         if name in unwritable or leads_out(name):
             notes.append(f"show: {name}: can't be written\n".encode())
             continue
         which, after[name] = taken(files[name], lists)
         said.append(f"fixed {name}: {sum(which)} of {len(which)} fixes\n".encode())
-    status = 2 if len(said) < len(gathered) else 3 if unread else 0
+    status = 2 if stale or len(said) < len(gathered) else 3 if unread else 1 if wrong else 0
     return (status, b"".join(said), b"".join(notes)), after
 
 
@@ -142,18 +180,24 @@ def recorded(name):
 
 
 def tried(what, given, files, unwritable=(), prepare=None, **named):
-    """Whether the program and the model agree over these files, in a folder that is prepared; it has no file more."""
+    """Whether the program and the model agree over these files, in a folder that is prepared; it has no file more. Both
+    are asked for what has errors too, and not."""
+    return all([tried_so(what, given, files, unwritable, prepare, broken=it, **named) for it in (False, True)])
+
+
+def tried_so(what, given, files, unwritable, prepare, broken, **named):
     with tempfile.TemporaryDirectory() as folder:
         write(folder, files)
         if prepare:
             prepare(folder)
         before = sorted(os.listdir(folder))
-        want, after = wanted(given, files, unwritable)
-        got = run(["show", "--root", folder, "--fix"], given, **named)
+        want, after = wanted(given, files, unwritable, broken)
+        words = ["show", "--root", folder, "--fix", *(["--broken-code"] if broken else [])]
+        got = run(words, given, **named)
         found = files_in(folder)
         if got != want or found != after or sorted(os.listdir(folder)) != before:
             differ = [it for it in after if found.get(it) != after[it]]
-            print(f"{what}: {got}, wanted {want}; files that differ: {differ}, in the folder: {os.listdir(folder)}")
+            print(f"{what}, {words}: {got}, wanted {want}; files that differ: {differ}, there: {os.listdir(folder)}")
             return False
     return True
 
@@ -169,6 +213,11 @@ def sure(name, data, row, column, length, new):
     span = {"file_name": name, "byte_start": start, "byte_end": start + length, "column_start": column, "text": rows}
     edit = {**span, "suggested_replacement": new, "suggestion_applicability": "MachineApplicable"}
     return {"message": "m", "level": "warning", "children": [{"message": "h", "level": "help", "spans": [edit]}]}
+
+
+def of_package(package, message):
+    """A row of cargo."""
+    return {"reason": "compiler-message", "package_id": package, "message": message}
 
 
 def rows_of(*messages):
@@ -223,6 +272,41 @@ def hand_made():
     yield "after a part that can't be read", b'{\n"a":\n}\n' + rows_of(FIRST) + b"{\r\n", files
 
 
+def packages():
+    """Rows of packages, of which some have errors."""
+    files = {"a.rs": TEXT, "b.rs": TEXT}
+    one, other = "path+file:///ws/one#0.1.0", "path+file:///ws/other#0.1.0"
+    there, error = sure("b.rs", TEXT, 1, 9, 3, "1"), {"message": "m", "level": "error"}
+    yield "an error behind", rows_of(of_package(one, FIRST), of_package(one, error)), files
+    yield "an error in front", rows_of(of_package(one, error), of_package(one, FIRST), of_package(one, SECOND)), files
+    yield "of another package", rows_of(of_package(one, FIRST), of_package(other, error)), files
+    mixed = [of_package(one, FIRST), of_package(other, there), of_package(one, error), of_package(other, SECOND)]
+    yield "of one of two packages", rows_of(*mixed), files
+    yield "of both", rows_of(*mixed, of_package(other, error)), files
+    own = {**FIRST, "level": "error"}
+    yield "that is fixed itself", rows_of(of_package(one, own), of_package(other, SECOND)), files
+    yield "of the compiler", rows_of({**FIRST, "level": "error: internal compiler error"}, SECOND), files
+    yield "of a closing row", rows_of({**FIRST, "level": "failure-note"}, SECOND), files
+    yield "of no package", rows_of(FIRST, error, of_package(one, there), of_package("", SECOND)), files
+    yield "over a file that has changed", rows_of(of_package(one, FIRST), of_package(one, error)), {"a.rs": b"let\n"}
+    yield "without fixes", rows_of(of_package(one, error), of_package(other, FIRST)), files
+    yield "with rows of other kinds", rows_of({"reason": "compiler-artifact", "package_id": one}, *mixed), files
+
+
+def stale():
+    """Files that aren't what was compiled, beside others."""
+    files = {"a.rs": TEXT, "b.rs": TEXT}
+    gone = sure("c.rs", TEXT, 1, 9, 3, "1")
+    yield "of a file that is gone", rows_of(FIRST, gone, gone, SECOND), files
+    yield "of one edit of two", rows_of(together(FIRST, changed(SECOND, column_start=8)), SECOND), files
+    yield "of two files that are gone", rows_of(sure("d.rs", TEXT, 1, 9, 3, "1"), gone, FIRST), files
+    yield "of a file that has changed", rows_of(FIRST, SECOND), {**files, "a.rs": TEXT.replace(b"(2)", b"(3)")}
+    yield "of alternatives", rows_of(together(FIRST, FIRST), gone), files
+    unsure = changed(gone, suggestion_applicability="MaybeIncorrect")
+    yield "of what isn't sure", rows_of(unsure, FIRST), files
+    yield "of nothing", rows_of(changed(gone, suggested_replacement=None), FIRST), files
+
+
 def led_out(folder):
     """Names that lead out of the folder, or through it, with what they may change there."""
     inner = os.path.join(folder, "inner")
@@ -230,13 +314,109 @@ def led_out(folder):
     for name in ["../a.rs", "src/../../a.rs", f"{folder}/a.rs", "src/../a.rs", "/../a.rs", "src/a..rs", "..a.rs"]:
         got = run(["show", "--root", inner, "--fix"], rows_of(sure(name, TEXT, 1, 9, 3, "1")))
         there = os.path.exists(os.path.join(inner, name))
-        yield got == ((2, b"", f"show: {name}: can't be written\n".encode()) if there else (0, b"", b""))
+        said = "can't be written" if there else "isn't what was compiled"
+        yield got == (2, b"", f"show: {name}: {said}\n".encode())
     yield files_in(folder) == {"a.rs": TEXT, "inner/a.rs": TEXT, "inner/src/a.rs": TEXT}
     # one file by two names: what is written by the second one would undo the first
     both = rows_of(FIRST, sure("./a.rs", TEXT, 2, 9, 3, "2"))
     got = run(["show", "--fix"], both, cwd=folder)
     yield got == (2, b"fixed a.rs: 1 of 1 fixes\n", b"show: ./a.rs: can't be written\n")
     yield files_in(folder)["a.rs"] == b"let a = 1;\nlet b = (2);\n"
+
+
+def led_through_links(folder):
+    """Folders that are links: what lies behind them is read, and stays as it is."""
+    inner = os.path.join(folder, "inner")
+    write(folder, {"other/a.rs": TEXT, "inner/real/a.rs": TEXT})
+    for name, target in [("vendor", "../other"), ("up", ".."), ("same", "real"), ("real/deep", "../../other")]:
+        os.symlink(target, os.path.join(inner, name))
+    for name in ["vendor/a.rs", "up/other/a.rs", "same/a.rs", "real/deep/a.rs", "./vendor/a.rs", "vendor//a.rs"]:
+        got = run(["show", "--root", inner, "--fix"], rows_of(sure(name, TEXT, 1, 9, 3, "1")))
+        yield got == (2, b"", f"show: {name}: can't be written\n".encode())
+    yield files_in(folder) == {"other/a.rs": TEXT, "inner/real/a.rs": TEXT}
+    # the folder itself may be one
+    os.symlink("inner", os.path.join(folder, "link"))
+    got = run(["show", "--root", os.path.join(folder, "link"), "--fix"], rows_of(sure("real/a.rs", TEXT, 1, 9, 3, "1")))
+    yield got == (0, b"fixed real/a.rs: 1 of 1 fixes\n", b"")
+
+
+def in_a_workspace(folder):
+    """Names that cargo tells from its root, where `show` runs in a folder below it."""
+    write(folder, {"ws/Cargo.lock": b"", "ws/crates/app/a.rs": TEXT, "ws/crates/app/src/b.rs": TEXT, "c.rs": TEXT})
+    app, outside = os.path.join(folder, "ws/crates/app"), "isn't what was compiled"
+    fixed = b"let a = 1;\nlet b = (2);\n"
+    for name, path in [("crates/app/src/b.rs", "ws/crates/app/src/b.rs"), ("a.rs", "ws/crates/app/a.rs")]:
+        got = run(["show", "--fix"], rows_of(sure(name, TEXT, 1, 9, 3, "1")), cwd=app)
+        yield got == (0, f"fixed {name}: 1 of 1 fixes\n".encode(), b"") and files_in(folder)[path] == fixed
+        write(folder, {path: TEXT})
+    stays = [("c.rs", [], app), ("crates/app/a.rs", ["--root", "."], app), ("a.rs", [], os.path.join(app, "src"))]
+    for name, words, where in [*stays, ("ws/crates/app/a.rs", [], app)]:
+        got = run(["show", *words, "--fix"], rows_of(sure(name, TEXT, 1, 9, 3, "1")), cwd=where)
+        yield got == (2, b"", f"show: {name}: {outside}\n".encode())
+    # where the folder is cargo's root itself, none above it is looked at
+    write(folder, {"ws/crates/app/Cargo.lock": b""})
+    got = run(["show", "--fix"], rows_of(sure("crates/app/a.rs", TEXT, 1, 9, 3, "1")), cwd=app)
+    yield got == (2, b"", f"show: crates/app/a.rs: {outside}\n".encode())
+    yield all(it == TEXT for it in files_in(folder).values())
+
+
+def of_the_system():
+    """Files that tell no length aren't read: one has no end, and one waits."""
+    for name in ["/proc/self/pagemap", "/proc/kmsg", "/proc/self/mem"]:
+        if os.path.exists(name):
+            got = run(["show", "--fix"], rows_of(sure(name, TEXT, 1, 9, 3, "1")), timeout=20)
+            yield got == (2, b"", f"show: {name}: isn't what was compiled\n".encode())
+
+
+def wrong_words(folder):
+    """No folder, and `--broken-code` by itself."""
+    write(folder, {"tmp/a.rs": TEXT})
+    row = rows_of(sure(f"{folder[1:]}/tmp/a.rs", TEXT, 1, 9, 3, "1"))
+    for words in [["--root", "", "--fix"], ["--root", ".", "--root", ""], ["--root", "", "--root", ".", "--brief"]]:
+        yield is_usage(run(["show", *words], row))
+    for words in [["--broken-code"], ["--broken-code", "--brief"], ["--fix", "--broken-code", "--brief"]]:
+        yield is_usage(run(["show", *words], row))
+    yield files_in(folder) == {"tmp/a.rs": TEXT}
+
+
+def is_usage(got):
+    return got[:2] == (2, b"") and got[2].startswith(b"usage: show ")
+
+
+def at_once(folder):
+    """Two runs over one file: what one of them says to be done is in the file, or the other says that it isn't."""
+    lines = 4000
+    data = b"let a = (1);\n" * lines
+    path = os.path.join(folder, "a.rs")
+    given = [rows_of(sure("a.rs", data, row, 9, 3, "1")) for row in (1, lines)]
+    for _ in range(40):
+        write(folder, {"a.rs": data})
+        with ThreadPoolExecutor(2) as pool:
+            told = list(pool.map(lambda it: run(["show", "--root", folder, "--fix"], it), given))
+        rows = files_in(folder)["a.rs"].split(b"\n")
+        there = [rows[row] == b"let a = 1;" for row in (0, lines - 1)]
+        if there != [got[0] == 0 for got in told] or os.listdir(folder) != ["a.rs"]:
+            print(f"two at once: {told}, {there}, {os.listdir(folder)}")
+            return False
+    return os.path.exists(path)
+
+
+def stays_private(folder):
+    """Of a file that its owner alone may read nobody else may read what is written beside it."""
+    data = b"let a = (1);\n" * 3000000
+    path, beside = os.path.join(folder, "a.rs"), os.path.join(folder, "a.rs.show-fix")
+    write(folder, {"a.rs": data})
+    os.chmod(path, 0o600)
+    words, seen = command(["show", "--root", folder, "--fix"]), set()
+    with subprocess.Popen(words, stdin=subprocess.PIPE, stdout=subprocess.DEVNULL, umask=0) as program:
+        program.stdin.write(rows_of(sure("a.rs", data, 1, 9, 3, "1")))
+        program.stdin.close()
+        while program.poll() is None:
+            try:
+                seen.add(os.stat(beside).st_mode & 0o777)
+            except FileNotFoundError:
+                pass
+    return seen <= {0o600} and program.returncode == 0
 
 
 def linked(folder):
@@ -331,11 +511,37 @@ def beside_cargo():
         return [mine == theirs and mine["main.rs"] != BROKEN.encode()]
 
 
-def main():
-    done = [tried(*it) for it in (*inputs(), *hand_made())] + [*unwritable(), modes_kept(), refused_growths()]
+def left_by_cargo():
+    """A crate that doesn't compile stays as it is, here and there."""
+    if shutil.which("cargo") is None:
+        return []
     with tempfile.TemporaryDirectory() as folder:
-        done += led_out(folder)
-    done += beside_cargo()
+        write(folder, {"Cargo.toml": MANIFEST.encode(), "src/main.rs": WRONG.encode()})
+        words = ["cargo", "check", "--offline", "--message-format=json"]
+        given = subprocess.run(words, cwd=folder, capture_output=True, check=False).stdout
+        got = run(["show", "--fix"], given, cwd=folder)
+        mine = files_in(folder)
+        fix = ["cargo", "fix", "--offline", "--allow-no-vcs"]
+        subprocess.run(fix, cwd=folder, capture_output=True, check=False)
+        if not mine == files_in(folder) == {"src/main.rs": WRONG.encode()}:
+            print(f"beside cargo fix: {got}, {mine}, {files_in(folder)}")
+        left = got[0] == 1 and got[2].endswith(b" has errors: not fixed (--broken-code fixes it)\n")
+        return [left and mine == files_in(folder) == {"src/main.rs": WRONG.encode()}]
+
+
+def in_folder(trial):
+    """What a trial finds in a folder of its own."""
+    with tempfile.TemporaryDirectory() as folder:
+        found = trial(os.path.realpath(folder))
+        return [found] if isinstance(found, bool) else list(found)
+
+
+def main():
+    tables = (*inputs(), *hand_made(), *packages(), *stale())
+    done = [tried(*it) for it in tables] + [*unwritable(), modes_kept(), refused_growths(), *of_the_system()]
+    for trial in (led_out, led_through_links, in_a_workspace, wrong_words, at_once, stays_private):
+        done += in_folder(trial)
+    done += beside_cargo() + left_by_cargo()
     return counted(sum(done), len(done) - sum(done))
 
 

@@ -105,7 +105,7 @@ impl Program {
             ),
             Program::Show => (
                 "show",
-                "[--from auto|rustc|gcc|sarif|shellcheck] [--root DIR] [--fix | OPTIONS]",
+                "[--from auto|rustc|gcc|sarif|shellcheck] [--root DIR] [--fix [--broken-code] | OPTIONS]",
             ),
         }
     }

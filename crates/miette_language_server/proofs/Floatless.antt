@@ -1,7 +1,7 @@
 -- What the server writes has no fractions, so its text is known byte by byte.
 use Rattle.std.proofs.Common.{◌≡◌, ℕ, ℤ, ◌<◌, arith, pos, negsuc, List, [], ◌∷◌, ◌++◌, true, false, ◌||◌, Option, Some}
 use Rattle.std.proofs.Common.{None, refl}
-use Rattle.std.proofs.Common.{sym, ap, ◌∙◌, length, map, subst}
+use Rattle.std.proofs.Common.{sym, ap, ◌∙◌, map, subst}
 use Rattle.std.specs.Option.{option_and_then, option_map_or}
 use Rattle.std.specs.List.{flat_map}
 use Rattle.std.specs.Prelude.{codes}
@@ -130,18 +130,18 @@ at_floatless uri source region c =
     c.fixes))
     (λ f. rw f tt)
 
-with_joint_floatless : (uri : List ℕ) (source : Placed) (found : ℕ) (ds : List Data) → AreFloatless ds
-    → AreFloatless (with_joint uri source found ds)
-with_joint_floatless uri source found [] h = tt
-with_joint_floatless uri source found (d ∷ ds) h = (
+with_joint_floatless : (uri : List ℕ) (source : Placed) (width : ℕ) (ds : List Data) → AreFloatless ds
+    → AreFloatless (with_joint uri source width ds)
+with_joint_floatless uri source width [] h = tt
+with_joint_floatless uri source width (d ∷ ds) h = (
   h.0,
-  joined_floatless ds (joint_of uri source found ∷ []) h.1
-      (joint_floatless uri source (joint_proposal source.source found), tt),
+  joined_floatless ds (joint_of uri source width ∷ []) h.1
+      (joint_floatless uri source (joint_proposal source.source width), tt),
 )
 
 actions_floatless : (width : ℕ) (uri text : List ℕ) (region : Region) → AreFloatless (actions width uri text region)
 actions_floatless width uri text region =
-    with_joint_floatless uri (placed text) (length (coded_findings text width)) (own_actions width uri text region)
+    with_joint_floatless uri (placed text) width (own_actions width uri text region)
     (all_floatless (actions_at uri (placed text) region) (at_floatless uri (placed text) region)
     (coded_findings text width))
 

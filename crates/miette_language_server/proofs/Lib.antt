@@ -1,8 +1,10 @@
 pub mod Beginnings
 pub mod Begun
+pub mod BlankStops
 pub mod Bodied
 pub mod Bodies
 pub mod Clients
+pub mod EditParts
 pub mod Floatless
 pub mod Headers
 pub mod Lists

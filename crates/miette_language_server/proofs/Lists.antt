@@ -5,6 +5,7 @@ use Rattle.std.specs.Prelude.{Bool, IfOk, Vec, if◌then◌else◌, is_ok}
 use Rattle.std.specs.declared.alloc.Global.{Global}
 use Rattle.miette_lint.specs.declared.coded.CodedFinding.{CodedFinding}
 use Rattle.miette_lint.specs.rules.Coded.{Coded, coded_findings}
+use Rattle.miette_lint.specs.rules.Findings.{findings_of}
 use Rattle.miette_lint.specs.views.Found.{coded_of}
 use Rattle.std.proofs.lemmas.Bool.{ne_eqb}
 use Rattle.std.proofs.lemmas.List.{drop_more, flat_map_more, length-map, map-append, take_all, take_more}
@@ -15,7 +16,7 @@ use Rattle.serde_json.specs.declared.value.Value.{Value}
 use Rattle.miette_fixes.specs.rules.Edits.{Proposal}
 use Rattle.miette_positions.specs.declared.place.Region.{Region}
 use Rattle.miette_positions.specs.rules.Regions.{Placed}
-use Rattle.miette_language_server.specs.rules.Actions.{actions, actions_at, joint_of, with_joint}
+use Rattle.miette_language_server.specs.rules.Actions.{actions, actions_at, joint_of, own_actions, with_joint}
 use Rattle.miette_language_server.specs.rules.Changes.{changed, changed_by}
 use Rattle.miette_language_server.specs.rules.Diagnostics.{by_fixes, diagnostic_value, placed}
 
@@ -32,15 +33,15 @@ pub some_fixes : (fixes : List Proposal) (plain fixable : Data) → eqb (length 
 some_fixes [] plain fixable h = let bad : true ≡ false = h in cc
 some_fixes (fix ∷ fixes) plain fixable h = refl
 
-pub joint_none : (uri : List ℕ) (source : Placed) (n : ℕ) (values : List Value) → eqb (length values) 0 ≡ true
-    → map view values ≡ with_joint uri source n (map view values)
-joint_none uri source n [] h = refl
-joint_none uri source n (v ∷ vs) h = let bad : true ≡ false = some (length vs) h in cc
+pub joint_none : (uri : List ℕ) (source : Placed) (width : ℕ) (values : List Value) → eqb (length values) 0 ≡ true
+    → map view values ≡ with_joint uri source width (map view values)
+joint_none uri source width [] h = refl
+joint_none uri source width (v ∷ vs) h = let bad : true ≡ false = some (length vs) h in cc
 
-pub joint_some : (uri : List ℕ) (source : Placed) (n : ℕ) (values : List Value) → eqb (length values) 0 ≡ false
-    → map view values ++ joint_of uri source n ∷ [] ≡ with_joint uri source n (map view values)
-joint_some uri source n [] h = let bad : true ≡ false = h in cc
-joint_some uri source n (v ∷ vs) h = refl
+pub joint_some : (uri : List ℕ) (source : Placed) (width : ℕ) (values : List Value) → eqb (length values) 0 ≡ false
+    → map view values ++ joint_of uri source width ∷ [] ≡ with_joint uri source width (map view values)
+joint_some uri source width [] h = let bad : true ≡ false = h in cc
+joint_some uri source width (v ∷ vs) h = refl
 
 pub appended : {E : Type 0} (r : Result (Unit {0}) E) (new old more : List Value)
     → new ≡ (if is_ok r then old ++ more else old) → OnOk r (map view new ≡ map view old ++ map view more)
@@ -105,22 +106,47 @@ changed_next all changes i x made new l is e h =
     ∙ ap (λ v. changed_by (changed made (view v)) rest) (sym is)
     ∙ ap (λ m. changed_by m rest) (sym e)
 
--- the actions at a part, by what is found in the text
-pub acted : {E : Type 0} (width : ℕ) (uri u v text : List ℕ) (region : Region) (source : Placed)
-    (slice found : List CodedFinding) (own : List Value) (n : ℕ) (r : Result (Vec Value Global) E)
-    → source ≡ placed text → map coded_of found ≡ coded_findings text width → slice ≡ found → u ≡ uri → v ≡ uri
-    → n ≡ length found → map view own ≡ flat_map (actions_at u source region) (map coded_of slice)
-    → IfOk r (λ made. map view made.items ≡ with_joint v source n (map view own))
-    → IfOk r (λ made. map view made.items ≡ actions width uri text region)
-acted width uri u v text region source slice found own n (Err e) s f same p q count is h = tt
-acted width uri u v text region source slice found own n (Ok made) s f same p q count is h =
+-- ---- the actions at a part
+
+-- of all that is found
+pub own_acted : (width : ℕ) (uri u text : List ℕ) (region : Region) (source : Placed) (slice found : List CodedFinding)
+    (own : List Value) → source ≡ placed text → map coded_of found ≡ coded_findings text width → slice ≡ found
+    → u ≡ uri → map view own ≡ flat_map (actions_at u source region) (map coded_of slice)
+    → map view own ≡ own_actions width uri text region
+own_acted width uri u text region source slice found own s f same p is =
     let all : map coded_of slice ≡ coded_findings text width = ap (map coded_of) same ∙ f in
-    let many : n ≡ length (coded_findings text width) = count ∙ sym (length-map found coded_of) ∙ ap length f in
-    h
-    ∙ ap (λ w. with_joint w source n (map view own)) q
-    ∙ ap (λ k. with_joint uri source k (map view own)) many
-    ∙ ap (with_joint uri source (length (coded_findings text width))) (is
+    is
     ∙ ap (λ w. flat_map (actions_at w source region) (map coded_of slice)) p
-    ∙ ap (flat_map (actions_at uri source region)) all)
-    ∙ ap (λ at. with_joint uri at (length (coded_findings text width))
-    (flat_map (actions_at uri at region) (coded_findings text width))) s
+    ∙ ap (flat_map (actions_at uri source region)) all
+    ∙ ap (λ at. flat_map (actions_at uri at region) (coded_findings text width)) s
+
+-- where there are none
+pub acted_none : (width : ℕ) (uri text : List ℕ) (region : Region) (own : List Value) → eqb (length own) 0 ≡ true
+    → map view own ≡ own_actions width uri text region → map view own ≡ actions width uri text region
+acted_none width uri text region own none is =
+    joint_none uri (placed text) width own none ∙ ap (with_joint uri (placed text) width) is
+
+-- one for all findings after them
+pub acted_some : {E : Type 0} (width : ℕ) (uri u text : List ℕ) (region : Region) (source : Placed) (own : List Value)
+    (last : Data) (r : Result (Vec Value Global) E) → source ≡ placed text → u ≡ uri → eqb (length own) 0 ≡ false
+    → last ≡ joint_of u source width → map view own ≡ own_actions width uri text region
+    → IfOk r (λ made. map view made.items ≡ map view own ++ last ∷ [])
+    → IfOk r (λ made. map view made.items ≡ actions width uri text region)
+acted_some width uri u text region source own last (Err e) s p some joint is h = tt
+acted_some width uri u text region source own last (Ok made) s p some joint is h =
+    let fix : last ≡ joint_of uri (placed text) width =
+    joint ∙ ap (λ v. joint_of v source width) p ∙ ap (λ at. joint_of uri at width) s in
+    h
+    ∙ ap (λ d. map view own ++ d ∷ []) fix
+    ∙ joint_some uri (placed text) width own some
+    ∙ ap (with_joint uri (placed text) width) is
+
+-- with each of them there is a label
+pub all_counted : (source : List ℕ) (width : ℕ) (found : List CodedFinding)
+    → map (λ (it : Coded). it.label) (coded_findings source width) ≡ findings_of source width
+    → map coded_of found ≡ coded_findings source width → length found ≡ length (findings_of source width)
+all_counted source width found labels is =
+    sym (length-map found coded_of)
+    ∙ ap length is
+    ∙ sym (length-map (coded_findings source width) (λ (it : Coded). it.label))
+    ∙ ap length labels

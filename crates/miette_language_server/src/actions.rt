@@ -3,10 +3,11 @@
 ghost use Rattle.std.specs.Prelude.{◌≡◌, ◌++◌, ◌∷◌, [], IfOk, OnOk, codes, flat_map, map, string_bytes};
 ghost use Rattle.std.specs.Option.{option_copied};
 ghost use Rattle.serde_json.specs.View.{view};
+ghost use Rattle.miette_lint.specs.rules.Coded.{coded_findings};
 ghost use Rattle.miette_lint.specs.views.Found.{coded_of};
 ghost use Rattle.miette_positions.specs.rules.Stops.{is_until};
 ghost use Rattle.miette_language_server.specs.rules.Actions.{action_value, actions, actions_at, actions_in};
-ghost use Rattle.miette_language_server.specs.rules.Actions.{changes_value, joint_of, joint_value, touches, with_joint};
+ghost use Rattle.miette_language_server.specs.rules.Actions.{changes_value, joint_of, joint_value, touches};
 ghost use Rattle.miette_language_server.specs.rules.Values.{list_value};
 
 use crate::diagnostics::{diagnostic_value, placed};
@@ -16,6 +17,7 @@ use crate::values::{edits_value, part};
 use miette_fixes::fix::Fix;
 use miette_lint::coded::{CodedFinding, coded_findings};
 use miette_lint::joint::joint_proposal;
+use miette_lint::laws::coded_laws;
 use miette_positions::index::PositionIndex;
 use miette_positions::place::{Position, Region};
 use serde_json::{Map, Value, json, push};
@@ -165,40 +167,32 @@ fn own_actions(
     Ok(list)
 }
 
-// All fixes of a document in which so much is found.
+// All fixes of a document whose lines may have so many columns, by all that is found in it.
 fn joint_of(
     alloc: Global,
     uri: &str,
     source: &PositionIndex<'_>,
-    found: usize,
+    width: usize,
+    found: &[CodedFinding],
 ) -> Result<Value, AllocError>
-    ensures { IfOk result (λ value. view value ≡ joint_of uri.now source.now found) }
+    requires { map coded_of found.now ≡ coded_findings source.now.source width }
+    ensures { IfOk result (λ value. view value ≡ joint_of uri.now source.now width) }
 {
-    let joint = joint_proposal(alloc, source.source(), found)?;
+    coded_laws();
+    let joint = joint_proposal(alloc, source.source(), width, found.len())?;
     joint_value(alloc, uri, source, &joint)
 }
 
-// These, and after them, if there are any, one for all findings.
-fn with_joint(
-    alloc: Global,
-    uri: &str,
-    source: &PositionIndex<'_>,
-    found: usize,
-    list: Vec<Value>,
-) -> Result<Vec<Value>, AllocError>
-    ensures { IfOk result (λ made. map view made.items
-        ≡ with_joint uri.now source.now found (map view list.items)) }
+// Values, and one more after them.
+fn with_last(list: Vec<Value>, last: Value) -> Result<Vec<Value>, AllocError>
+    ensures { IfOk result (λ made. map view made.items ≡ map view list.items ++ view last ∷ []) }
 {
-    if list.is_empty() {
-        return Ok(list);
-    }
-    let joint = joint_of(alloc, uri, source, found)?;
     let mut made = list;
-    push(&mut made, joint)?;
+    push(&mut made, last)?;
     Ok(made)
 }
 
-// The fixes at a part of a document, and one for all of it.
+// The fixes at a part of a document, and after them, if there are any, one for all findings.
 fn actions(
     alloc: Global,
     width: usize,
@@ -211,7 +205,11 @@ fn actions(
     let source = placed(alloc, document.text())?;
     let found = coded_findings(alloc, document.text(), width)?;
     let own = own_actions(alloc, document.uri(), &source, region, found.as_slice())?;
-    with_joint(alloc, document.uri(), &source, found.len(), own)
+    if own.is_empty() {
+        return Ok(own);
+    }
+    let joint = joint_of(alloc, document.uri(), &source, width, found.as_slice())?;
+    with_last(own, joint)
 }
 
 /// The quick fixes at a part of a document that is open.

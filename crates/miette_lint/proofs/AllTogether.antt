@@ -59,12 +59,12 @@ joined_edits : (fixes : List Proposal) → flat_map (λ (fix : Proposal). fix.ed
 joined_edits [] = refl
 joined_edits (fix ∷ fixes) = ap (λ es. fix.edits ++ es) (joined_edits fixes)
 
-pub joint_accepted : (source : List ℕ) (found : ℕ) → refusal (length source) (joint_proposal source found).edits ≡ None
-joint_accepted source found = ap (refusal (length source)) (joined_edits (proposals_of source))
+pub joint_accepted : (source : List ℕ) (width : ℕ) → refusal (length source) (joint_proposal source width).edits ≡ None
+joint_accepted source width = ap (refusal (length source)) (joined_edits (proposals_of source))
     ∙ not_refused (length source) 0 (proposals_of source) (proposals_apart source)
 
-pub joint_applied : (source : List ℕ) (found : ℕ) → applied source (joint_proposal source found).edits
+pub joint_applied : (source : List ℕ) (width : ℕ) → applied source (joint_proposal source width).edits
     ≡ fixed_text source
-joint_applied source found = ap (applied source) (joined_edits (proposals_of source))
+joint_applied source width = ap (applied source) (joined_edits (proposals_of source))
     ∙ ap (text_from source 0) (in_order (length source) 0 (proposals_of source) (proposals_apart source))
     ∙ proposals_made source

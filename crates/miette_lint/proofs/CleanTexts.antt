@@ -40,7 +40,7 @@ passes_upto p (suc n) (x ∷ xs) e =
     rw t (omega (arith, passes_upto p n xs (omega (arith, g)))))
     (λ f. let g : suc n ≡ 0 = e ∙ ap (λ b. cond b (1 + prefix_len p xs) 0) f in absurd (omega (arith, g)))
 
-passes_taken : (p : ℕ → Bool) (xs : List ℕ)
+pub passes_taken : (p : ℕ → Bool) (xs : List ℕ)
     → prefix_len p (take (prefix_len p xs) xs) ≡ length (take (prefix_len p xs) xs)
 passes_taken p xs = passes_upto p (prefix_len p xs) xs refl
 
@@ -118,7 +118,7 @@ four (suc (suc zero)) = (refl, (refl, tt))
 four (suc (suc (suc zero))) = (refl, (refl, (refl, tt)))
 four (suc (suc (suc (suc n)))) = (refl, (refl, (refl, (refl, none n))))
 
-spaces_one : (column b : ℕ) → AllByRecursion IsSpace (spaces_at column b)
+pub spaces_one : (column b : ℕ) → AllByRecursion IsSpace (spaces_at column b)
 spaces_one column b =
     by_cases {C = AllByRecursion IsSpace (spaces_at column b)} (eqb b 9)
     (λ t. rw t (four (4 - column % 4))) (λ f. rw f (refl, tt))

@@ -25,13 +25,13 @@ use Rattle.miette_lint.proofs.Pieces.{IsCleanLine, IsCutOut, IsEnding, IsWhole, 
 
 -- ---- the pieces of the fixed text
 
-abbrev piece : List ℕ → List ℕ → Line → Piece
+abbrev pub piece : List ℕ → List ℕ → Line → Piece
 piece source ending l = record {
   text = fixed_line_text (slice_range source l.start l.text_end);
   ending = terminator_or ending source l;
 }
 
-pieces_joined : (source ending : List ℕ) (ls : List Line) → flat_map (fixed_line source ending) ls
+pub pieces_joined : (source ending : List ℕ) (ls : List Line) → flat_map (fixed_line source ending) ls
     ≡ joined (map (piece source ending) ls)
 pieces_joined source ending [] = refl
 pieces_joined source ending (l ∷ ls) =
@@ -56,7 +56,7 @@ first_ends_well source (l ∷ ls) h = ends_well source (LF ∷ []) l (inl refl) 
 pub ending_well : (source : List ℕ) → IsEnding (ending_of source)
 ending_well source = first_ends_well source (lines_of source) (cut_outs source)
 
-wholes : (source ending : List ℕ) (ls : List Line) → IsEnding ending → AllByRecursion (IsCutOut source) ls
+pub wholes : (source ending : List ℕ) (ls : List Line) → IsEnding ending → AllByRecursion (IsCutOut source) ls
     → AllByRecursion IsWhole (map (piece source ending) ls)
 wholes source ending [] e h = tt
 wholes source ending (l ∷ ls) e h = (

@@ -6,7 +6,11 @@ pub mod CodedLabels
 pub mod CodedSteps
 pub mod FindingSteps
 pub mod FirstEndings
+pub mod EditPlaces
+pub mod FewerFindings
 pub mod FixedLines
+pub mod LeftSteps
 pub mod Pieces
 pub mod ProposalSteps
 pub mod Proposed
+pub mod WideTexts

@@ -37,13 +37,13 @@ pub record IsCutOut (source : List ℕ) (l : Line) : Type 0 where
   pub plain : All IsText (slice_range source l.start l.text_end)
   pub ended : l.text_end < l.end → IsEnding (slice_range source l.text_end l.end)
 
-front_is : (source : List ℕ) (at : ℕ) (xs ys : List ℕ) (to : ℕ) → drop at source ≡ xs ++ ys → to ≡ at + length xs
+pub front_is : (source : List ℕ) (at : ℕ) (xs ys : List ℕ) (to : ℕ) → drop at source ≡ xs ++ ys → to ≡ at + length xs
     → slice_range source at to ≡ xs
 front_is source at xs ys to e f =
     let n : to - at ≡ length xs = omega (arith, f) in
     ap (λ bs. take (to - at) bs) e ∙ ap (λ k. take k (xs ++ ys)) n ∙ take-append_seam xs ys
 
-rest_is : (source : List ℕ) (at : ℕ) (xs ys : List ℕ) (to : ℕ) → drop at source ≡ xs ++ ys → to ≡ at + length xs
+pub rest_is : (source : List ℕ) (at : ℕ) (xs ys : List ℕ) (to : ℕ) → drop at source ≡ xs ++ ys → to ≡ at + length xs
     → drop to source ≡ ys
 rest_is source at xs ys to e f =
     ap (λ k. drop k source) f ∙ sym (drop-drop (length xs) at source) ∙ ap (drop (length xs)) e
@@ -142,14 +142,14 @@ step source at text end rest is plain clean ending ended later =
     (first, later (at + (length text + length end)) after)
 
 -- what an LF at the front of clean pieces says of the first
-record BeginsByLF (p : Piece) : Type 0 where
-  none : p.text ≡ []
-  lf : p.ending ≡ LF ∷ []
+pub record BeginsByLF (p : Piece) : Type 0 where
+  pub none : p.text ≡ []
+  pub lf : p.ending ≡ LF ∷ []
 
 no_lf : (b : ℕ) (bs : List ℕ) → All IsText (b ∷ bs) → b ≡ 10 → ⊥
 no_lf b bs h e = let p : is_text b ≡ true = h 0 0 (omega arith) in grind (arith, nat_tests, e, p)
 
-lf_first : (text end rest : List ℕ) → All IsText text → IsEnding end → slice_index (text ++ (end ++ rest)) 0 ≡ 10
+pub lf_first : (text end rest : List ℕ) → All IsText text → IsEnding end → slice_index (text ++ (end ++ rest)) 0 ≡ 10
     → BeginsByLF (record { text = text; ending = end })
 lf_first (b ∷ bs) end rest plain ended e = absurd (no_lf b bs plain e)
 lf_first [] end rest plain (inl f) e = record { none = refl; lf = f }

@@ -30,7 +30,7 @@ use Rattle.miette_lint.proofs.CleanTexts.{begun_whole, ending_le}
 
 -- ---- only the last line has no terminator
 
-abbrev EndsLast : List Line → Type 0
+abbrev pub EndsLast : List Line → Type 0
 EndsLast [] = Unit {0}
 EndsLast (l ∷ ls) = (is_terminated l ≡ false → ls ≡ []) × EndsLast ls
 
@@ -53,7 +53,7 @@ rest_none end rest (inr (inl e)) n = absurd (omega (arith, ap length e, n))
 rest_none end rest (inr (inr (inl e))) n = absurd (omega (arith, ap length e.0, n))
 rest_none end rest (inr (inr (inr e))) n = e.1
 
-ends_last : (at : ℕ) (ls : List Line) (bytes : List ℕ) → AreLines at ls bytes → EndsLast ls
+pub ends_last : (at : ℕ) (ls : List Line) (bytes : List ℕ) → AreLines at ls bytes → EndsLast ls
 ends_last at [] bytes h = tt
 ends_last at (l ∷ ls) bytes h =
     let w : BeginsWith at l bytes h.0 = h.1 in (
@@ -113,7 +113,7 @@ no_blanks source k from rest =
     ∙ ap (λ to. slice_range source from to ++ rest) z ∙ ap (λ xs. xs ++ rest) (nothing_there source from))
     (λ f. ap (λ b. cond b (slice_range source from (from + k)) [] ++ rest) f)
 
-ne_zero : (k : ℕ) → eqb k 0 ≡ false → 0 < k
+pub ne_zero : (k : ℕ) → eqb k 0 ≡ false → 0 < k
 ne_zero k f = grind (arith, nat_tests, f)
 
 with_trailing : (source : List ℕ) (end k from : ℕ) (text : List ℕ) (fixes : List Proposal) (rest : List ℕ)
@@ -137,7 +137,7 @@ with_trailing source end k from text fixes rest is at le within h =
           ∙ no_blanks source k from rest;
     })
 
-some_blanks : (at high : ℕ) (blanks : List ℕ) → high ≡ at + length blanks
+pub some_blanks : (at high : ℕ) (blanks : List ℕ) → high ≡ at + length blanks
     → is_none (tab_after_space blanks) ≡ false → at < high
 some_blanks at high [] is f = let bad : true ≡ false = f in absurd (cc)
 some_blanks at high (b ∷ bs) is f = omega (arith, is)

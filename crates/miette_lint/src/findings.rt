@@ -21,8 +21,12 @@ use std::ops::Range;
 // How many columns a tab goes on to a multiple of.
 const TAB: usize = 4;
 
-// The first cell of a text that goes past a width.
-fn first_past(text: &[u8], start: usize, width: usize) -> Result<Option<Cell>, AllocError>
+/// The first cell of a text that goes past a width.
+pub(crate) fn first_past(
+    text: &[u8],
+    start: usize,
+    width: usize,
+) -> Result<Option<Cell>, AllocError>
     requires { start + length text.now < 2 ^ 64 }
     ensures { IfOk result (λ cell. option_map cell_of cell
         ≡ find (λ c. nat_lt width c.until) (cells_of start text.now)) }

@@ -1,9 +1,11 @@
 //! All that `lint` proposes as one fix.
 
-ghost use Rattle.std.specs.Prelude.{◌≡◌, ◌++◌, string_bytes, IfOk};
+ghost use Rattle.std.specs.Prelude.{◌≡◌, ◌++◌, length, string_bytes, IfOk};
 ghost use Rattle.std.specs.List.{flat_map};
+ghost use Rattle.miette_lint.specs.rules.Findings.{findings_of};
 ghost use Rattle.miette_lint.specs.rules.Joint.{joint_proposal, mended_text};
 
+use crate::left::left_count;
 use crate::proposals::proposals;
 use itoa::Buffer;
 use miette_fixes::fix::{Applicability, Edit, Fix};
@@ -42,16 +44,24 @@ fn joined(fix: Fix, fixes: &[Fix]) -> Result<Fix, AllocError>
     Ok(joint)
 }
 
-/// All edits that are proposed for a source as one fix, which may be applied without a look; its message says how many
-/// of the `found` findings are mended. What it gives is the fixed text: `joint_laws`.
+/// All edits that are proposed for a source as one fix, which may be applied without a look. Its message says how many
+/// of the findings are gone after it: those of the source at this width, of which there are `found`, less those of the
+/// fixed text at the same width. What it gives is the fixed text: `joint_laws`.
 ///
 /// # Errors
 /// Where no memory is found.
-pub fn joint_proposal(alloc: Global, source: &[u8], found: usize) -> Result<Fix, AllocError>
-    ensures { IfOk result (λ fix. fix ≡ joint_proposal source.now found) }
+pub fn joint_proposal(
+    alloc: Global,
+    source: &[u8],
+    width: usize,
+    found: usize,
+) -> Result<Fix, AllocError>
+    requires all { found ≡ length (findings_of source.now width) }
+    ensures { IfOk result (λ fix. fix ≡ joint_proposal source.now width) }
 {
     let fixes = proposals(alloc, source)?;
-    let message = mended_text(alloc, fixes.len(), found)?;
+    let left = left_count(alloc, source, width)?;
+    let message = mended_text(alloc, found - left, found)?;
     let fix = Fix::new(alloc, message.as_str())?.with_applicability(
         Applicability::MachineApplicable,
     );

@@ -1,12 +1,12 @@
 //! Laws of what is proposed. The functions do nothing: their contracts are the laws, and a proof above calls them.
 
-ghost use Rattle.std.specs.Prelude.{◌≡◌, ℕ, List, [], None, length, map, true};
+ghost use Rattle.std.specs.Prelude.{◌≡◌, ℕ, ◌+◌, List, [], None, length, map, true};
 ghost use Rattle.miette_fixes.specs.rules.Applying.{applied, refusal};
 ghost use Rattle.miette_fixes.specs.rules.ApplyingAll.{all_applied, taken};
 ghost use Rattle.miette_lint.specs.rules.Coded.{Coded, coded_findings};
 ghost use Rattle.miette_lint.specs.rules.Findings.{findings_of};
 ghost use Rattle.miette_lint.specs.rules.Fixes.{fixed_text, proposals_of, wide_lines};
-ghost use Rattle.miette_lint.specs.rules.Joint.{joint_proposal};
+ghost use Rattle.miette_lint.specs.rules.Joint.{joint_proposal, mended_count};
 
 /// Of every source: nothing but lines that are too wide is found in the fixed text, and nothing is proposed for it.
 /// Fixing it again changes nothing. It is the text after all proposals, and each of these is taken.
@@ -21,12 +21,16 @@ pub fn fixed_laws()
         ≡ map (λ fix. true) (proposals_of source) }
 {}
 
-/// Of every source: all that is proposed as one fix can be applied, and gives the fixed text.
+/// Of every source: all that is proposed as one fix can be applied, and gives the fixed text. The findings that it is
+/// said to mend and those of the fixed text are as many as those of the source.
 pub fn joint_laws()
-    ensures accepted { (source : List ℕ) (found : ℕ) →
-        refusal (length source) (joint_proposal source found).edits ≡ None }
-    ensures applied { (source : List ℕ) (found : ℕ) → applied source (joint_proposal source found).edits
+    ensures accepted { (source : List ℕ) (width : ℕ) →
+        refusal (length source) (joint_proposal source width).edits ≡ None }
+    ensures applied { (source : List ℕ) (width : ℕ) → applied source (joint_proposal source width).edits
         ≡ fixed_text source }
+    ensures counts { (source : List ℕ) (width : ℕ) →
+        mended_count source width + length (findings_of (fixed_text source) width)
+        ≡ length (findings_of source width) }
 {}
 
 /// Of every source: the labels of the findings with codes are the findings.

@@ -8,5 +8,6 @@ pub mod findings;
 pub mod fixed;
 pub mod joint;
 pub mod laws;
+mod left;
 pub mod proposals;
 mod spaces;

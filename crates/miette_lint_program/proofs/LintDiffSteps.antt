@@ -16,15 +16,14 @@ use Rattle.miette_lint_program.specs.views.LintReports.{warning, IsClean, IsDiff
 -- ---- the report
 
 pub tree_made : {R E : Type 0} (tree : R → Tree) (r : Result R E) (made : Tree) (m : Meaning)
-    (name input bytes : List ℕ) (found : List Label) (n : ℕ) (fix : Proposal) → made ≡ over_input name m input
-    → m ≡ warning found → bytes ≡ input → n ≡ length found → fix ≡ joint_proposal bytes n
+    (name input bytes : List ℕ) (found : List Label) (width : ℕ) (fix : Proposal) → made ≡ over_input name m input
+    → m ≡ warning found → bytes ≡ input → fix ≡ joint_proposal bytes width
     → IfOk r (λ it. tree it ≡ with_fix fix made)
-    → IfOk r (λ it. tree it ≡ with_fix (joint_proposal input (length found)) (over_input name (warning found) input))
-tree_made tree (Err e) made m name input bytes found n fix of same read size all h = tt
-tree_made tree (Ok it) made m name input bytes found n fix of same read size all h =
+    → IfOk r (λ it. tree it ≡ with_fix (joint_proposal input width) (over_input name (warning found) input))
+tree_made tree (Err e) made m name input bytes found width fix of same read all h = tt
+tree_made tree (Ok it) made m name input bytes found width fix of same read all h =
     h ∙ ap (with_fix fix) of ∙ ap (λ v. with_fix fix (over_input name v input)) same
-    ∙ ap (λ f. with_fix f (over_input name (warning found) input))
-    (all ∙ ap (λ bs. joint_proposal bs n) read ∙ ap (joint_proposal input) size)
+    ∙ ap (λ f. with_fix f (over_input name (warning found) input)) (all ∙ ap (λ bs. joint_proposal bs width) read)
 
 -- it is read whole
 pub diff_reads : (limit : Option ℕ) (t : Tree) (name : List ℕ) (m : Meaning) (input : List ℕ) (fix : Proposal)
@@ -39,7 +38,7 @@ pub nothing_diffed : (name : List ℕ) (width : ℕ) (input text : List ℕ) (fo
 nothing_diffed name width input text found e none = subst (λ f. IsDiffed name width input f text) (sym e) none
 
 pub some_diffed : (name : List ℕ) (width : ℕ) (input text : List ℕ) (found : List Label) (t : Tree) → 0 < length found
-    → t ≡ with_fix (joint_proposal input (length found)) (over_input name (warning found) input)
+    → t ≡ with_fix (joint_proposal input width) (over_input name (warning found) input)
     → IsPicture (Some width) t text → IsDiffed name width input found text
 some_diffed name width input text [] t some is p = absurd (omega (arith, some))
 some_diffed name width input text (l ∷ ls) t some is p = subst (λ v. IsPicture (Some width) v text) is p

@@ -1,6 +1,6 @@
 //! `lint --diff`, over any reader and writers.
 
-ghost use Rattle.std.specs.Prelude.{◌≡◌, ◌↔◌, ◌⊎◌, ◌<◌, false, true, IfOk, IfSome, IsNone, IsTrue, OnErr, length, map};
+ghost use Rattle.std.specs.Prelude.{◌≡◌, ◌↔◌, ◌⊎◌, ◌<◌, false, true, IfOk, IfSome, IsNone, IsTrue, OnErr, map};
 ghost use Rattle.std.specs.Prelude.{string_bytes};
 ghost use Rattle.std.specs.Io.KnownBytes.{Appends};
 ghost use Rattle.miette_tree.specs.views.Report.{tree_of};
@@ -40,17 +40,17 @@ pub fn diffing(words: &[String]) -> Option<LintWords<'_>>
 // The report of what is found in the input, with one fix of all that is proposed.
 fn report_with_fix<D: Diagnostic, S: SourceCode>(
     alloc: Global,
-    name: &str,
+    words: &LintWords<'_>,
     found: Vec<LabeledSpan>,
     input: Vec<u8>,
 ) -> Result<Report<D, S>, AllocError>
-    ensures { IfOk result (λ it. tree_of D.meaning S.source it
-        ≡ with_fix (joint_proposal input.items (length found.items))
-        (over_input name.now (warning found.items) input.items)) }
+    requires { found.items ≡ findings_of input.items words.now.width }
+    ensures { IfOk result (λ it. tree_of D.meaning S.source it ≡ with_fix (joint_proposal input.items words.now.width)
+        (over_input words.now.name.now (warning found.items) input.items)) }
 {
-    let fix = joint_proposal(alloc, input.as_slice(), found.len())?;
+    let fix = joint_proposal(alloc, input.as_slice(), words.width, found.len())?;
     let diagnostic = diagnostic(alloc, found)?;
-    report(alloc, name, diagnostic, input)?.with_fix(alloc, fix)
+    report(alloc, words.name, diagnostic, input)?.with_fix(alloc, fix)
 }
 
 // The picture for what is found in the input, with one fix of all that is proposed: nothing where nothing is found.
@@ -60,6 +60,7 @@ fn text_for(
     found: Vec<LabeledSpan>,
     input: Vec<u8>,
 ) -> Result<String, Fault>
+    requires { found.items ≡ findings_of input.items words.now.width }
     ensures diffed { IfOk result (λ text. IsDiffed words.now.name.now words.now.width input.items found.items
         (string_bytes text)) }
     ensures others { OnErr result (result ≡ Err Fault.Memory) }
@@ -67,7 +68,7 @@ fn text_for(
     if is_clean(&found) {
         return Ok(String::new(alloc));
     }
-    let report: Report = report_with_fix(alloc, words.name, found, input)?;
+    let report: Report = report_with_fix(alloc, words, found, input)?;
     match draw(alloc, &report, Some(words.width)) {
         Ok(text) => Ok(text),
         Err(RenderError::Memory) => Err(Fault::Memory),

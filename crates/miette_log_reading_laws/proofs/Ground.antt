@@ -1,6 +1,6 @@
 -- By what the results of a log are read.
 use Rattle.std.proofs.Common.{◌≡◌, ℕ, List, [], ◌∷◌, ◌++◌, Option, Some, None, map, refl, ap, ◌∙◌, codes}
-use Rattle.std.proofs.Common.{option_and_then, option_map, unwrap_or}
+use Rattle.std.proofs.Common.{filter, option_and_then, option_map, unwrap_or}
 use Rattle.std.specs.Prelude.{if◌then◌else◌}
 use Rattle.std.specs.List.{filter_map}
 use Rattle.std.specs.Str.{bytes_eq}
@@ -11,12 +11,12 @@ use Rattle.miette_json.specs.rules.Json.{Json}
 use Rattle.miette_positions.specs.declared.place.PositionEncoding.{PositionEncoding}
 use Rattle.miette_positions.specs.declared.place.PositionEncoding.TheVariants.{Utf16, Utf32}
 use Rattle.miette_protocol.specs.rules.Reading.{Source}
-use Rattle.miette_readers.specs.rules.Members.{items_in, object_at, objects_alone, objects_at}
+use Rattle.miette_readers.specs.rules.Members.{is_object, items_in, object_at, objects_alone, objects_at}
 use Rattle.miette_sarif.specs.rules.Codes.{Rules, rule_value, rule_values}
 use Rattle.miette_sarif.specs.rules.Log.{ToolName, newlines, run_head, tool_of}
 use Rattle.miette_sarif.specs.rules.Objects.{Pairs, array_of, listed, maybe_text, object_of, pair}
 use Rattle.miette_sarif.specs.rules.Uris.{address_uri}
-use Rattle.miette_sarif_reader.specs.rules.Logs.{driver_of, ground_of, rules_by}
+use Rattle.miette_sarif_reader.specs.rules.Logs.{driver_of, extensions_by, ground_of, rules_by, tool_told}
 use Rattle.miette_sarif_reader.specs.rules.Newlines.{newlines_of, or_usual, sequence_in}
 use Rattle.miette_sarif_reader.specs.rules.Regions.{encoding_of}
 use Rattle.miette_sarif_reader.specs.rules.Results.{Ground}
@@ -25,19 +25,21 @@ use Rattle.miette_log_reading_laws.specs.laws.RegionsBack.{log_newlines}
 use Rattle.miette_log_reading_laws.proofs.Objects.{all_objects, listed_read, object_read, objects_in, some_array}
 use Rattle.miette_log_reading_laws.proofs.Objects.{value_in}
 
-abbrev made : (List ℕ → Option Source) → List Data → PositionEncoding → List (List ℕ) → List Data → Option Data → Ground
-made files artifacts encoding ends rules bases = record {
+abbrev made : (List ℕ → Option Source) → List Data → PositionEncoding → List (List ℕ) → List Data → List (List Data)
+    → Option Data → Ground
+made files artifacts encoding ends rules extensions bases = record {
   files = files;
   encoding = encoding;
   newlines = ends;
   rules = rules;
+  extensions = extensions;
   artifacts = artifacts;
   bases = bases;
   strings = None;
 }
 
 abbrev pub log_ground : (List ℕ → Option Source) → Rules → List Data → Ground
-log_ground files r artifacts = made files artifacts Utf16 log_newlines (map data_of (rule_values r)) None
+log_ground files r artifacts = made files artifacts Utf16 log_newlines (map data_of (rule_values r)) [] None
 
 -- ---- a run
 
@@ -67,6 +69,14 @@ module _ (t : ToolName) (r : Rules) (rs : List Json) where
   bases_in : (artifacts : List Json) → value_in (codes "originalUriBaseIds") (run_pairs artifacts) None ≡ None
   bases_in [] = refl
   bases_in (v ∷ vs) = refl
+
+  invocations_in : (artifacts : List Json) → value_in (codes "invocations") (run_pairs artifacts) None ≡ None
+  invocations_in [] = refl
+  invocations_in (v ∷ vs) = refl
+
+  -- the tool says nothing of itself
+  pub invocations_read : (artifacts : List Json) → get (codes "invocations") (run_data artifacts) ≡ None
+  invocations_read artifacts = object_read (codes "invocations") (run_pairs artifacts) ∙ invocations_in artifacts
 
   results_in : (artifacts : List Json)
       → value_in (codes "results") (run_pairs artifacts) None ≡ Some (data_of (array_of rs))
@@ -116,6 +126,17 @@ module _ (t : ToolName) (r : Rules) (rs : List Json) where
       (object_read (codes "tool") (run_pairs artifacts) ∙ tool_in artifacts)
       ∙ (ap rules_by driver_read ∙ driver_rules t.version information)
 
+  no_extensions : get (codes "extensions") (data_of (tool_of t r)) ≡ None
+  no_extensions =
+      object_read (codes "extensions") (pair (codes "driver") (object_of (driver_pairs t.version information)))
+
+  extensions_read : (artifacts : List Json) → extensions_by (tool_told (run_data artifacts)) ≡ []
+  extensions_read artifacts =
+      ap (λ o. extensions_by (option_and_then objects_alone o))
+      (object_read (codes "tool") (run_pairs artifacts) ∙ tool_in artifacts)
+      ∙ ap (λ o. map (objects_at (codes "rules")) (filter is_object (items_in (option_and_then as_array o))))
+      no_extensions
+
   -- ---- how places are counted
 
   encoding_read : (artifacts : List Json) → encoding_of (run_data artifacts) ≡ Utf16
@@ -143,10 +164,12 @@ module _ (t : ToolName) (r : Rules) (rs : List Json) where
   ground_read files artifacts =
       let d : Data = run_data artifacts in
       let rules : List Data = map data_of (rule_values r) in
-      ap (λ it. made files (found artifacts) it (newlines_of d) (rules_by (driver_of d))
-      (object_at (codes "originalUriBaseIds") d)) (encoding_read artifacts)
-      ∙ (ap (λ it. made files (found artifacts) Utf16 it (rules_by (driver_of d))
-      (object_at (codes "originalUriBaseIds") d)) (newlines_read artifacts)
-      ∙ (ap (λ it. made files (found artifacts) Utf16 log_newlines it (object_at (codes "originalUriBaseIds") d))
-      (rules_read artifacts)
-      ∙ ap (made files (found artifacts) Utf16 log_newlines rules) (bases_read artifacts)))
+      let extensions : List (List Data) = extensions_by (tool_told d) in
+      let bases : Option Data = object_at (codes "originalUriBaseIds") d in
+      ap (λ it. made files (found artifacts) it (newlines_of d) (rules_by (driver_of d)) extensions bases)
+      (encoding_read artifacts)
+      ∙ (ap (λ it. made files (found artifacts) Utf16 it (rules_by (driver_of d)) extensions bases)
+      (newlines_read artifacts)
+      ∙ (ap (λ it. made files (found artifacts) Utf16 log_newlines it extensions bases) (rules_read artifacts)
+      ∙ (ap (λ it. made files (found artifacts) Utf16 log_newlines rules it bases) (extensions_read artifacts)
+      ∙ ap (made files (found artifacts) Utf16 log_newlines rules []) (bases_read artifacts))))

@@ -14,6 +14,7 @@ pub mod NamesBack
 pub mod NamesDecoded
 pub mod Places
 pub mod Told
+pub mod Counted
 pub mod Drafts
 pub mod Over
 pub mod Gathered

@@ -90,6 +90,27 @@ module _ (r : Rules) (level text : List ℕ) (ls rs xs : List Json) where
   pub flows_read : (code : List ℕ) → get (codes "codeFlows") (result_by code) ≡ None
   flows_read code = other_read code (codes "codeFlows") None (flows_in code) refl refl refl
 
+  suppressions_in : (code : List ℕ) → in_head code (codes "suppressions") ≡ None
+  suppressions_in [] = refl
+  suppressions_in (c ∷ cs) = refl
+
+  pub suppressions_read : (code : List ℕ) → get (codes "suppressions") (result_by code) ≡ None
+  suppressions_read code = other_read code (codes "suppressions") None (suppressions_in code) refl refl refl
+
+  baseline_in : (code : List ℕ) → in_head code (codes "baselineState") ≡ None
+  baseline_in [] = refl
+  baseline_in (c ∷ cs) = refl
+
+  pub baseline_read : (code : List ℕ) → get (codes "baselineState") (result_by code) ≡ None
+  baseline_read code = other_read code (codes "baselineState") None (baseline_in code) refl refl refl
+
+  kind_in : (code : List ℕ) → in_head code (codes "kind") ≡ None
+  kind_in [] = refl
+  kind_in (c ∷ cs) = refl
+
+  pub kind_read : (code : List ℕ) → get (codes "kind") (result_by code) ≡ None
+  kind_read code = other_read code (codes "kind") None (kind_in code) refl refl refl
+
   pub no_id_read : get (codes "ruleId") (result_by []) ≡ None
   no_id_read = other_read [] (codes "ruleId") None refl refl refl refl
 

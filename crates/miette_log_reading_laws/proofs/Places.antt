@@ -16,10 +16,11 @@ use Rattle.miette_sarif.specs.rules.Codes.{Rules}
 use Rattle.miette_sarif.specs.rules.Findings.{SourceName}
 use Rattle.miette_sarif_reader.specs.rules.Bases as bases
 use Rattle.miette_sarif_reader.specs.rules.Bases.{after_base, base_uri, is_absolute, most_bases, own_uri}
+use Rattle.miette_sarif_reader.specs.rules.Descriptors.{item_at}
 use Rattle.miette_sarif_reader.specs.rules.Regions.{end_columns, end_line, has_chars, has_bytes, has_line}
 use Rattle.miette_sarif_reader.specs.rules.Regions.{line_stretch, offset_at, start_column, start_line, stretch_by_bytes}
 use Rattle.miette_sarif_reader.specs.rules.Regions.{stretch_by_chars, stretch_in}
-use Rattle.miette_sarif_reader.specs.rules.Results.{Ground, file_at, file_by, item_at, location_of, place_in}
+use Rattle.miette_sarif_reader.specs.rules.Results.{Ground, file_at, file_by, location_of, place_in}
 use Rattle.miette_sarif_reader.specs.rules.Results.{with_begin}
 use Rattle.miette_sarif_reader.specs.rules.Uris.{name_of}
 use Rattle.miette_log_reading_laws.specs.laws.Data.{data_of}

@@ -1,7 +1,6 @@
 -- What a result says, and its rule.
 use Rattle.std.proofs.Common.{◌≡◌, ℕ, List, [], ◌∷◌, ◌++◌, Option, Some, None, ap, ◌∙◌, codes}
-use Rattle.std.proofs.Common.{option_and_then, unwrap_or, is_some}
-use Rattle.std.specs.Prelude.{if◌then◌else◌}
+use Rattle.std.proofs.Common.{option_and_then, unwrap_or}
 use Rattle.std.specs.Option.{option_or}
 use Rattle.std.specs.Str.{bytes_eq}
 use Rattle.serde_json.specs.Data.{Data}
@@ -12,12 +11,13 @@ use Rattle.miette_protocol.specs.rules.Reading.{Source}
 use Rattle.miette_readers.specs.rules.Members.{object_at, objects_alone, said, text_at, whole_at}
 use Rattle.miette_readers.specs.rules.Reports.{Said}
 use Rattle.miette_sarif.specs.rules.Artifacts.{index_of}
-use Rattle.miette_sarif.specs.rules.Codes.{codes_of, help_uri, rule_value, rules_in}
+use Rattle.miette_sarif.specs.rules.Codes.{codes_of, help_uri, rule_value, rules_in as codes_in}
 use Rattle.miette_sarif.specs.rules.Findings.{Finding}
 use Rattle.miette_sarif.specs.rules.Objects.{Pairs, maybe_text, message_of, pair}
-use Rattle.miette_sarif_reader.specs.rules.Results.{Ground, code_of, default_level, ground_for, index_told, item_at}
-use Rattle.miette_sarif_reader.specs.rules.Results.{level_of, message_in, message_text, rule_id, rule_index, rule_named}
-use Rattle.miette_sarif_reader.specs.rules.Results.{rule_of, rule_told, said_of, severity_by, strings_of, url_of}
+use Rattle.miette_sarif_reader.specs.rules.Descriptors.{component_told, index_told, item_at, rule_id, rule_named}
+use Rattle.miette_sarif_reader.specs.rules.Descriptors.{rule_by, rule_told, rules_in}
+use Rattle.miette_sarif_reader.specs.rules.Results.{Ground, code_of, default_level, ground_for, level_of, message_in}
+use Rattle.miette_sarif_reader.specs.rules.Results.{message_text, rule_of, said_of, severity_by, strings_of, url_of}
 use Rattle.miette_log_reading_laws.specs.laws.Data.{data_of}
 use Rattle.miette_log_reading_laws.specs.laws.Kept.{url_kept}
 use Rattle.miette_log_reading_laws.proofs.Ground.{log_ground}
@@ -49,60 +49,62 @@ no_strings code (Some uri) =
 module _ (files : List ℕ → Option Source) (artifacts : List Data) (fs : List Finding) (level text : List ℕ)
     (ls rs xs : List Json) where
   abbrev g : Ground
-  g = log_ground files (rules_in fs) artifacts
+  g = log_ground files (codes_in fs) artifacts
 
   abbrev d : List ℕ → Data
-  d code = result_by (rules_in fs) level text ls rs xs code
+  d code = result_by (codes_in fs) level text ls rs xs code
 
   abbrev rule_kept : List ℕ → Option Data
   rule_kept [] = None
   rule_kept (c ∷ cs) = Some (data_of (rule_value (c ∷ cs) (help_uri (c ∷ cs) fs)))
 
   told_none : (code : List ℕ) → rule_told (d code) ≡ None
-  told_none code = ap (option_and_then objects_alone) (rule_read (rules_in fs) level text ls rs xs code)
+  told_none code = ap (option_and_then objects_alone) (rule_read (codes_in fs) level text ls rs xs code)
 
-  -- it is one of the tool's own
-  own_index : (code : List ℕ) → rule_index (d code) ≡ index_told (d code)
-  own_index code =
-      ap (λ o. if is_some (option_and_then (object_at (codes "toolComponent")) o) then None else index_told (d code))
-      (told_none code)
+  -- it is one of the driver's own
+  own_rules : (code : List ℕ) → rules_in g.rules g.extensions (component_told (d code)) ≡ Some g.rules
+  own_rules code =
+      ap (λ o. rules_in g.rules g.extensions (option_and_then (object_at (codes "toolComponent")) o)) (told_none code)
 
   id_none : rule_id (d []) ≡ None
   id_none =
       ap (λ o. option_or (option_and_then as_str o) (option_and_then (text_at (codes "id")) (rule_told (d []))))
-      (no_id_read (rules_in fs) level text ls rs xs)
+      (no_id_read (codes_in fs) level text ls rs xs)
       ∙ ap (λ o. option_or None (option_and_then (text_at (codes "id")) o)) (told_none [])
 
   id_there : (c : ℕ) (cs : List ℕ) → rule_id (d (c ∷ cs)) ≡ Some (c ∷ cs)
   id_there c cs =
       ap (λ o. option_or (option_and_then as_str o)
       (option_and_then (text_at (codes "id")) (rule_told (d (c ∷ cs)))))
-      (id_read (rules_in fs) level text ls rs xs c cs)
+      (id_read (codes_in fs) level text ls rs xs c cs)
 
-  index_none : rule_index (d []) ≡ None
+  index_none : index_told (d []) ≡ None
   index_none =
-      own_index []
-      ∙ (ap (λ o. option_or (option_and_then as_u64 (option_and_then as_number o))
+      ap (λ o. option_or (option_and_then as_u64 (option_and_then as_number o))
       (option_and_then (whole_at (codes "index")) (rule_told (d []))))
-      (no_index_read (rules_in fs) level text ls rs xs)
-      ∙ ap (λ o. option_or None (option_and_then (whole_at (codes "index")) o)) (told_none []))
+      (no_index_read (codes_in fs) level text ls rs xs)
+      ∙ ap (λ o. option_or None (option_and_then (whole_at (codes "index")) o)) (told_none [])
 
   index_there : (c : ℕ) (cs : List ℕ)
-      → rule_index (d (c ∷ cs)) ≡ Some (index_of (bytes_eq (c ∷ cs)) (codes_of fs))
+      → index_told (d (c ∷ cs)) ≡ Some (index_of (bytes_eq (c ∷ cs)) (codes_of fs))
   index_there c cs =
-      own_index (c ∷ cs)
-      ∙ ap (λ o. option_or (option_and_then as_u64 (option_and_then as_number o))
+      ap (λ o. option_or (option_and_then as_u64 (option_and_then as_number o))
       (option_and_then (whole_at (codes "index")) (rule_told (d (c ∷ cs)))))
-      (index_read (rules_in fs) level text ls rs xs c cs)
+      (index_read (codes_in fs) level text ls rs xs c cs)
 
   pub rule_found : (code : List ℕ) → HasCode code fs → rule_of g (d code) ≡ rule_kept code
   rule_found [] h =
-      ap (λ i. option_or (item_at g.rules i) (rule_named g.rules (rule_id (d [])))) index_none
-      ∙ ap (λ i. option_or None (rule_named g.rules i)) id_none
+      let id : Option (List ℕ) = rule_id (d []) in
+      let by_id : Option Data = rule_named g.rules g.extensions id in
+      ap (λ rules. option_or (rule_by (index_told (d [])) rules) by_id) (own_rules [])
+      ∙ (ap (λ i. option_or (item_at g.rules i) by_id) index_none
+      ∙ ap (λ i. option_or None (rule_named g.rules g.extensions i)) id_none)
   rule_found (c ∷ cs) h =
       let id : Option (List ℕ) = rule_id (d (c ∷ cs)) in
-      ap (λ i. option_or (item_at g.rules i) (rule_named g.rules id)) (index_there c cs)
-      ∙ ap (λ o. option_or o (rule_named g.rules id)) (rule_at c cs fs h)
+      let by_id : Option Data = rule_named g.rules g.extensions id in
+      ap (λ rules. option_or (rule_by (index_told (d (c ∷ cs))) rules) by_id) (own_rules (c ∷ cs))
+      ∙ (ap (λ i. option_or (item_at g.rules i) by_id) (index_there c cs)
+      ∙ ap (λ o. option_or o by_id) (rule_at c cs fs h))
 
   strings_none : (code : List ℕ) → HasCode code fs → strings_of g (d code) ≡ None
   strings_none [] h = ap (option_and_then (object_at (codes "messageStrings"))) (rule_found [] h)
@@ -131,13 +133,13 @@ module _ (files : List ℕ → Option Source) (artifacts : List Data) (fs : List
   severity_read : (code : List ℕ) → severity_by (level_of g (d code)) ≡ severity_by level
   severity_read code =
       ap (λ o. severity_by (unwrap_or (option_and_then as_str o) (default_level g (d code))))
-      (level_read (rules_in fs) level text ls rs xs code)
+      (level_read (codes_in fs) level text ls rs xs code)
 
   message_said : (code rows : List ℕ) → message_text None (data_of (message_of text)) ≡ Some rows
       → unwrap_or (message_in None (d code)) [] ≡ rows
   message_said code rows e =
       ap (λ o. unwrap_or (option_and_then (message_text None) (option_and_then objects_alone o)) [])
-      (message_read (rules_in fs) level text ls rs xs code)
+      (message_read (codes_in fs) level text ls rs xs code)
       ∙ ap (λ o. unwrap_or o []) e
 
   abbrev made : Option (List ℕ) → List ℕ → Option (List ℕ) → List ℕ → Option (List ℕ) → Said

@@ -1,7 +1,8 @@
 -- What a result tells at places.
 use Rattle.std.proofs.Common.{◌≡◌, ℕ, ◌+◌, List, [], ◌∷◌, ◌++◌, Bool, true, false, Option, Some, None, IfSome, map}
 use Rattle.std.proofs.Common.{refl, ap, ◌∙◌, append-nil, codes, filter, option_and_then, option_map}
-use Rattle.std.specs.List.{AllByRecursion, flat_map}
+use Rattle.std.specs.Prelude.{if◌then◌else◌, is_none}
+use Rattle.std.specs.List.{AllByRecursion, cons_option, filter_map, flat_map}
 use Rattle.serde_json.specs.Data.{Data}
 use Rattle.serde_json.specs.Find.{as_array}
 use Rattle.miette_json.specs.rules.Json.{Json}
@@ -14,15 +15,16 @@ use Rattle.miette_sarif.specs.rules.Codes.{Rules}
 use Rattle.miette_sarif.specs.rules.Findings.{Area, Mark, Place, SourceName}
 use Rattle.miette_sarif.specs.rules.Places.{place_value, primary_locations, region, related_from}
 use Rattle.miette_sarif_reader.specs.rules.Bases as bases
-use Rattle.miette_sarif_reader.specs.rules.Results.{Ground, file_at, file_of, file_row, flow_told, location_told}
+use Rattle.miette_sarif_reader.specs.rules.Results.{Ground, file_at, file_of, flow_told, location_told}
 use Rattle.miette_sarif_reader.specs.rules.Results.{message_in}
 use Rattle.miette_sarif_reader.specs.rules.Results.{message_text, own_told, place_in, region_of, related_told}
-use Rattle.miette_sarif_reader.specs.rules.Results.{row_alone}
+use Rattle.miette_sarif_reader.specs.rules.Results.{row_alone, whole_row}
 use Rattle.miette_sarif_reader.specs.rules.Results.{told_at, told_in, told_of, with_begin}
+use Rattle.miette_sarif_reader.specs.rules.Wholes.{Telling, bare_file, telling_of, whole_file}
 use Rattle.miette_log_reading_laws.specs.laws.Data.{data_of}
 use Rattle.miette_log_reading_laws.specs.laws.Files.{IsMarkOver, IsOver, IsPlaceOver}
-use Rattle.miette_log_reading_laws.specs.laws.Kept.{file_name, mark_kept, primary_kept, told_by, told_over}
-use Rattle.miette_log_reading_laws.specs.laws.Kept.{words}
+use Rattle.miette_log_reading_laws.specs.laws.Kept.{bare_kept, file_name, mark_alone, mark_kept, primary_kept}
+use Rattle.miette_log_reading_laws.specs.laws.Kept.{told_by, told_over, whole_kept, words}
 use Rattle.miette_log_reading_laws.proofs.Ground.{log_ground}
 use Rattle.miette_log_reading_laws.proofs.Members.{all_related, area_lines, artifact_read, flows_read, location_by}
 use Rattle.miette_log_reading_laws.proofs.Members.{physical_read, places_read, region_read, related_read, result_by}
@@ -70,7 +72,7 @@ module _ (files : List ℕ → Option Source) (r : Rules) (artifacts : List Data
   area_told : (text : Option (List ℕ)) (own : Bool) (s : SourceName) (area : Option Area)
       → IfSome area (λ (it : Area). IsOver files a s it.stretch)
       → told_at g text true own (Some (located_at s)) (area_data area) ≡ told_over files a own text s area
-  area_told text own s None over = ap (λ name. row_alone (Some (file_row name text)) own) (name_read a s)
+  area_told text own s None over = ap (λ name. row_alone (whole_row name text) own) (name_read a s)
   area_told text own s (Some area) over =
       let d : Data = data_of (region area) in
       ap (λ b. told_in text true own b (place_in g (bases.file_name None (located_at s)) d))
@@ -102,7 +104,68 @@ module _ (files : List ℕ → Option Source) (r : Rules) (artifacts : List Data
       (physical_read a id m.place m.text)
       ∙ place_told (words m.text) own m.place over)
 
+  -- ---- its file as a whole
+
+  none_mapped : {X Y : Type 0} (f : X → Y) (o : Option X) → is_none (option_map f o) ≡ is_none o
+  none_mapped f None = refl
+  none_mapped f (Some x) = refl
+
+  abbrev whole_in : Option Data → Option Data → Option (List ℕ)
+  whole_in region file = if is_none region then option_map (bases.file_name None) file else None
+
+  abbrev whole_in_place : Option Data → Option (List ℕ)
+  whole_in_place place =
+      whole_in (option_and_then with_begin (option_and_then (object_at (codes "region")) place))
+      (option_and_then (file_at g) place)
+
+  whole_by : (place : Option Place)
+      → whole_in_place (option_and_then objects_alone (option_map (λ p. data_of (place_value a p)) place))
+      ≡ whole_kept a place
+  whole_by None = refl
+  whole_by (Some p) =
+      let d : Data = data_of (place_value a p) in
+      ap (λ o. whole_in (option_and_then with_begin (object_at (codes "region") d)) o)
+      (file_read files r artifacts a d p.source (artifact_read a p))
+      ∙ (ap (λ o. whole_in (option_and_then with_begin (option_and_then objects_alone o))
+      (Some (located_at p.source))) (region_read a p)
+      ∙ (ap (λ o. whole_in o (Some (located_at p.source))) (begin_by p.area)
+      ∙ (ap (λ b. if b then Some (bases.file_name None (located_at p.source)) else None)
+      (none_mapped (λ it. data_of (region it)) p.area)
+      ∙ ap (λ name. if is_none p.area then Some name else None) (name_read a p.source))))
+
+  whole_read : (id : Option ℕ) (place : Option Place) (text : List ℕ)
+      → whole_file g (location_by a id place text) ≡ whole_kept a place
+  whole_read id place text =
+      ap (λ o. whole_in_place (option_and_then objects_alone o)) (physical_read a id place text) ∙ whole_by place
+
+  bare_read : (id : Option ℕ) (m : Mark) → bare_file g (location_by a id m.place m.text) ≡ bare_kept a m
+  bare_read id m =
+      ap (λ o. if is_none o then whole_file g (location_by a id m.place m.text) else None)
+      (words_read id m.place m.text)
+      ∙ ap (λ o. if is_none (words m.text) then o else None) (whole_read id m.place m.text)
+
   -- ---- all of them
+
+  wholes_read : (o : Option Mark) → filter_map (whole_file g) (map data_of (primary_locations a o))
+      ≡ filter_map (λ (m : Mark). whole_kept a m.place) (mark_alone o)
+  wholes_read None = refl
+  wholes_read (Some m) = ap (λ it. cons_option it []) (whole_read None m.place m.text)
+
+  others_bare : (id : ℕ) (ms : List Mark) → filter_map (bare_file g) (map data_of (related_from a id ms))
+      ≡ filter_map (bare_kept a) ms
+  others_bare id [] = refl
+  others_bare id (m ∷ ms) =
+      ap (λ it. cons_option it (filter_map (bare_file g) (map data_of (related_from a (id + 1) ms))))
+      (bare_read (Some id) m)
+      ∙ ap (cons_option (bare_kept a m)) (others_bare (id + 1) ms)
+
+  bares_read : (o : Option Mark) (ms : List Mark)
+      → filter_map (bare_file g) (map data_of (primary_locations a o) ++ map data_of (related_from a 1 ms))
+      ≡ filter_map (bare_kept a) (mark_alone o ++ ms)
+  bares_read None ms = others_bare 1 ms
+  bares_read (Some m) ms =
+      ap (λ it. cons_option it (filter_map (bare_file g) (map data_of (related_from a 1 ms)))) (bare_read None m)
+      ∙ ap (cons_option (bare_kept a m)) (others_bare 1 ms)
 
   primary_told : (o : Option Mark) → IfSome o (IsMarkOver files a)
       → own_told g (map data_of (primary_locations a o)) ≡ primary_kept files a o
@@ -130,23 +193,48 @@ module _ (files : List ℕ → Option Source) (r : Rules) (artifacts : List Data
     one_object None = tt
     one_object (Some m) = (refl, tt)
 
+    own_locations : objects_at (codes "locations") d ≡ map data_of (primary_locations a o)
+    own_locations =
+        objects_in (codes "locations") d (primary_locations a o)
+        (places_read r level text (primary_locations a o) (related_from a 1 ms) xs code) (one_object o)
+
+    related_locations : objects_at (codes "relatedLocations") d ≡ map data_of (related_from a 1 ms)
+    related_locations =
+        objects_in (codes "relatedLocations") d (related_from a 1 ms)
+        (related_read r level text (primary_locations a o) (related_from a 1 ms) xs code) (all_related a 1 ms)
+
     places_told : IfSome o (IsMarkOver files a)
         → own_told g (objects_at (codes "locations") d) ≡ primary_kept files a o
-    places_told over =
-        ap (own_told g) (objects_in (codes "locations") d (primary_locations a o)
-        (places_read r level text (primary_locations a o) (related_from a 1 ms) xs code) (one_object o))
-        ∙ primary_told o over
+    places_told over = ap (own_told g) own_locations ∙ primary_told o over
 
     others_told : AllByRecursion (IsMarkOver files a) ms → related_told g d ≡ map (mark_kept files a false) ms
-    others_told over =
-        ap (map (location_told g true false)) (objects_in (codes "relatedLocations") d (related_from a 1 ms)
-        (related_read r level text (primary_locations a o) (related_from a 1 ms) xs code) (all_related a 1 ms))
-        ∙ marks_told 1 ms over
+    others_told over = ap (map (location_told g true false)) related_locations ∙ marks_told 1 ms over
 
-    pub told_read : IfSome o (IsMarkOver files a) → AllByRecursion (IsMarkOver files a) ms
+    told_read : IfSome o (IsMarkOver files a) → AllByRecursion (IsMarkOver files a) ms
         → told_of g d ≡ primary_kept files a o ++ map (mark_kept files a false) ms
     told_read first others =
         ap (λ flows. (own_told g (objects_at (codes "locations") d) ++ related_told g d) ++ flows) flows_told
         ∙ (append-nil (own_told g (objects_at (codes "locations") d) ++ related_told g d)
         ∙ (ap (λ ts. ts ++ related_told g d) (places_told first)
         ∙ ap (λ ts. primary_kept files a o ++ ts) (others_told others)))
+
+    abbrev telling_with : List Told → List (List ℕ) → List (List ℕ) → Telling
+    telling_with told wholes bares = record { told = told; wholes = wholes; bares = bares }
+
+    pub telling_read : IfSome o (IsMarkOver files a) → AllByRecursion (IsMarkOver files a) ms
+        → telling_of g d ≡ telling_with (primary_kept files a o ++ map (mark_kept files a false) ms)
+        (filter_map (λ (m : Mark). whole_kept a m.place) (mark_alone o)) (filter_map (bare_kept a) (mark_alone o ++ ms))
+    telling_read first others =
+        let told : List Told = primary_kept files a o ++ map (mark_kept files a false) ms in
+        let own : List Data = objects_at (codes "locations") d in
+        let related : List Data = objects_at (codes "relatedLocations") d in
+        ap (λ it. telling_with it (filter_map (whole_file g) own) (filter_map (bare_file g) (own ++ related)))
+        (told_read first others)
+        ∙ (ap (λ ls. telling_with told (filter_map (whole_file g) ls) (filter_map (bare_file g) (ls ++ related)))
+        own_locations
+        ∙ (ap (λ it. telling_with told it
+        (filter_map (bare_file g) (map data_of (primary_locations a o) ++ related))) (wholes_read o)
+        ∙ (ap (λ ls. telling_with told (filter_map (λ (m : Mark). whole_kept a m.place) (mark_alone o))
+        (filter_map (bare_file g) (map data_of (primary_locations a o) ++ ls))) related_locations
+        ∙ ap (telling_with told (filter_map (λ (m : Mark). whole_kept a m.place) (mark_alone o)))
+        (bares_read o ms))))

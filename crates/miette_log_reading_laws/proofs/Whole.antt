@@ -1,17 +1,15 @@
 -- A log reads back as one report of each finding.
 use Rattle.std.proofs.Common.{◌≡◌, ℕ, List, [], ◌∷◌, ◌++◌, Option, Some, None, map, refl, ap, ◌∙◌, append-nil, codes}
-use Rattle.std.proofs.Common.{is_some, option_and_then}
-use Rattle.std.specs.Prelude.{if◌then◌else◌}
-use Rattle.std.specs.List.{AllByRecursion, flat_map}
-use Rattle.serde_json.specs.Data.{Data}
-use Rattle.serde_json.specs.Find.{as_array, get}
+use Rattle.std.proofs.Common.{filter, is_some, option_and_then, true, unwrap_or}
+use Rattle.std.specs.Prelude.{◌&&◌, if◌then◌else◌, nat_eq}
+use Rattle.std.specs.List.{AllByRecursion, flat_map, starts_with}
+use Rattle.serde_json.specs.Data.{Data, string}
+use Rattle.serde_json.specs.Find.{as_array, as_str, get}
 use Rattle.miette_json.specs.rules.Json as json
 use Rattle.miette_json.specs.rules.Json.{Json}
 use Rattle.miette_protocol.specs.rules.Reading.{Source}
 use Rattle.miette_readers.specs.rules.Members.{objects_at}
-use Rattle.miette_readers.specs.rules.Places.{Told}
-use Rattle.miette_readers.specs.rules.Reports.{Said, report_tree}
-use Rattle.miette_readers.specs.rules.Settling.{settled}
+use Rattle.miette_readers.specs.rules.Reports.{Said}
 use Rattle.miette_readers.proofs.Holding.{Has, Is, all_each, all_there, has_each}
 use Rattle.miette_sarif.specs.rules.Artifacts.{Artifacts, all_named, artifact_values, artifacts_in}
 use Rattle.miette_sarif.specs.rules.Codes.{Rules, rules_in}
@@ -20,22 +18,24 @@ use Rattle.miette_sarif.specs.rules.Log.{ToolName, log, run, schema}
 use Rattle.miette_sarif.specs.rules.Objects.{Pairs, array_of, pair}
 use Rattle.miette_sarif.specs.rules.Places.{primary_locations, related_from}
 use Rattle.miette_sarif.specs.rules.Results.{fix_values, message_text, result_of, results}
-use Rattle.miette_sarif_reader.specs.rules.Logs.{ground_of, result_tree, run_trees, sarif_trees}
-use Rattle.miette_sarif_reader.specs.rules.Proposals.{Draft, drafts_of, help_of, offers_of}
-use Rattle.miette_sarif_reader.specs.rules.Results.{Ground, ground_for, said_of, told_of}
-use Rattle.miette_tree.specs.rules.Tree.{Tree}
+use Rattle.miette_sarif_reader.specs.rules.Counting.{counts, results_of}
+use Rattle.miette_sarif_reader.specs.rules.Logs.{ground_of, has_runs, notice_tree, result_tree, run_trees, sarif_trees}
+use Rattle.miette_sarif_reader.specs.rules.Proposals.{Draft, drafts_of, help_of}
+use Rattle.miette_sarif_reader.specs.rules.Results.{Ground, ground_for, said_of}
+use Rattle.miette_sarif_reader.specs.rules.Wholes.{Telling, telling_of, telling_tree}
 use Rattle.miette_log_reading_laws.specs.laws.Data.{data_of}
 use Rattle.miette_log_reading_laws.specs.laws.Files.{AreFindingsOver, IsFindingOver}
 use Rattle.miette_log_reading_laws.specs.laws.Kept.{fixes_kept, message_rows, report_kept, report_with, said_kept}
-use Rattle.miette_log_reading_laws.specs.laws.Kept.{told_kept}
+use Rattle.miette_log_reading_laws.specs.laws.Kept.{telling_kept}
 use Rattle.miette_log_reading_laws.specs.laws.Links.{without_links}
+use Rattle.miette_log_reading_laws.proofs.Counted.{all_count, no_notices}
 use Rattle.miette_log_reading_laws.proofs.Drafts.{drafts_read}
 use Rattle.miette_log_reading_laws.proofs.Ground.{found, ground_read, log_ground, results_read}
 use Rattle.miette_log_reading_laws.proofs.Objects.{all_objects, object_read, objects_listed}
 use Rattle.miette_log_reading_laws.proofs.Rules.{HasCode}
 use Rattle.miette_log_reading_laws.proofs.Said.{said_read, same_ground}
 use Rattle.miette_log_reading_laws.proofs.Texts.{rows_shown}
-use Rattle.miette_log_reading_laws.proofs.Told.{told_read}
+use Rattle.miette_log_reading_laws.proofs.Told.{telling_read}
 
 module _ (files : List ℕ → Option Source) (tool : ToolName) (fs : List Finding) where
   abbrev r : Rules
@@ -85,10 +85,10 @@ module _ (files : List ℕ → Option Source) (tool : ToolName) (fs : List Findi
         ∙ said_read files listed_artifacts fs f.level (message_text r f) ls rs xs help f.code
         (without_links (message_rows r f)) h (rows_shown None r f)
 
-    pub one_told : IsFindingOver files a f → told_of (ground_for first (d f)) (d f) ≡ told_kept files a f
+    pub one_told : IsFindingOver files a f → telling_of (ground_for first (d f)) (d f) ≡ telling_kept files a f
     one_told over =
-        ap (λ it. told_of it (d f)) own_ground
-        ∙ told_read files r listed_artifacts a f.level (message_text r f) xs f.code f.primary f.marks over.primary
+        ap (λ it. telling_of it (d f)) own_ground
+        ∙ telling_read files r listed_artifacts a f.level (message_text r f) xs f.code f.primary f.marks over.primary
         over.marks
 
     pub one_drafted : IsFindingOver files a f → drafts_of (ground_for first (d f)) (d f) ≡ fixes_kept files a f
@@ -96,20 +96,15 @@ module _ (files : List ℕ → Option Source) (tool : ToolName) (fs : List Findi
         ap (λ it. drafts_of it (d f)) own_ground
         ∙ drafts_read files r listed_artifacts a f.level (message_text r f) ls rs f.code f.fixes over.fixes
 
-    one_by : (said : Said) (told : List Told) (drafts : List Draft) → Tree
-    one_by said told drafts = report_tree said (settled files told) (offers_of files drafts)
-
     pub one_read : IsFindingOver files a f → result_tree first (d f) ≡ report_with files fs a (fixes_kept files a f) f
     one_read over =
         let k : Ground = ground_for first (d f) in
         let kept : List Draft = fixes_kept files a f in
-        let told : List Told = told_of k (d f) in
-        ap (λ (drafts : List Draft). report_tree (said_of k (help_of files drafts) (d f)) (settled files told)
-        (offers_of files drafts)) (one_drafted over)
-        ∙ (ap (λ (it : List Told). report_tree (said_of k (help_of files kept) (d f)) (settled files it)
-        (offers_of files kept)) (one_told over)
-        ∙ ap (λ (said : Said). report_tree said (settled files (told_kept files a f)) (offers_of files kept))
-        (one_said (help_of files kept)))
+        let telling : Telling = telling_of k (d f) in
+        ap (λ (drafts : List Draft). telling_tree files (said_of k (help_of files drafts) (d f)) telling drafts)
+        (one_drafted over)
+        ∙ (ap (λ (it : Telling). telling_tree files (said_of k (help_of files kept) (d f)) it kept) (one_told over)
+        ∙ ap (λ (said : Said). telling_tree files said (telling_kept files a f) kept) (one_said (help_of files kept)))
 
   -- ---- all of them
 
@@ -130,9 +125,12 @@ module _ (files : List ℕ → Option Source) (tool : ToolName) (fs : List Findi
 
   run_read : AreFindingsOver files fs → run_trees files (data_of (run tool fs)) ≡ map (report_kept files fs) fs
   run_read over =
-      ap (map (result_tree first)) (objects_listed (codes "results") (data_of (run tool fs)) run_results
+      let d : Data = data_of (run tool fs) in
+      ap (λ ns. map (notice_tree first) ns ++ map (result_tree first) (results_of d))
+      (no_notices tool r run_results (artifact_values a))
+      ∙ (ap (λ ds. map (result_tree first) (filter counts ds)) (objects_listed (codes "results") d run_results
       (results_read tool r run_results (artifact_values a)) (all_objects (result_of r a) (λ f. refl) fs))
-      ∙ all_by fs coded over
+      ∙ (ap (map (result_tree first)) (all_count r a fs) ∙ all_by fs coded over))
 
   -- ---- the log
 
@@ -143,11 +141,20 @@ module _ (files : List ℕ → Option Source) (tool : ToolName) (fs : List Findi
   runs_read : get (codes "runs") (data_of (log tool fs)) ≡ Some (data_of (array_of (run tool fs ∷ [])))
   runs_read = object_read (codes "runs") log_pairs
 
+  version_read : get (codes "version") (data_of (log tool fs)) ≡ Some (string (codes "2.1.0"))
+  version_read = object_read (codes "version") log_pairs
+
+  has_both : has_runs (data_of (log tool fs)) ≡ true
+  has_both =
+      ap (λ o. starts_with nat_eq (unwrap_or (option_and_then as_str o) (codes "2.1")) (codes "2.1")
+      && is_some (option_and_then as_array (get (codes "runs") (data_of (log tool fs))))) version_read
+      ∙ ap (λ o. is_some (option_and_then as_array o)) runs_read
+
   pub log_read : AreFindingsOver files fs
       → sarif_trees files (data_of (log tool fs)) ≡ Some (map (report_kept files fs) fs)
   log_read over =
       let runs : List Data = objects_at (codes "runs") (data_of (log tool fs)) in
-      ap (λ o. if is_some (option_and_then as_array o) then Some (flat_map (run_trees files) runs) else None) runs_read
+      ap (λ b. if b then Some (flat_map (run_trees files) runs) else None) has_both
       ∙ (ap (λ ds. Some (flat_map (run_trees files) ds)) (objects_listed (codes "runs") (data_of (log tool fs))
       (run tool fs ∷ []) runs_read (refl, tt))
       ∙ (ap (λ ts. Some ts) (append-nil (run_trees files (data_of (run tool fs))) ∙ run_read over)))
@@ -162,7 +169,7 @@ module _ (files : List ℕ → Option Source) (tool : ToolName) (fs : List Findi
 
   told_all : (gs : List Finding) → AllByRecursion (λ (f : Finding). HasCode f.code fs) gs
       → AllByRecursion (IsFindingOver files a) gs
-      → AllByRecursion (λ f. told_of (ground_for first (d f)) (d f) ≡ told_kept files a f) gs
+      → AllByRecursion (λ f. telling_of (ground_for first (d f)) (d f) ≡ telling_kept files a f) gs
   told_all [] h over = tt
   told_all (f ∷ gs) h over = (one_told f h.0 over.0, told_all gs h.1 over.1)
 
@@ -177,7 +184,7 @@ module _ (files : List ℕ → Option Source) (tool : ToolName) (fs : List Findi
   all_said = said_all fs coded
 
   pub all_told : AreFindingsOver files fs
-      → AllByRecursion (λ f. told_of (ground_for first (d f)) (d f) ≡ told_kept files a f) fs
+      → AllByRecursion (λ f. telling_of (ground_for first (d f)) (d f) ≡ telling_kept files a f) fs
   all_told over = told_all fs coded over
 
   pub all_drafted : AreFindingsOver files fs

@@ -8,14 +8,14 @@
 //! begin at one place, are one. What is equal: places over the same bytes are one label, equal cause texts one, and of
 //! fixes that are written alike the first stays. A label without a text, within one that was told before, is left out;
 //! the first label of each list is primary, and no other. What has no place: a text without a source is a cause text;
-//! so is, with the name of its source, the text of a label that was refused, and that name where a report has no label;
-//! so is, with line and column too, what is over a file that isn't found. Fixes over such a file are help, without
-//! their edits. Fixes over another file than the first label's, or of a report without one, are of advice that is
-//! related to the report. A URL that isn't the rule's, causes, help and fixes that can't be applied are rows of the
-//! message; labels and fixes of causes are told with the report's. A fix without a message has words of its edits, and
-//! how sure a fix is isn't kept. What a log doesn't have isn't read: code, severity, help and URL of causes, reports
-//! related to them, context lines of labels, languages. Labels and fixes are by the rules of all readers (`settled`,
-//! `offers_of`).
+//! so is, with the name of its source, the text of a label that was refused; so is, with line and column too, what is
+//! over a file that isn't found. A report without a label is over its source, where that is found, and the name of that
+//! is a cause text. Fixes over a file that isn't found are help, without their edits. Fixes over another file than the
+//! report's, or of a report without a source, are of advice that is related to the report. A URL that isn't the rule's,
+//! causes, help and fixes that can't be applied are rows of the message; labels and fixes of causes are told with the
+//! report's. A fix without a message has words of its edits, and how sure a fix is isn't kept. What a log doesn't have
+//! isn't read: code, severity, help and URL of causes, reports related to them, context lines of labels, languages.
+//! Labels and fixes are by the rules of all readers (`settled`, `offers_of`).
 
 ghost use Rattle.std.specs.Prelude.{◌≡◌, ℕ, List, [], ◌∷◌, Option, Some, false, map, unwrap_or};
 ghost use Rattle.std.specs.List.{AllByRecursion};
@@ -35,12 +35,13 @@ ghost use Rattle.miette_sarif.specs.rules.LogText.{IsLogOf};
 ghost use Rattle.miette_sarif.specs.rules.Uris.{name_uri};
 ghost use Rattle.miette_sarif_reader.specs.rules.Logs.{sarif_trees};
 ghost use Rattle.miette_sarif_reader.specs.rules.Proposals.{drafts_of};
-ghost use Rattle.miette_sarif_reader.specs.rules.Results.{said_of, severity_by, told_of};
+ghost use Rattle.miette_sarif_reader.specs.rules.Results.{said_of, severity_by};
 ghost use Rattle.miette_sarif_reader.specs.rules.Uris.{name_of};
+ghost use Rattle.miette_sarif_reader.specs.rules.Wholes.{telling_of};
 ghost use Rattle.miette_tree.specs.rules.Tree.{Trees, trees};
 ghost use Rattle.miette_log_reading_laws.specs.laws.Data.{NumbersFit, data_of};
 ghost use Rattle.miette_log_reading_laws.specs.laws.Files.{AreFindingsOver};
-ghost use Rattle.miette_log_reading_laws.specs.laws.Kept.{fixes_kept, report_kept, said_kept, told_kept};
+ghost use Rattle.miette_log_reading_laws.specs.laws.Kept.{fixes_kept, report_kept, said_kept, telling_kept};
 ghost use Rattle.miette_log_reading_laws.specs.laws.LinkEnds.{has_link_end};
 ghost use Rattle.miette_log_reading_laws.specs.laws.Links.{without_links};
 ghost use Rattle.miette_log_reading_laws.specs.laws.NamesBack.{IsPlainAddress, IsPlainName};
@@ -56,12 +57,12 @@ pub fn what_is_said_reads_back()
         ≡ said_kept fs help f) fs }
 {}
 
-/// What each result tells at places is read as it was found (`told_kept`): over the same bytes of its file, where that
-/// is found and has the text over which the log was made.
+/// What each result tells at places is read as it was found (`telling_kept`): over the same bytes of its file, where
+/// that is found and has the text over which the log was made; and so are the files that it tells as a whole.
 pub fn what_is_told_reads_back()
     ensures { (files : List ℕ → Option Source) (tool : ToolName) (fs : List Finding) → AreFindingsOver files fs
-        → AllByRecursion (λ f. told_of (result_ground files tool fs f) (result_data fs f)
-        ≡ told_kept files (artifacts_in (all_named fs)) f) fs }
+        → AllByRecursion (λ f. telling_of (result_ground files tool fs f) (result_data fs f)
+        ≡ telling_kept files (artifacts_in (all_named fs)) f) fs }
 {}
 
 /// What each result proposes is read as it was found (`fixes_kept`): the same texts in place of the same bytes.

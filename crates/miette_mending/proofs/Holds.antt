@@ -6,10 +6,11 @@ use Rattle.std.specs.declared.alloc.Global.{Global}
 use Rattle.std.specs.List.{fold}
 use Rattle.std.specs.HashMap.{get_by_text}
 use Rattle.std.proofs.lemmas.Slice.Eq.{bytes_eq-Decides}
+use Rattle.std.proofs.lemmas.List.{map-append}
 use Rattle.std.proofs.lemmas.List.Concat.{flat_map-append}
 use Rattle.std.proofs.lemmas.List.Folds.{list_any-append}
 use Rattle.miette_fixes.specs.rules.Edits.{Proposal}
-use Rattle.miette_mending.specs.rules.Gathered.{fixes_for, fixes_if, has_name, names_in, with_name}
+use Rattle.miette_mending.specs.rules.Gathered.{each_once, fixes_for, fixes_if, has_name, names_in, with_name}
 use Rattle.miette_mending.specs.rules.Sure.{FileFixes}
 use Rattle.miette_mending.specs.views.Holding.{Adds, FixMap, Holds, HoldsAll, Puts, fixes_at, fixes_some}
 use Rattle.miette_mending.specs.declared.gathered.Gathered.{Gathered}
@@ -25,19 +26,22 @@ adds_then a b c m n first second all held =
 
 -- ---- one more
 
+abbrev name_of : FileFixes → List ℕ
+name_of it = it.name
+
 fold_more : {A X : Type 0} (f : A → X → A) (z : A) (xs : List X) (x : X) → fold f z (xs ++ x ∷ []) ≡ f (fold f z xs) x
 fold_more f z [] x = refl
 fold_more f z (y ∷ ys) x = fold_more f (f z y) ys x
 
-or_true : (b : Bool) → (b || true) ≡ true
+pub or_true : (b : Bool) → (b || true) ≡ true
 or_true true = refl
 or_true false = refl
 
-or_false : (b : Bool) → (b || false) ≡ b
+pub or_false : (b : Bool) → (b || false) ≡ b
 or_false true = refl
 or_false false = refl
 
-has_more : (name : List ℕ) (names : List (List ℕ)) (other : List ℕ) (b : Bool) → bytes_eq other name ≡ b
+pub has_more : (name : List ℕ) (names : List (List ℕ)) (other : List ℕ) (b : Bool) → bytes_eq other name ≡ b
     → has_name name (names ++ other ∷ []) ≡ (has_name name names || b)
 has_more name names other b e =
     list_any-append (λ n. bytes_eq n name) names (other ∷ [])
@@ -66,11 +70,11 @@ module _ {S : Type 0} (names more : List (List ℕ)) (old new : FixMap S) (all :
       held.there name
       ∙ sym (has_more name (names_in all) it.name false e ∙ or_false (has_name name (names_in all)))
 
-  pub holds_more : more ≡ with_name names it → Holds more new (all ++ it ∷ [])
+  pub holds_more : more ≡ with_name names it.name → Holds more new (all ++ it ∷ [])
   holds_more with_it =
-      let folded = fold_more with_name [] all it in
+      let folded = ap each_once (map-append name_of all (it ∷ [])) ∙ fold_more with_name [] (map name_of all) it.name in
       record {
-        named = with_it ∙ ap (λ ns. with_name ns it) held.named ∙ sym folded;
+        named = with_it ∙ ap (λ ns. with_name ns it.name) held.named ∙ sym folded;
         each = λ name. ap fixes_some (puts name) ∙ each_by name (bytes_eq it.name name) refl
             ∙ sym (flat_map-append (fixes_if name) all (it ∷ []));
         there = λ name. ap is_some (puts name)
@@ -82,18 +86,18 @@ pub known_name : {S : Type 0} (names : List (List ℕ)) (held : FixMap S) (all :
     (b : Bool) → Holds names held all → is_some (get_by_text held it.name) ≡ b → has_name it.name names ≡ b
 known_name names held all it b h e = ap (has_name it.name) h.named ∙ sym (h.there it.name) ∙ e
 
-pub name_kept : (names : List (List ℕ)) (it : FileFixes) → has_name it.name names ≡ true → names ≡ with_name names it
-name_kept names it e = sym (pick (has_name it.name names) e)
+pub name_kept : (names : List (List ℕ)) (name : List ℕ) → has_name name names ≡ true → names ≡ with_name names name
+name_kept names name e = sym (pick (has_name name names) e)
   where
-    pick : (b : Bool) → b ≡ true → (if b then names else names ++ it.name ∷ []) ≡ names
+    pick : (b : Bool) → b ≡ true → (if b then names else names ++ name ∷ []) ≡ names
     pick true e = refl
     pick false e = absurd (cc)
 
-pub name_added : (names : List (List ℕ)) (it : FileFixes) → has_name it.name names ≡ false
-    → names ++ it.name ∷ [] ≡ with_name names it
-name_added names it e = sym (skip (has_name it.name names) e)
+pub name_added : (names : List (List ℕ)) (name : List ℕ) → has_name name names ≡ false
+    → names ++ name ∷ [] ≡ with_name names name
+name_added names name e = sym (skip (has_name name names) e)
   where
-    skip : (b : Bool) → b ≡ false → (if b then names else names ++ it.name ∷ []) ≡ names ++ it.name ∷ []
+    skip : (b : Bool) → b ≡ false → (if b then names else names ++ name ∷ []) ≡ names ++ name ∷ []
     skip false e = refl
     skip true e = absurd (cc)
 
@@ -118,7 +122,7 @@ module _ (old mid new : Gathered) (it : FileFixes) (made : Vec Proposal Global)
       let known = known_name names old.fixes all it true held (ap is_some (sym there)) in
       holds_more names (map string_bytes new.names.items) old.fixes new.fixes all it made held puts_all
       (is ∙ ap (λ o. fixes_some o ++ it.fixes) there)
-      (ap (λ l. map string_bytes l.items) same ∙ name_kept names it known)
+      (ap (λ l. map string_bytes l.items) same ∙ name_kept names it.name known)
 
   pub adds_new : None ≡ get_by_text old.fixes it.name → made.items ≡ it.fixes
       → map string_bytes new.names.items ≡ map string_bytes old.names.items ++ it.name ∷ [] → Adds old new (it ∷ [])
@@ -126,4 +130,4 @@ module _ (old mid new : Gathered) (it : FileFixes) (made : Vec Proposal Global)
       let names = map string_bytes old.names.items in
       let known = known_name names old.fixes all it false held (ap is_some (sym none)) in
       holds_more names (map string_bytes new.names.items) old.fixes new.fixes all it made held puts_all
-      (is ∙ ap (λ o. fixes_some o ++ it.fixes) none) (more ∙ name_added names it known)
+      (is ∙ ap (λ o. fixes_some o ++ it.fixes) none) (more ∙ name_added names it.name known)

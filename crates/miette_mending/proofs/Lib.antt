@@ -1,3 +1,5 @@
 pub mod RowStarts
 pub mod Holds
+pub mod EachOnce
+pub mod Rows
 pub mod Lists

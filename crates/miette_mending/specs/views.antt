@@ -1,2 +1,4 @@
 -- Values as they are held.
 pub mod Holding
+pub mod Counting
+pub mod Counted

@@ -1,6 +1,7 @@
 //! Fixes that were gathered, file by file.
 
-ghost use Rattle.std.specs.Prelude.{◌≡◌, ◌++◌, ◌∷◌, [], IfOk, OnOk, length, map};
+ghost use Rattle.std.specs.Prelude.{◌≡◌, ◌++◌, ◌∷◌, [], IfOk, OnOk, is_some, length, map};
+ghost use Rattle.std.specs.HashMap.{get_by_text};
 ghost use Rattle.miette_fixes.specs.rules.ApplyingAll.{taken};
 ghost use Rattle.miette_mending.specs.rules.Gathered.{mended};
 ghost use Rattle.miette_mending.specs.rules.Sure.{FileFixes};
@@ -42,6 +43,20 @@ impl Gathered {
         ensures { result.now ≡ self.now.names.items }
     {
         self.names.as_slice()
+    }
+
+    /// The names of the files alone.
+    pub(crate) fn into_names(self) -> Vec<String>
+        ensures { result ≡ self.names }
+    {
+        self.names
+    }
+
+    /// Whether a file is one of them.
+    pub(crate) fn has(&self, name: &str) -> bool
+        ensures { result ≡ is_some (get_by_text self.now.fixes name.now) }
+    {
+        self.fixes.get(name).is_some()
     }
 
     /// The fixes of a file.

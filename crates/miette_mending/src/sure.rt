@@ -1,18 +1,18 @@
 //! Proposals that rustc is sure of.
 
-ghost use Rattle.std.specs.Prelude.{◌≡◌, ◌++◌, List, Err, IfOk, None, OnErr, OnOk, Some, option_map};
-ghost use Rattle.std.specs.List.{flat_map};
+ghost use Rattle.std.specs.Prelude.{◌≡◌, ◌++◌, Err, IfOk, None, OnErr, OnOk, Some, option_map};
 ghost use Rattle.serde_json.specs.View.{view};
 ghost use Rattle.miette_readers.specs.views.Values.{seen};
-ghost use Rattle.miette_mending.specs.rules.Sure.{FileFixes, agree, child_fixes, children_fixes, diagnostic_in};
-ghost use Rattle.miette_mending.specs.rules.Sure.{diagnostic_of, is_one_fix, is_whole, joint, offer_fixes};
-ghost use Rattle.miette_mending.specs.rules.Sure.{sure_edits, sure_offer, value_fixes};
-ghost use Rattle.miette_mending.specs.views.Holding.{Adds};
+ghost use Rattle.miette_mending.specs.rules.Sure.{agree, child_fixes, children_fixes, diagnostic_in, diagnostic_of};
+ghost use Rattle.miette_mending.specs.rules.Sure.{fixes_over, is_grave, is_one_fix, is_whole, joint, message_fixes};
+ghost use Rattle.miette_mending.specs.rules.Sure.{offer_fixes, package_of, sure_edits, sure_offer, value_fixes};
 
 use crate::fresh::all_fresh;
-use crate::gathered::Gathered;
+use crate::row_fixes::{FileFixes, RowFixes};
+use crate::stale::stale_names;
 use miette_fixes::fix::Applicability;
 use miette_readers::files::Files;
+use miette_readers::lists::push_item;
 use miette_readers::members::{objects_at, text_at};
 use miette_readers::offering::others;
 use miette_readers::offers::{FileEdit, Offer};
@@ -70,54 +70,49 @@ fn diagnostic_in(value: &Value) -> Result<Option<&Value>, ReadError>
     }
 }
 
-/// Adds the fixes of a proposal, file by file.
-fn add_offer(
-    gathered: &mut Gathered,
+/// The fixes of a proposal over the file of one of its edits.
+fn fixes_over(
+    alloc: Global,
+    offer: &Offer<'_, '_>,
+    edit: &FileEdit<'_, '_>,
+) -> Result<FileFixes, AllocError>
+    ensures { IfOk result (λ it. it ≡ fixes_over offer.now edit.now) }
+{
+    let mut fixes = Vec::new(alloc);
+    offer.push_fixes(&mut fixes, alloc, edit.name, offer.message.as_str())?;
+    let name = String::from_str(alloc, edit.name)?;
+    Ok(FileFixes { name, fixes })
+}
+
+/// Appends the fixes of a proposal, file by file.
+fn push_offer(
+    list: &mut Vec<FileFixes>,
     alloc: Global,
     offer: &Offer<'_, '_>,
 ) -> Result<(), AllocError>
-    ensures { OnOk result (Adds gathered.old gathered.new (offer_fixes offer.now)) }
+    ensures { OnOk result (list.new.items ≡ list.old.items ++ offer_fixes offer.now) }
 {
     let edits = others(alloc, offer.edits.as_slice(), None)?;
     for edit in edits.as_slice() {
         let edit = *edit;
-        let mut fixes = Vec::new(alloc);
-        offer.push_fixes(&mut fixes, alloc, edit.name, offer.message.as_str())?;
-        gathered.add(alloc, edit.name, fixes)?;
+        push_item(list, fixes_over(alloc, offer, edit)?)?;
     }
     Ok(())
 }
 
-/// Adds the fixes of what a note or a help proposes that is machine-applicable.
-fn add_child<F: Files>(
-    gathered: &mut Gathered,
+/// Appends the fixes of what a note or a help proposes that is machine-applicable.
+fn push_child<F: Files>(
+    list: &mut Vec<FileFixes>,
     alloc: Global,
     files: &F,
     child: &Value,
 ) -> Result<(), AllocError>
-    ensures { OnOk result (Adds gathered.old gathered.new (child_fixes (F.found files.now) (view child.now))) }
+    ensures { OnOk result (list.new.items ≡ list.old.items ++ child_fixes (F.found files.now) (view child.now)) }
 {
     match sure_offer(alloc, files, child)? {
-        Some(offer) => add_offer(gathered, alloc, &offer),
+        Some(offer) => push_offer(list, alloc, &offer),
         None => Ok(()),
     }
-}
-
-/// Adds the fixes of what these notes and helps propose that is machine-applicable.
-fn add_children<F: Files>(
-    gathered: &mut Gathered,
-    alloc: Global,
-    files: &F,
-    children: &[&Value],
-) -> Result<(), AllocError>
-    ensures { OnOk result (Adds gathered.old gathered.new
-        (flat_map (child_fixes (F.found files.now)) (seen children.now))) }
-{
-    for child in children {
-        let child = *child;
-        add_child(gathered, alloc, files, child)?;
-    }
-    Ok(())
 }
 
 /// Appends the edits of what a note or a help proposes that is machine-applicable.
@@ -191,41 +186,74 @@ fn agree<F: Files>(alloc: Global, files: &F, children: &[&Value]) -> Result<bool
     is_whole(alloc, &offer)
 }
 
-/// Adds the fixes of what these notes and helps propose that is machine-applicable, where there are no alternatives.
-fn add_agreed<F: Files>(
-    gathered: &mut Gathered,
+/// The fixes of what these notes and helps propose that is machine-applicable, where there are no alternatives.
+fn children_fixes<F: Files>(
     alloc: Global,
     files: &F,
     children: &[&Value],
-) -> Result<(), AllocError>
-    ensures { OnOk result (Adds gathered.old gathered.new
-        (children_fixes (F.found files.now) (seen children.now))) }
+) -> Result<Vec<FileFixes>, AllocError>
+    ensures { IfOk result (λ list. list.items ≡ children_fixes (F.found files.now) (seen children.now)) }
 {
-    if agree(alloc, files, children)? {
-        return add_children(gathered, alloc, files, children);
+    let mut list = Vec::new(alloc);
+    if !agree(alloc, files, children)? {
+        return Ok(list);
     }
-    Ok(())
+    for child in children {
+        let child = *child;
+        push_child(&mut list, alloc, files, child)?;
+    }
+    Ok(list)
 }
 
-/// Adds the fixes of a row of rustc or cargo that are machine-applicable, but none whose rows aren't those of its file,
-/// which has changed since, and none of alternatives.
-///
-/// # Errors
-/// `NoMessage` of what has no message, and `Memory`.
-pub fn gather<F: Files>(
-    gathered: &mut Gathered,
+/// The package that a row is of, empty where it says none.
+fn package_of(row: &Value) -> &str
+    ensures { result.now ≡ package_of (view row.now) }
+{
+    text_at(row, "package_id").unwrap_or("")
+}
+
+/// Whether a message is an error.
+fn is_grave(message: &Value) -> bool
+    ensures { result ≡ is_grave (view message.now) }
+{
+    let level = text_at(message, "level").unwrap_or("");
+    level == "error" || level == "error: internal compiler error"
+}
+
+/// What a row gives that has this diagnostic.
+fn message_fixes<F: Files>(
     alloc: Global,
     files: &F,
     row: &Value,
-) -> Result<(), ReadError>
-    ensures ok { OnOk result ((more : List FileFixes)
-        × (value_fixes (F.found files.now) (view row.now) ≡ Some more) × Adds gathered.old gathered.new more) }
-    ensures message { (result ≡ Err ReadError.NoMessage)
-        → (value_fixes (F.found files.now) (view row.now) ≡ None) × (gathered.new ≡ gathered.old) }
+    message: &Value,
+) -> Result<RowFixes, AllocError>
+    ensures { IfOk result (λ it. it ≡ message_fixes (F.found files.now) (view row.now) (view message.now)) }
 {
-    if let Some(message) = diagnostic_in(row)? {
-        let children = objects_at(alloc, message, "children")?;
-        add_agreed(gathered, alloc, files, children.as_slice())?;
+    let children = objects_at(alloc, message, "children")?;
+    Ok(RowFixes {
+        package_id: String::from_str(alloc, package_of(row))?,
+        grave: is_grave(message),
+        fixes: children_fixes(alloc, files, children.as_slice())?,
+        stale: stale_names(alloc, files, children.as_slice())?,
+    })
+}
+
+/// What a row of rustc or cargo gives, where it has a diagnostic: its fixes that are machine-applicable, but none whose
+/// rows aren't those of its file, which has changed since, and none of alternatives.
+///
+/// # Errors
+/// `NoMessage` of what has no message, and `Memory`.
+pub fn value_fixes<F: Files>(
+    alloc: Global,
+    files: &F,
+    row: &Value,
+) -> Result<Option<RowFixes>, ReadError>
+    ensures ok { IfOk result (λ o. value_fixes (F.found files.now) (view row.now) ≡ Some o) }
+    ensures message { (result ≡ Err ReadError.NoMessage)
+        → value_fixes (F.found files.now) (view row.now) ≡ None }
+{
+    match diagnostic_in(row)? {
+        Some(message) => Ok(Some(message_fixes(alloc, files, row, message)?)),
+        None => Ok(None),
     }
-    Ok(())
 }

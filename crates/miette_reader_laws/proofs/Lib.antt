@@ -1,8 +1,9 @@
 mod Apart
 pub mod Applying
+pub mod HelpRows
 pub mod Made
 pub mod Offers
-mod Proposed
+pub mod Proposed
 pub mod Rows
 pub mod RustcTexts
 mod Shown

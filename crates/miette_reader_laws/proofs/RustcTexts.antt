@@ -3,27 +3,31 @@ use Rattle.std.proofs.Common.{◌≡◌, ◌⊎◌, ℕ, List, [], ◌∷◌, �
 use Rattle.std.proofs.Common.{IfSome}
 use Rattle.std.proofs.Common.{codes, filter, map, not, refl, sym, ap, subst, inl, inr}
 use Rattle.std.specs.Prelude.{⊤, ◌&&◌, if◌then◌else◌, is_none, option_and_then}
-use Rattle.std.specs.List.{AllByRecursion, filter_map, flat_map}
+use Rattle.std.specs.List.{AllByRecursion, Contains, filter_map, flat_map}
 use Rattle.std.proofs.lemmas.Bool.{and_from, or_right}
 use Rattle.serde_json.specs.Data.{Data}
-use Rattle.miette_protocol.specs.rules.Reading.{Source}
-use Rattle.miette_readers.specs.rules.Kept.{IsPart}
+use Rattle.miette_readers.specs.rules.Kept.{IsPart, IsPartOf}
 use Rattle.miette_readers.specs.rules.Members.{objects_at, text_at}
 use Rattle.miette_readers.specs.rules.Places.{Told}
 use Rattle.miette_readers.specs.rules.Proposing.{FileEdit, Offer, edit_found}
-use Rattle.miette_readers.specs.rules.Rustc.{child_told, edits_of, file_name, is_empty, is_help, is_primary, label_rows}
-use Rattle.miette_readers.specs.rules.Rustc.{is_secondary, leading, macro_told, message_of, note_message, note_told}
+use Rattle.miette_readers.specs.rules.Rustc.{Build, child_told, edits_of, file_name, is_empty, is_help, is_primary}
+use Rattle.miette_readers.specs.rules.Rustc.{is_secondary, label_rows, leading, macro_told, message_of, moved_told}
+use Rattle.miette_readers.specs.rules.Rustc.{note_message, note_told, spans_told}
 use Rattle.miette_readers.specs.rules.Rustc.{own_told, place_of, primary_first, spans_of, tells, text_told}
 use Rattle.miette_readers.specs.rules.Rustc.{told_of}
-use Rattle.miette_readers.specs.rules.RustcReport.{all_found, edit_at, help_rows, helps, message_tree}
-use Rattle.miette_readers.specs.rules.RustcReport.{offer_by, offer_of, offer_with, offers_of, said_of}
-use Rattle.miette_readers.specs.rules.Settling.{found_place, has_no_rows}
+use Rattle.miette_readers.specs.rules.RustcReport.{all_found, edit_at, help_row, help_rows, helps, message_tree}
+use Rattle.miette_readers.specs.rules.RustcReport.{offer_by, offer_of, offer_with, offers_of, quoted, said_of}
+use Rattle.miette_readers.specs.rules.RustcReport.{short_text, short_texts, with_texts}
+use Rattle.miette_readers.specs.rules.Settling.{found_place, has_no_rows, settled}
 use Rattle.miette_reader_laws.specs.laws.Applying.{AreFound, IsFound}
-use Rattle.miette_reader_laws.specs.laws.RustcTexts.{child_texts, span_texts, texts_of}
+use Rattle.miette_reader_laws.specs.laws.RustcTexts.{IsBeforeIn, IsTold, child_texts, span_texts, texts_of}
 use Rattle.miette_reader_laws.specs.laws.Shown.{IsRowIn}
-use Rattle.miette_reader_laws.specs.laws.Standing.{Stands}
 use Rattle.miette_readers.proofs.Holding.{Has, Is, all_each, all_flat, all_more, all_there, has_after, has_each}
-use Rattle.miette_readers.proofs.Holding.{all_made, has_flat, has_kept, has_made, has_map, has_more, has_split}
+use Rattle.miette_readers.proofs.Holding.{all_made, has_flat, has_found, has_it, has_kept, has_made, has_map}
+use Rattle.miette_readers.proofs.Holding.{has_more, has_split}
+use Rattle.miette_tree.specs.rules.Tree.{head}
+use Rattle.miette_reader_laws.proofs.HelpRows.{row_part, row_told, text_there}
+use Rattle.miette_reader_laws.proofs.Made.{report_says}
 use Rattle.miette_reader_laws.proofs.Offers.{AreSound, all_sound, edit_is}
 use Rattle.miette_readers.proofs.RowLists.{rows_there}
 use Rattle.miette_reader_laws.proofs.Rows.{part_after, part_self, row_joined}
@@ -67,18 +71,18 @@ some_rows text (r ∷ rs) h = refl
 label_tells : (text : List ℕ) (d : Data) → HasLabel text d → tells d ≡ true
 label_tells text d h = or_right _ _ (some_rows text (label_rows d) h)
 
-module _ (files : List ℕ → Option Source) where
+module _ (build : Build) where
   leading_says : (text : List ℕ) (rows : List (List ℕ)) (ds : List Data) → Has (HasLabel text) ds
-      → Says (leading files rows ds) text
+      → Says (leading build rows ds) text
   leading_says text rows [] h = absurd h
   leading_says text rows (d ∷ ds) (inl h) = inl (has_after (IsPart text) rows (label_rows d) h)
   leading_says text rows (d ∷ ds) (inr h) =
-      inr (has_map (HasLabel text) (λ (t : Told). Has (IsPart text) t.rows) (note_told files []) (λ d h. h) ds h)
+      inr (has_map (HasLabel text) (λ (t : Told). Has (IsPart text) t.rows) (note_told build []) (λ d h. h) ds h)
 
   child_by : (text : List ℕ) (rows : List (List ℕ)) (more : List Told) (a : Bool) (ds : List Data)
       → Has (HasLabel text) ds
-      → Says (if not a then leading files [] (filter tells ds)
-      else if not (is_empty ds) then leading files rows ds else more) text
+      → Says (if not a then leading build [] (filter tells ds)
+      else if not (is_empty ds) then leading build rows ds else more) text
   child_by text rows more a [] h = absurd h
   child_by text rows more true (d ∷ ds) h = leading_says text rows (d ∷ ds) h
   child_by text rows more false (d ∷ ds) h =
@@ -88,13 +92,14 @@ module _ (files : List ℕ → Option Source) where
   -- ---- where the texts of a note, a help or a proposal stand
 
   abbrev IsHelped : List ℕ → Data → Type 0
-  IsHelped text c = (helps files c ≡ true) × (message_of c ≡ text)
+  IsHelped text c = (helps build.files c ≡ true) × (message_of c ≡ text)
 
   abbrev IsOfferedBy : List ℕ → Data → Type 0
-  IsOfferedBy text c = (o : Offer) × (offer_of files c ≡ Some o) × (o.message ≡ text) × AreSound files o.edits
+  IsOfferedBy text c =
+      (o : Offer) × (offer_of build.files c ≡ Some o) × (o.message ≡ text) × AreSound build.files o.edits
 
   abbrev StandsBy : List ℕ → Data → Type 0
-  StandsBy text c = Says (child_told files c) text ⊎ (IsHelped text c ⊎ IsOfferedBy text c)
+  StandsBy text c = Says (child_told build c) text ⊎ (IsHelped text c ⊎ IsOfferedBy text c)
 
   labels_stand : (c : Data) → AllByRecursion (λ text. StandsBy text c) (span_texts c)
   labels_stand c =
@@ -108,43 +113,43 @@ module _ (files : List ℕ → Option Source) where
 
   edit_by : (d : Data) (o : Option (List ℕ))
       → IfSome (option_and_then (λ text. option_map (edit_found (file_name d) text)
-      (found_place files (place_of d))) o) (IsFound files)
+      (found_place build.files (place_of d))) o) (IsFound build.files)
   edit_by d None = tt
-  edit_by d (Some text) = edit_is files (place_of d) text
+  edit_by d (Some text) = edit_is build.files (place_of d) text
 
-  edit_sound : (d : Data) → IfSome (edit_at files d) (IsFound files)
+  edit_sound : (d : Data) → IfSome (edit_at build.files d) (IsFound build.files)
   edit_sound d = edit_by d (text_at (codes "suggested_replacement") d)
 
   abbrev IsOfferOf : Data → Offer → Type 0
-  IsOfferOf c o = (o.message ≡ message_of c) × AreSound files o.edits
+  IsOfferOf c o = (o.message ≡ message_of c) × AreSound build.files o.edits
 
-  offer_from : (c first : Data) (o : Option (List FileEdit)) → IfSome o (AreSound files)
+  offer_from : (c first : Data) (o : Option (List FileEdit)) → IfSome o (AreSound build.files)
       → IfSome (option_map (offer_by c first) o) (IsOfferOf c)
   offer_from c first None h = tt
   offer_from c first (Some es) h = (refl, h)
 
-  found_from : (c : Data) (o : Option Offer) → IfSome o (IsOfferOf c) → IfSome o (AreFound files)
+  found_from : (c : Data) (o : Option Offer) → IfSome o (IsOfferOf c) → IfSome o (AreFound build.files)
   found_from c None h = tt
   found_from c (Some o) h = h.1.0
 
-  offer_sound : (c : Data) (ds : List Data) → IfSome (offer_with files c ds) (IsOfferOf c)
+  offer_sound : (c : Data) (ds : List Data) → IfSome (offer_with build.files c ds) (IsOfferOf c)
   offer_sound c [] = tt
   offer_sound c (d ∷ ds) =
-      offer_from c d (all_found files (d ∷ ds)) (all_sound files (edit_at files) edit_sound d ds)
+      offer_from c d (all_found build.files (d ∷ ds)) (all_sound build.files (edit_at build.files) edit_sound d ds)
 
-  pub rustc_found : (d : Data) → AllByRecursion (AreFound files) (offers_of files d)
+  pub rustc_found : (d : Data) → AllByRecursion (AreFound build.files) (offers_of build.files d)
   rustc_found d =
-      all_made (AreFound files) (offer_of files)
-      (λ c. found_from c (offer_of files c) (offer_sound c (edits_of c))) (objects_at (codes "children") d)
+      all_made (AreFound build.files) (offer_of build.files)
+      (λ c. found_from c (offer_of build.files c) (offer_sound c (edits_of c))) (objects_at (codes "children") d)
 
   -- ---- messages of children
 
   -- whether it is help, by whether it has no edits
   abbrev HelpsBy : Data → Bool → Type 0
   HelpsBy c b =
-      (if b then is_help c && is_empty (objects_at (codes "spans") c) else is_none (offer_of files c)) ≡ true
+      (if b then is_help c && is_empty (objects_at (codes "spans") c) else is_none (offer_of build.files c)) ≡ true
 
-  proposal_by : (c : Data) (o : Option Offer) → offer_of files c ≡ o → IfSome o (IsOfferOf c)
+  proposal_by : (c : Data) (o : Option Offer) → offer_of build.files c ≡ o → IfSome o (IsOfferOf c)
       → is_empty (edits_of c) ≡ false → StandsBy (message_of c) c
   proposal_by c None is h edits =
       inr (inl (subst (HelpsBy c) (sym edits) (ap is_none is), refl))
@@ -169,10 +174,10 @@ module _ (files : List ℕ → Option Source) where
 
   message_by : (c : Data) (ss : List Data) (a b h : Bool) → is_empty (edits_of c) ≡ a → is_empty ss ≡ b
       → is_help c ≡ h → a ≡ true → (b ≡ true → is_empty (objects_at (codes "spans") c) ≡ true)
-      → Says (if not a then leading files [] (filter tells ss)
-      else if not b then leading files (note_message c ∷ []) ss
+      → Says (if not a then leading build [] (filter tells ss)
+      else if not b then leading build (note_message c ∷ []) ss
       else if h then [] else text_told (message_of c) ∷ []) (message_of c)
-      ⊎ (helps files c ≡ true)
+      ⊎ (helps build.files c ≡ true)
   message_by c ss false b h edits spans help e none = cc
   message_by c [] true false h edits spans help e none = cc
   message_by c (d ∷ ds) true false h edits spans help e none = inl (inl (inl (is_said c)))
@@ -181,7 +186,7 @@ module _ (files : List ℕ → Option Source) where
       inr (subst (HelpsBy c) (sym edits) (and_from _ _ help (none refl)))
 
   message_stands : (c : Data) (a : Bool) → is_empty (edits_of c) ≡ a → StandsBy (message_of c) c
-  message_stands c false e = proposal_by c (offer_of files c) refl (offer_sound c (edits_of c)) e
+  message_stands c false e = proposal_by c (offer_of build.files c) refl (offer_sound c (edits_of c)) e
   message_stands c true e =
       elim (message_by c (spans_of c) (is_empty (edits_of c)) (is_empty (spans_of c)) (is_help c) refl refl refl e
       (no_spans (objects_at (codes "spans") c))) [
@@ -198,57 +203,102 @@ module _ (files : List ℕ → Option Source) where
     abbrev children : List Data
     children = objects_at (codes "children") d
 
-    own_stands : (text : List ℕ) → Has (HasLabel text) (objects_at (codes "spans") d) → Says (told_of files d) text
+    own_stands : (text : List ℕ) → Has (HasLabel text) (objects_at (codes "spans") d) → Says (told_of build d) text
     own_stands text h =
-        has_more (λ (t : Told). Has (IsPart text) t.rows)
-        (map (own_told files) (spans_of d) ++ filter_map (macro_told files) (spans_of d))
-        (flat_map (child_told files) children)
-        (has_more (λ (t : Told). Has (IsPart text) t.rows) (map (own_told files) (spans_of d))
-        (filter_map (macro_told files) (spans_of d))
-        (has_map (HasLabel text) (λ (t : Told). Has (IsPart text) t.rows) (own_told files) (λ d h. h) (spans_of d)
-        (has_primary (HasLabel text) (objects_at (codes "spans") d) h)))
+        has_more (λ (t : Told). Has (IsPart text) t.rows) (spans_told build (spans_of d))
+        (flat_map (child_told build) children)
+        (has_more (λ (t : Told). Has (IsPart text) t.rows)
+        (map (own_told build) (spans_of d) ++ filter_map (moved_told build) (spans_of d))
+        (filter_map (macro_told build) (spans_of d))
+        (has_more (λ (t : Told). Has (IsPart text) t.rows) (map (own_told build) (spans_of d))
+        (filter_map (moved_told build) (spans_of d))
+        (has_map (HasLabel text) (λ (t : Told). Has (IsPart text) t.rows) (own_told build) (λ d h. h) (spans_of d)
+        (has_primary (HasLabel text) (objects_at (codes "spans") d) h))))
 
-    helped_stands : (text : List ℕ) → Has (IsHelped text) children → IsRowIn text (said_of files d).help
+    abbrev IsRowBy : List ℕ → Data → Type 0
+    IsRowBy row c = (helps build.files c ≡ true) × (help_row c ≡ row)
+
+    -- a row of the help
+    row_stands : (c : Data) → Contains children c → helps build.files c ≡ true
+        → IsRowIn (help_row c) (said_of build.files d).help
+    row_stands c there h =
+        row_joined (help_row c) (help_rows build.files children)
+        (rows_there (help_row c) [] (map help_row (filter (helps build.files) children))
+        (has_map (IsRowBy (help_row c)) (Is (help_row c)) help_row (λ x it. it.1) (filter (helps build.files) children)
+        (has_kept (IsRowBy (help_row c)) (helps build.files) (λ x it. it.0) children
+        (has_it (IsRowBy (help_row c)) children c there (h, refl)))))
+
+    helped_stands : (text : List ℕ) → Has (IsHelped text) children
+        → IsRowIn text (said_of build.files d).help ⊎ IsBeforeIn text (said_of build.files d).help
     helped_stands text h =
-        row_joined text (help_rows files children)
-        (rows_there text [] (map message_of (filter (helps files) children))
-        (has_map (IsHelped text) (Is text) message_of (λ c it. it.1) (filter (helps files) children)
-        (has_kept (IsHelped text) (helps files) (λ c it. it.0) children h)))
+        let it = has_found (IsHelped text) children h in
+        let help = (said_of build.files d).help in
+        row_told text (short_texts it.0) help
+        (subst (λ (k : List ℕ). IsRowIn (with_texts k (short_texts it.0)) help) it.2.1 (row_stands it.0 it.1 it.2.0))
 
-    told_stand : (text : List ℕ) → Has (λ c. Says (child_told files c) text) children → Says (told_of files d) text
+    told_stand : (text : List ℕ) → Has (λ c. Says (child_told build c) text) children → Says (told_of build d) text
     told_stand text h =
-        has_after (λ (t : Told). Has (IsPart text) t.rows)
-        (map (own_told files) (spans_of d) ++ filter_map (macro_told files) (spans_of d))
-        (flat_map (child_told files) children)
-        (has_flat (λ c. Says (child_told files c) text) (λ (t : Told). Has (IsPart text) t.rows) (child_told files)
+        has_after (λ (t : Told). Has (IsPart text) t.rows) (spans_told build (spans_of d))
+        (flat_map (child_told build) children)
+        (has_flat (λ c. Says (child_told build c) text) (λ (t : Told). Has (IsPart text) t.rows) (child_told build)
         (λ c it. it) children h)
 
     offered_stand : (text : List ℕ) → Has (IsOfferedBy text) children
-        → Has (IsOffered files (said_of files d) (told_of files d) (offers_of files d) text) (offers_of files d)
+        → Has (IsOffered build.files (said_of build.files d) (told_of build d) (offers_of build.files d) text)
+        (offers_of build.files d)
     offered_stand text h =
         has_made (IsOfferedBy text)
-        (IsOffered files (said_of files d) (told_of files d) (offers_of files d) text) (offer_of files)
-        (λ c it. (it.0, it.1, (it.2, it.3))) children h
+        (IsOffered build.files (said_of build.files d) (told_of build d) (offers_of build.files d) text)
+        (offer_of build.files) (λ c it. (it.0, it.1, (it.2, it.3))) children h
 
-    part_stands : (text : List ℕ) → Has (StandsBy text) children → Stands (message_tree files d) text
+    said_told : (text : List ℕ)
+        → IsRowIn text (said_of build.files d).help ⊎ IsBeforeIn text (said_of build.files d).help
+        → IsTold (message_tree build d) text
+    said_told text (inl row) =
+        inl (help_stands build.files (said_of build.files d) (told_of build d) (offers_of build.files d) text row)
+    said_told text (inr before) =
+        inr (subst (IsBeforeIn text)
+        (sym (report_says (said_of build.files d) (settled build.files (told_of build d)) (offers_of build.files d)).3)
+        before)
+
+    part_stands : (text : List ℕ) → Has (StandsBy text) children → IsTold (message_tree build d) text
     part_stands text h =
-        let said = said_of files d in
-        let told = told_of files d in
-        let offers = offers_of files d in
-        elim (has_split (λ c. Says (child_told files c) text) (λ c. IsHelped text c ⊎ IsOfferedBy text c) children h) [
-          | inl say ↦ told_stands files said told offers text (told_stand text say)
+        let said = said_of build.files d in
+        let told = told_of build d in
+        let offers = offers_of build.files d in
+        elim (has_split (λ c. Says (child_told build c) text) (λ c. IsHelped text c ⊎ IsOfferedBy text c) children h) [
+          | inl say ↦ inl (told_stands build.files said told offers text (told_stand text say))
           | inr more ↦
               elim (has_split (IsHelped text) (IsOfferedBy text) children more) [
-                | inl help ↦ help_stands files said told offers text (helped_stands text help)
-                | inr offered ↦ offered_stands files said told offers text (offered_stand text offered)
+                | inl help ↦ said_told text (helped_stands text help)
+                | inr offered ↦ inl (offered_stands build.files said told offers text (offered_stand text offered))
               ]
         ]
 
-    pub rustc_stand : AllByRecursion (Stands (message_tree files d)) (texts_of d)
+    pub rustc_stand : AllByRecursion (IsTold (message_tree build d)) (texts_of d)
     rustc_stand =
-        all_more (Stands (message_tree files d)) (span_texts d) (flat_map child_texts children)
-        (all_each (λ text. Has (HasLabel text) (objects_at (codes "spans") d)) (Stands (message_tree files d))
-        (λ text h. told_stands files (said_of files d) (told_of files d) (offers_of files d) text (own_stands text h))
-        (span_texts d) (labels_have (objects_at (codes "spans") d)))
-        (all_each (λ text. Has (StandsBy text) children) (Stands (message_tree files d)) part_stands
+        all_more (IsTold (message_tree build d)) (span_texts d) (flat_map child_texts children)
+        (all_each (λ text. Has (HasLabel text) (objects_at (codes "spans") d)) (IsTold (message_tree build d))
+        (λ text h. inl (told_stands build.files (said_of build.files d) (told_of build d) (offers_of build.files d) text
+        (own_stands text h))) (span_texts d) (labels_have (objects_at (codes "spans") d)))
+        (all_each (λ text. Has (StandsBy text) children) (IsTold (message_tree build d)) part_stands
         (flat_map child_texts children) (all_flat StandsBy child_texts child_stands children))
+
+    -- ---- what a proposal writes that can't be found
+
+    lost_helps : (c : Data) (ds : List Data) → edits_of c ≡ ds → offer_of build.files c ≡ None → (text : List ℕ)
+        → Has (Is text) (filter_map short_text ds) → helps build.files c ≡ true
+    lost_helps c [] e none text h = absurd h
+    lost_helps c (x ∷ xs) e none text h =
+        let some : is_empty (edits_of c) ≡ false = ap is_empty e in
+        subst (HelpsBy c) (sym some) (ap is_none none)
+
+    pub rustc_written : (c : Data) (text : List ℕ) → Contains children c → offer_of build.files c ≡ None
+        → Contains (short_texts c) text → IsPartOf (quoted text) (head (message_tree build d)).help
+    rustc_written c text there none written =
+        let it = has_it (Is text) (short_texts c) text written refl in
+        let row = row_stands c there (lost_helps c (edits_of c) refl none text it) in
+        subst (IsPartOf (quoted text))
+        (sym (report_says (said_of build.files d) (settled build.files (told_of build d)) (offers_of build.files d)).3)
+        (row_part (quoted text) (help_row c) (said_of build.files d).help
+        (text_there text (message_of c) (short_texts c) it) row)

@@ -1,7 +1,7 @@
 //! What holds of the reports of all messages, of any tool: where their labels, their texts and what they propose stand.
 //! Each law is the contract of a function that does nothing; a caller cites it by calling it.
 
-ghost use Rattle.std.specs.Prelude.{◌≡◌, ℕ, List, Option, Some, None};
+ghost use Rattle.std.specs.Prelude.{◌≡◌, ℕ, List, Option, Some, None, codes};
 ghost use Rattle.std.specs.List.{AllByRecursion, Contains};
 ghost use Rattle.serde_json.specs.Data.{Data};
 ghost use Rattle.miette_protocol.specs.rules.Reading.{Source};
@@ -9,14 +9,16 @@ ghost use Rattle.miette_reader_laws.specs.laws.Apart.{IsApartList};
 ghost use Rattle.miette_reader_laws.specs.laws.Applying.{AllFixesApply, AreFound};
 ghost use Rattle.miette_reader_laws.specs.laws.Lists.{lists_of};
 ghost use Rattle.miette_reader_laws.specs.laws.Proposed.{IsOfFile, IsProposed};
-ghost use Rattle.miette_reader_laws.specs.laws.RustcTexts.{texts_of};
+ghost use Rattle.miette_reader_laws.specs.laws.RustcTexts.{IsTold, texts_of};
 ghost use Rattle.miette_reader_laws.specs.laws.Shown.{IsShown};
-ghost use Rattle.miette_reader_laws.specs.laws.Standing.{IsSaidBy, Stands};
+ghost use Rattle.miette_reader_laws.specs.laws.Standing.{IsSaidBy};
+ghost use Rattle.miette_readers.specs.rules.Kept.{IsPartOf};
+ghost use Rattle.miette_readers.specs.rules.Members.{objects_at};
 ghost use Rattle.miette_readers.specs.rules.Places.{Place, Stretch, Told, joined, place_text};
 ghost use Rattle.miette_readers.specs.rules.Proposing.{FileEdit, Offer};
 ghost use Rattle.miette_readers.specs.rules.Reports.{Said, report_tree};
-ghost use Rattle.miette_readers.specs.rules.Rustc.{message_of};
-ghost use Rattle.miette_readers.specs.rules.RustcReport.{message_tree};
+ghost use Rattle.miette_readers.specs.rules.Rustc.{Build, message_of};
+ghost use Rattle.miette_readers.specs.rules.RustcReport.{message_tree, offer_of, quoted, short_texts};
 ghost use Rattle.miette_readers.specs.rules.Settling.{found_place, settled};
 ghost use Rattle.miette_tree.specs.rules.Tree.{causes_of, cause_of, head};
 
@@ -70,15 +72,17 @@ pub fn fixes_can_be_applied()
 
 /// Each fix of a message of rustc can be applied, and each of related advice.
 pub fn rustc_fixes_can_be_applied()
-    ensures { (files : List ℕ → Option Source) (d : Data) → AllFixesApply (message_tree files d) }
+    ensures { (build : Build) (d : Data) → AllFixesApply (message_tree build d) }
 {}
 
 /// The message of a diagnostic of rustc is its report's (`message`), and the texts of its spans, of its notes, helps
 /// and proposals, and of their spans, stand in the report (`texts`). Of a proposal with a place that can't be found
-/// these are kept, but not what it writes, and where.
+/// what it writes stands in the help too, each text that a row can tell (`written`), but not where.
 pub fn rustc_texts_stand()
-    ensures message { (files : List ℕ → Option Source) (d : Data)
-        → (head (message_tree files d)).message ≡ message_of d }
-    ensures texts { (files : List ℕ → Option Source) (d : Data)
-        → AllByRecursion (Stands (message_tree files d)) (texts_of d) }
+    ensures message { (build : Build) (d : Data) → (head (message_tree build d)).message ≡ message_of d }
+    ensures texts { (build : Build) (d : Data)
+        → AllByRecursion (IsTold (message_tree build d)) (texts_of d) }
+    ensures written { (build : Build) (d c : Data) (text : List ℕ)
+        → Contains (objects_at (codes "children") d) c → offer_of build.files c ≡ None
+        → Contains (short_texts c) text → IsPartOf (quoted text) (head (message_tree build d)).help }
 {}

@@ -282,9 +282,11 @@ report_accepts files h said ts offers =
 
 -- ---- rustc's
 
-message_accepts : (files : List ℕ → Option Source) → FilesRead files → (d : Data)
-    → report_accepted (message_tree files d) ≡ true
-message_accepts files h d = report_accepts files h (said_of files d) (told_of files d) (offers_of files d)
+message_accepts : (files : List ℕ → Option Source) → FilesRead files → (folder : Option (List ℕ)) (d : Data)
+    → report_accepted (message_tree (record { files = files; folder = folder }) d) ≡ true
+message_accepts files h folder d =
+    report_accepts files h (said_of files d) (told_of (record { files = files; folder = folder }) d)
+    (offers_of files d)
 
 pub row_accepts : (files : List ℕ → Option Source) → FilesRead files → (d : Data)
     → IfSome (rustc_tree files d) (λ t. IfSome t (λ tree. report_accepted tree ≡ true))

@@ -48,9 +48,10 @@ offers_read files h cs = all_made OfferReads (offer_of files) (λ c. offer_reads
 
 -- ---- the whole
 
-message_reads : (files : List ℕ → Option Source) → FilesRead files → (d : Data) → AlwaysReads (message_tree files d)
-message_reads files h d =
-    report_reads files h (said_of files d) (told_of files d) (offers_of files d)
+message_reads : (files : List ℕ → Option Source) → FilesRead files → (folder : Option (List ℕ)) (d : Data)
+    → AlwaysReads (message_tree (record { files = files; folder = folder }) d)
+message_reads files h folder d =
+    report_reads files h (said_of files d) (told_of (record { files = files; folder = folder }) d) (offers_of files d)
     (offers_read files h (objects_at (codes "children") d))
 
 pub row_reads : (files : List ℕ → Option Source) → FilesRead files → (d : Data)

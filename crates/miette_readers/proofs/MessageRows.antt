@@ -5,23 +5,31 @@ use Rattle.serde_json.specs.Data.{Data}
 use Rattle.miette_protocol.specs.rules.Reading.{Source}
 use Rattle.miette_tree.specs.rules.Tree.{Tree}
 use Rattle.miette_readers.specs.rules.Members.{text_at}
-use Rattle.miette_readers.specs.rules.RustcReport.{held_in, is_other_reason, is_other_type, message_tree, row_tree}
+use Rattle.miette_readers.specs.rules.Rustc.{Build, build_of, package_of}
+use Rattle.miette_readers.specs.rules.RustcReport.{held_in, is_closing, is_other_reason, is_other_type}
+use Rattle.miette_readers.specs.rules.RustcReport.{maybe_report, message_tree, row_tree}
 use Rattle.miette_readers.specs.rules.RustcReport.{rustc_tree}
 use Rattle.miette_readers.proofs.ReportsRead.{either}
 
 abbrev MaybeHolds : (Tree → Type 0) → Option (Option Tree) → Type 0
 MaybeHolds P o = IfSome o (λ t. IfSome t P)
 
-module _ (P : Tree → Type 0) (files : List ℕ → Option Source) (each : (d : Data) → P (message_tree files d)) where
-  said_holds : (o : Option (List ℕ)) (d : Data) → MaybeHolds P (option_map (λ text. Some (message_tree files d)) o)
-  said_holds None d = tt
-  said_holds (Some text) d = each d
+module _ (P : Tree → Type 0) (build : Build) (each : (d : Data) → P (message_tree build d)) where
+  maybe_holds : (d : Data) → IfSome (maybe_report build d) P
+  maybe_holds d = either (λ o. IfSome o P) (is_closing d) None (Some (message_tree build d)) tt (each d)
 
-  held_holds : (o : Option Data) → MaybeHolds P (option_and_then (row_tree files) o)
+  said_holds : (o : Option (List ℕ)) (d : Data) → MaybeHolds P (option_map (λ text. maybe_report build d) o)
+  said_holds None d = tt
+  said_holds (Some text) d = maybe_holds d
+
+  held_holds : (o : Option Data) → MaybeHolds P (option_and_then (row_tree build) o)
   held_holds None = tt
   held_holds (Some d) =
       either (MaybeHolds P) (is_other_type d) (Some None) _ tt (said_holds (text_at (codes "message") d) d)
 
-  pub row_holds : (d : Data) → IfSome (rustc_tree files d) (λ t. IfSome t P)
-  row_holds d =
-      either (MaybeHolds P) (is_other_reason d) (Some None) _ tt (held_holds (held_in d (text_at (codes "reason") d)))
+pub row_holds : (P : Tree → Type 0) (files : List ℕ → Option Source)
+    → ((folder : Option (List ℕ)) (d : Data) → P (message_tree (record { files = files; folder = folder }) d))
+    → (d : Data) → IfSome (rustc_tree files d) (λ t. IfSome t P)
+row_holds P files each d =
+    either (MaybeHolds P) (is_other_reason d) (Some None) _ tt
+    (held_holds P (build_of files d) (each (package_of d)) (held_in d (text_at (codes "reason") d)))

@@ -1,3 +1,4 @@
+pub mod Builds
 pub mod Edits
 pub mod Files
 pub mod Spans

@@ -1,6 +1,7 @@
 //! Reports from what compilers and linters write for machines.
 #![tactic(auto)]
 
+mod closing;
 pub mod files;
 pub mod laws;
 pub mod line_starts;
@@ -18,6 +19,8 @@ mod saying;
 mod settle;
 mod settling;
 pub mod spans;
+mod standing;
 pub mod table;
 mod telling;
 pub mod wording;
+mod writing;

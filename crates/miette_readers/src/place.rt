@@ -1,6 +1,7 @@
 //! Places in files, and what a message tells of them.
 
-ghost use Rattle.std.specs.Prelude.{◌≡◌, ◌++◌, ◌∷◌, IfOk, OnOk, map, option_map, string_bytes, codes, decimal};
+ghost use Rattle.std.specs.Prelude.{◌≡◌, ◌++◌, ◌∷◌, ◌==◌, IfOk, OnOk, map, option_map, string_bytes, codes, decimal};
+ghost use Rattle.std.specs.Prelude.{count_by, nat_le};
 ghost use Rattle.miette_readers.specs.rules.Places.{clash, ends_between, holds, is_same, is_within, joined, last_byte};
 ghost use Rattle.miette_readers.specs.rules.Places.{near, on_one_line, place_text, row_after, shares_byte};
 ghost use Rattle.miette_readers.specs.rules.Places.{text_after};
@@ -56,7 +57,7 @@ impl Stretch {
     fn is_on_one_line(self, bytes: &[u8]) -> bool
         ensures { result ≡ on_one_line bytes.now self }
     {
-        ends_between(bytes, self.start, self.last_byte()) == 0
+        ends_at_most(bytes, self.start, self.last_byte(), 0)
     }
 
     /// Whether both share a byte; an empty one counts as one byte.
@@ -78,8 +79,8 @@ impl Stretch {
     pub(crate) fn is_near(self, other: Stretch, bytes: &[u8]) -> bool
         ensures { result ≡ near bytes.now self other }
     {
-        ends_between(bytes, self.last_byte(), other.start) <= 3
-            && ends_between(bytes, other.last_byte(), self.start) <= 3
+        ends_at_most(bytes, self.last_byte(), other.start, 3)
+            && ends_at_most(bytes, other.last_byte(), self.start, 3)
     }
 
     /// Whether both are the same bytes.
@@ -104,15 +105,31 @@ impl Stretch {
     }
 }
 
-/// How many lines end from a byte up to another one.
-fn ends_between(bytes: &[u8], from: usize, to: usize) -> usize
-    ensures { result ≡ ends_between bytes.now from to }
+/// Whether at most this many lines end in these bytes. It looks no further than one line end more.
+fn has_at_most(bytes: &[u8], most: usize) -> bool
+    ensures { result ≡ nat_le (count_by (λ b. b == 10) bytes.now) most }
+{
+    let mut left = most;
+    for byte in bytes {
+        if *byte == b'\n' {
+            if left == 0 {
+                return false;
+            }
+            left -= 1;
+        }
+    }
+    true
+}
+
+/// Whether at most this many lines end from a byte up to another one. It looks no further than one line end more.
+fn ends_at_most(bytes: &[u8], from: usize, to: usize, most: usize) -> bool
+    ensures { result ≡ nat_le (ends_between bytes.now from to) most }
 {
     let to = to.min(bytes.len());
     if to <= from {
-        return 0;
+        return true;
     }
-    bytes[from..to].iter().filter(|b| **b == b'\n').count()
+    has_at_most(&bytes[from..to], most)
 }
 
 /// The rows as one text, where there are any.

@@ -6,12 +6,15 @@ ghost use Rattle.miette_tree.specs.views.Report.{tree_of};
 ghost use Rattle.miette_readers.specs.rules.Members.{text_at};
 ghost use Rattle.miette_readers.specs.rules.RustcReport.{held_in, is_other_reason, is_other_type, message_tree};
 ghost use Rattle.miette_readers.specs.rules.RustcReport.{rustc_tree};
+ghost use Rattle.miette_readers.specs.views.Builds.{built};
 
+use crate::closing::is_closing;
 use crate::files::{Files, LentFile};
 use crate::members::{object_at, text_at};
 use crate::proposals::offers_of;
 use crate::reports::report_of;
 use crate::saying::said_of;
+use crate::standing::{Build, build_of};
 use crate::telling::told_of;
 use miette_protocol::protocol::Diagnostic;
 use miette_protocol::source::SourceCode;
@@ -73,20 +76,20 @@ pub fn held_in(value: &Value) -> Option<&Value>
 /// The report of a message of rustc.
 fn message_report<'f, D: Diagnostic, F: Files>(
     alloc: Global,
-    files: &'f F,
+    build: &Build<'f, '_, F>,
     message: &Value,
 ) -> Result<Report<D, LentFile<'f>>, AllocError>
     ensures { IfOk result (λ r. tree_of D.meaning ⟦<LentFile<'f> as SourceCode>⟧.source r
-        ≡ message_tree (F.found files.now) (view message.now)) }
+        ≡ message_tree (built F.found build.now) (view message.now)) }
 {
-    let told = told_of(alloc, files, message)?;
-    let offers = offers_of(alloc, files, message)?;
-    let said = said_of(alloc, files, message)?;
-    report_of(alloc, files, said, told.as_slice(), offers.as_slice())
+    let told = told_of(alloc, build, message)?;
+    let offers = offers_of(alloc, build.files, message)?;
+    let said = said_of(alloc, build.files, message)?;
+    report_of(alloc, build.files, said, told.as_slice(), offers.as_slice())
 }
 
 /// The report of a row of rustc (`--error-format=json`) or cargo (`--message-format=json`), over files that are looked
-/// up by the names that the row gives them; none of another row of theirs.
+/// up by the names that the row gives them; none of another row of theirs, and of rustc's words at its end.
 ///
 /// # Errors
 /// `NoMessage` of what has no message, and `Memory`.
@@ -109,6 +112,9 @@ pub fn rustc_report<'f, D: Diagnostic, F: Files>(
     if text_at(message, "message").is_none() {
         return Err(ReadError::NoMessage);
     }
-    let report = message_report(alloc, files, message)?;
+    if is_closing(alloc, message)? {
+        return Ok(None);
+    }
+    let report = message_report(alloc, &build_of(files, value), message)?;
     Ok(Some(report))
 }

@@ -3,7 +3,8 @@
 ghost use Rattle.std.specs.Prelude.{◌≡◌, IfOk, map, option_map, string_bytes};
 ghost use Rattle.std.specs.Option.{option_copied};
 ghost use Rattle.serde_json.specs.View.{view};
-ghost use Rattle.miette_readers.specs.rules.RustcReport.{code_of, help_of, help_rows, helps, said_of, severity_of};
+ghost use Rattle.miette_readers.specs.rules.RustcReport.{code_of, help_of, help_rows, helps, level_of, said_of};
+ghost use Rattle.miette_readers.specs.rules.RustcReport.{severity_of};
 ghost use Rattle.miette_readers.specs.views.Values.{seen};
 
 use crate::files::Files;
@@ -14,15 +15,23 @@ use crate::reports::Said;
 use crate::rows::push_row;
 use crate::spans::edits_of;
 use crate::telling::{is_help, message_of};
+use crate::writing::help_row;
 use miette_protocol::protocol::Severity;
 use serde_json::Value;
 use std::alloc::{AllocError, Global};
+
+/// The word for how grave a message is.
+pub(crate) fn level_of(message: &Value) -> &str
+    ensures { result.now ≡ level_of (view message.now) }
+{
+    text_at(message, "level").unwrap_or("")
+}
 
 /// How grave a message is.
 fn severity_of(message: &Value) -> Severity
     ensures { result ≡ severity_of (view message.now) }
 {
-    match text_at(message, "level").unwrap_or("") {
+    match level_of(message) {
         "error" | "error: internal compiler error" => Severity::Error,
         "warning" => Severity::Warning,
         _ => Severity::Advice,
@@ -30,7 +39,7 @@ fn severity_of(message: &Value) -> Severity
 }
 
 /// The code by which a message can be looked up.
-fn code_of(message: &Value) -> Option<&str>
+pub(crate) fn code_of(message: &Value) -> Option<&str>
     ensures { option_copied result ≡ code_of (view message.now) }
 {
     text_at(found_at(message, "code")?, "code")
@@ -61,7 +70,8 @@ fn help_rows<F: Files>(
     for child in children {
         let child = *child;
         if helps(alloc, files, child)? {
-            push_row(&mut rows, alloc, message_of(child))?;
+            let row = help_row(alloc, child)?;
+            push_row(&mut rows, alloc, row.as_str())?;
         }
     }
     Ok(rows)

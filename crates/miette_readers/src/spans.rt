@@ -3,23 +3,19 @@
 ghost use Rattle.std.specs.Prelude.{◌≡◌, ◌++◌, IfOk, OnOk, codes, filter, option_map};
 ghost use Rattle.std.specs.Option.{option_copied};
 ghost use Rattle.serde_json.specs.View.{view};
-ghost use Rattle.miette_readers.specs.rules.Rustc.{call_of, call_text, edits_of, expansion_of, file_name, holds_span};
+ghost use Rattle.miette_readers.specs.rules.Rustc.{call_text, edits_of, expansion_of, file_name, holds_span};
 ghost use Rattle.miette_readers.specs.rules.Rustc.{is_attribute, is_derive, is_invocation};
 ghost use Rattle.miette_readers.specs.rules.Members.{objects_at};
 ghost use Rattle.miette_readers.specs.rules.Rustc.{is_primary, outermost_from, place_of, proposes};
-ghost use Rattle.miette_readers.specs.rules.Rustc.{spans_of, standing, standing_from, stretch_of, tells};
+ghost use Rattle.miette_readers.specs.rules.Rustc.{spans_of, stretch_of, tells};
 ghost use Rattle.miette_readers.specs.views.Spans.{takes};
 ghost use Rattle.miette_readers.specs.views.Values.{seen};
 
-use crate::files::Files;
 use crate::lists::push_item;
 use crate::members::{flag_at, items_at, object_at, said_at, text_at, whole_at};
 use crate::place::{Place, Stretch};
 use serde_json::Value;
 use std::alloc::{AllocError, Global};
-
-// How many calls of macros stand in one another at most: JSON that is read nests no deeper.
-const CALLS: usize = 64;
 
 /// Its bytes, where both offsets are there.
 pub(crate) fn stretch_of(span: &Value) -> Option<Stretch>
@@ -149,37 +145,6 @@ pub(crate) fn expansion_of(span: &Value) -> Option<&Value>
     ensures { option_map (λ v. view v.now) result ≡ expansion_of (view span.now) }
 {
     object_at(span, "expansion")
-}
-
-/// Where the macro was called that a span stands in.
-fn call_of(span: &Value) -> Option<&Value>
-    ensures { option_map (λ v. view v.now) result ≡ call_of (view span.now) }
-{
-    object_at(expansion_of(span)?, "span")
-}
-
-/// The first span whose file is there, of this one and the calls of macros around it, `left` spans at most.
-#[tactic(auto, unfolding(crate::specs::rules::Rustc::standing_from))]
-fn standing_from<'v, F: Files>(files: &F, span: &'v Value, left: usize) -> Option<&'v Value>
-    ensures { option_map (λ v. view v.now) result ≡ standing_from (F.found files.now) left (view span.now) }
-{
-    if left == 0 {
-        return None;
-    }
-    if files.find(file_name(span)).is_some() {
-        return Some(span);
-    }
-    standing_from(files, call_of(span)?, left - 1)
-}
-
-/// Where a span stands whose file may not be there.
-pub(crate) fn standing<'v, F: Files>(files: &F, span: &'v Value) -> &'v Value
-    ensures { view result.now ≡ standing (F.found files.now) (view span.now) }
-{
-    match standing_from(files, span, CALLS) {
-        Some(found) => found,
-        None => span,
-    }
 }
 
 /// What is said of the outermost call of a macro, at most `left` calls further out.

@@ -10,9 +10,10 @@ use Rattle.miette_readers.specs.rules.RustcReport.{rustc_tree}
 use Rattle.miette_gcc.specs.rules.GccReport.{gcc_trees}
 use Rattle.miette_sarif_reader.specs.rules.Logs.{sarif_trees}
 use Rattle.miette_shellcheck.specs.rules.Comments.{shellcheck_trees}
-use Rattle.miette_row_reports.specs.rules.Shown.{is_gcc, is_sarif, is_shellcheck, maybe_tree, rustc_trees, value_trees}
+use Rattle.miette_row_reports.specs.rules.Shown.{maybe_tree, row_failure, rustc_trees, value_trees}
+use Rattle.miette_row_reports.specs.rules.Told.{failure_of, is_gcc, is_rustc, is_sarif, is_shellcheck}
 use Rattle.miette_row_reports.specs.declared.words.Format.{Format}
-use Rattle.serde_json.specs.Read.{read}
+use Rattle.miette_tool_rows.specs.rules.Values.{read}
 use Rattle.miette_row_reports.specs.rules.Shown.{row_trees}
 
 -- ---- what a row says
@@ -25,6 +26,9 @@ none_said from files row none utf8 = ap (option_and_then (value_trees from files
 pub says_of : (from : Format) (files : List ℕ → Option Source) (row : List ℕ) (d : Data) → read row ≡ Some d
     → row_trees from files row ≡ value_trees from files d
 says_of from files row d is = ap (option_and_then (value_trees from files)) is
+
+pub fails_of : (from : Format) (row : List ℕ) (d : Data) → read row ≡ Some d → row_failure from row ≡ failure_of from d
+fails_of from row d is = ap (option_and_then (failure_of from)) is
 
 -- ---- what holds of each report
 
@@ -44,16 +48,18 @@ module _ (P : Tree → Type 0) (files : List ℕ → Option Source) (d : Data)
   rustc_hold (Some None) h = All-nil P
   rustc_hold (Some (Some t)) h = All-cons P t [] h (All-nil P)
 
-  each_holds : (b c s : Bool)
+  each_holds : (b c s r : Bool)
       → IfSome (if b then gcc_trees files d
-      else if c then sarif_trees files d else if s then shellcheck_trees files d else rustc_trees files d) (All P)
-  each_holds true c s = of_gcc
-  each_holds false true s = of_log
-  each_holds false false true = of_comments
-  each_holds false false false = rustc_hold (rustc_tree files d) of_rustc
+      else if c then sarif_trees files d
+      else if s then shellcheck_trees files d else if r then rustc_trees files d else None) (All P)
+  each_holds true c s r = of_gcc
+  each_holds false true s r = of_log
+  each_holds false false true r = of_comments
+  each_holds false false false true = rustc_hold (rustc_tree files d) of_rustc
+  each_holds false false false false = tt
 
   trees_hold : (from : Format) → IfSome (value_trees from files d) (All P)
-  trees_hold from = each_holds (is_gcc from d) (is_sarif from d) (is_shellcheck from d)
+  trees_hold from = each_holds (is_gcc from d) (is_sarif from d) (is_shellcheck from d) (is_rustc from d)
 
   some_hold : (o : Option (List Tree)) (ts : List Tree) → IfSome o (All P) → o ≡ Some ts → All P ts
   some_hold None ts h e = absurd (cc)

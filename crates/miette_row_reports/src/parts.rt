@@ -1,6 +1,6 @@
 //! The reports of all parts of what is read, in their order.
 
-ghost use Rattle.std.specs.Prelude.{◌≡◌, ◌↔◌, ◌⊎◌, ◌+◌, ◌++◌, Err, IfOk, IfSome, IsTrue, OnErr, OnOk, false, map};
+ghost use Rattle.std.specs.Prelude.{◌≡◌, ◌↔◌, ◌⊎◌, ◌+◌, Err, IfOk, IfSome, IsTrue, OnErr, OnOk, false, map};
 ghost use Rattle.std.specs.List.{All, list_any};
 ghost use Rattle.std.specs.Io.KnownBytes.{Appends};
 ghost use Rattle.miette_devices.specs.views.Device.{TakesBeginning};
@@ -13,8 +13,10 @@ ghost use Rattle.miette_row_reports.specs.rules.Shown.{tree_grave};
 ghost use Rattle.miette_row_reports.specs.views.Logged.{AreKnown, AreLogged, AreLoggedFirst};
 ghost use Rattle.miette_tool_rows.specs.views.Reading.{left_of};
 
+use crate::left_out::{Part, push_logged, tell};
 use crate::reports::reports_of;
-use crate::rows::{Row, begins_message, is_error, pass_on};
+use crate::rows::{Row, begins_message, either, is_error};
+use crate::told::{is_missing, value_kind};
 use crate::words::Format;
 use miette_devices::device::Device;
 use miette_devices::fault::Fault;
@@ -30,7 +32,7 @@ use miette_tool_rows::row_reader::RowReader;
 use miette_tool_rows::value::value_in;
 use miette_tool_rows::verdict::{RowKind, Verdict};
 use miette_tree::report::Report;
-use std::alloc::{AllocError, Global};
+use std::alloc::Global;
 use std::io::{Read, Write};
 
 /// Parts that were read, and the format that they are read in.
@@ -38,6 +40,8 @@ use std::io::{Read, Write};
 pub struct Held {
     /// The format.
     pub from: Format,
+    /// Whether the log that is made of them leaves out reports without a place.
+    pub placed: bool,
     /// The bytes of each part, with the ends of its rows.
     pub parts: Vec<Vec<u8>>,
 }
@@ -121,7 +125,10 @@ fn part_reports<'f, F: Files>(
         return Ok((RowKind::Unread, Vec::new(alloc)));
     };
     match reports_of(alloc, row.from, files, &value) {
-        Ok(reports) => Ok((RowKind::Messages(any_error(reports.as_slice())), reports)),
+        Ok(reports) => {
+            let grave = any_error(reports.as_slice());
+            Ok((value_kind(row.from, &value, grave), reports))
+        }
         Err(ReadError::NoMessage) => Ok((RowKind::Unread, Vec::new(alloc))),
         Err(ReadError::Memory) => Err(Fault::Memory),
     }
@@ -135,15 +142,8 @@ fn number_after(number: u64, part: &[u8]) -> Result<u64, Fault>
     number.checked_add(ends_in(part)).ok_or(Fault::Memory)
 }
 
-/// Appends all of these.
-fn push_all<T: Drop>(list: &mut Vec<T>, more: Vec<T>) -> Result<(), AllocError>
-    ensures { OnOk result (list.new.items ≡ list.old.items ++ more.items) }
-{
-    let mut more = more;
-    list.append(&mut more)
-}
-
-/// The reports of all parts, in their order; what is none is passed on.
+/// The reports of all parts, in their order, that a log is made of; what is none is passed on, and what is left out is
+/// said.
 pub fn all_reports<'f, F: Files, E: Write>(
     alloc: Global,
     files: &'f F,
@@ -151,14 +151,14 @@ pub fn all_reports<'f, F: Files, E: Write>(
     held: &Held,
 ) -> Result<(Verdict, Vec<Report<MietteDiagnostic, LentFile<'f>>>), Fault>
     requires sound { faults.old.failed ≡ false }
-    ensures ok { IfOk result (λ it. AreLogged held.now.from (F.found files.now)
-        (map (λ part. part.items) held.now.parts.items)
-        (map (tree_of ⟦<MietteDiagnostic as Diagnostic>⟧.meaning ⟦<LentFile<'f> as SourceCode>⟧.source) it.1.items)
-        (Appends (E.contents faults.old.inner) (E.contents faults.new.inner)) it.0) }
+    ensures ok { IfOk result (λ it. AreLogged held.now.from held.now.placed (F.found files.now)
+        (map (λ part. part.items) held.now.parts.items) (λ ts notes.
+        (map (tree_of ⟦<MietteDiagnostic as Diagnostic>⟧.meaning ⟦<LentFile<'f> as SourceCode>⟧.source) it.1.items ≡ ts)
+        × Appends (E.contents faults.old.inner) (E.contents faults.new.inner) notes) it.0) }
     ensures reads { IfOk result (λ it. All AlwaysReads
         (map (tree_of ⟦<MietteDiagnostic as Diagnostic>⟧.meaning ⟦<LentFile<'f> as SourceCode>⟧.source) it.1.items)) }
     // After an error a beginning of what is passed on was taken.
-    ensures beginning { OnErr result (AreLoggedFirst held.now.from (F.found files.now)
+    ensures beginning { OnErr result (AreLoggedFirst held.now.from held.now.placed (F.found files.now)
         (map (λ part. part.items) held.now.parts.items)
         (TakesBeginning (E.contents faults.old.inner) (E.contents faults.new.inner))) }
     ensures failed { IsTrue faults.new.failed ↔ (result ≡ Err Fault.Write) }
@@ -166,6 +166,7 @@ pub fn all_reports<'f, F: Files, E: Write>(
 {
     let mut list = Vec::new(alloc);
     let mut verdict = Verdict::none();
+    let mut seen = false;
     let mut number: u64 = 1;
     for part in held.parts.as_slice() {
         let row = Row {
@@ -173,11 +174,17 @@ pub fn all_reports<'f, F: Files, E: Write>(
             bytes: part.as_slice(),
         };
         let (kind, reports) = part_reports(alloc, files, row)?;
-        pass_on(alloc, faults, number, kind, row.bytes)?;
-        push_all(&mut list, reports)?;
+        let told = Part {
+            number,
+            kind,
+            bytes: row.bytes,
+        };
+        tell(alloc, faults, held.placed, told, reports.as_slice())?;
+        push_logged(&mut list, held.placed, reports)?;
         verdict = verdict.with(kind);
+        seen = either(seen, kind.is_read());
         let following = number_after(number, row.bytes)?;
         number = following;
     }
-    Ok((verdict, list))
+    Ok((verdict.with_missing(is_missing(held.from, seen)), list))
 }

@@ -5,8 +5,9 @@ ghost use Rattle.std.specs.List.{All};
 ghost use Rattle.serde_json.specs.View.{view};
 ghost use Rattle.miette_tree.specs.rules.Reads.{AlwaysReads, report_accepted};
 ghost use Rattle.miette_tree.specs.views.Report.{tree_of};
-ghost use Rattle.miette_row_reports.specs.rules.Shown.{is_gcc, is_sarif, is_shellcheck, rustc_trees, value_trees};
+ghost use Rattle.miette_row_reports.specs.rules.Shown.{rustc_trees, value_trees};
 
+use crate::told::{is_gcc, is_rustc, is_sarif, is_shellcheck};
 use crate::words::Format;
 use miette_gcc::gcc::gcc_reports;
 use miette_gcc::laws::{labels_are_accepted as reports_are_accepted, reports_always_read};
@@ -20,47 +21,14 @@ use miette_readers::rustc::{ReadError, rustc_report};
 use miette_sarif_reader::laws::{
     labels_are_accepted as logs_are_accepted, reports_always_read as logs_always_read,
 };
-use miette_sarif_reader::sarif::{has_runs, sarif_reports};
+use miette_sarif_reader::sarif::sarif_reports;
 use miette_shellcheck::laws::{
     labels_are_accepted as comments_are_accepted, reports_always_read as comments_always_read,
 };
-use miette_shellcheck::shellcheck::{has_comments, shellcheck_reports};
+use miette_shellcheck::shellcheck::shellcheck_reports;
 use miette_tree::report::Report;
 use serde_json::Value;
 use std::alloc::{AllocError, Global};
-
-/// Whether a value is read as GCC's.
-fn is_gcc(from: Format, value: &Value) -> bool
-    ensures { result ≡ is_gcc from (view value.now) }
-{
-    match from {
-        Format::Auto => value.is_array(),
-        Format::Rustc | Format::Sarif | Format::ShellCheck => false,
-        Format::Gcc => true,
-    }
-}
-
-/// Whether a value is read as a SARIF log.
-fn is_sarif(from: Format, value: &Value) -> bool
-    ensures { result ≡ is_sarif from (view value.now) }
-{
-    match from {
-        Format::Auto => has_runs(value),
-        Format::Rustc | Format::Gcc | Format::ShellCheck => false,
-        Format::Sarif => true,
-    }
-}
-
-/// Whether a value is read as what ShellCheck writes.
-fn is_shellcheck(from: Format, value: &Value) -> bool
-    ensures { result ≡ is_shellcheck from (view value.now) }
-{
-    match from {
-        Format::Auto => has_comments(value),
-        Format::Rustc | Format::Gcc | Format::Sarif => false,
-        Format::ShellCheck => true,
-    }
-}
 
 /// A list of one item.
 fn list_of_one<T: Drop>(alloc: Global, item: T) -> Result<Vec<T>, AllocError>
@@ -109,8 +77,10 @@ fn value_reports<'f, F: Files>(
         sarif_reports(alloc, files, value)
     } else if is_shellcheck(from, value) {
         shellcheck_reports(alloc, files, value)
-    } else {
+    } else if is_rustc(from, value) {
         rustc_reports(alloc, files, value)
+    } else {
+        Err(ReadError::NoMessage)
     }
 }
 

@@ -1,6 +1,7 @@
 //! A row: whether it begins as messages do, and how it is passed on where it has none; whether a message is an error.
 
-ghost use Rattle.std.specs.Prelude.{◌≡◌, ◌↔◌, ◌⊎◌, IsTrue, OnErr, OnOk, false};
+ghost use Rattle.std.specs.Prelude.{◌≡◌, ◌↔◌, ◌⊎◌, ◌||◌, IfOk, IsTrue, OnErr, OnOk, false, string_bytes};
+ghost use Rattle.miette_tool_rows.specs.rules.Notes.{failure_row, failure_words};
 ghost use Rattle.miette_tool_rows.specs.rules.Rows.{begins_array, begins_object};
 ghost use Rattle.miette_row_reports.specs.rules.Shown.{begins_message, is_grave, passed_on};
 ghost use Rattle.std.specs.Io.KnownBytes.{Appends};
@@ -13,8 +14,8 @@ use miette_devices::whole::write_whole;
 use miette_protocol::protocol::Severity;
 use miette_tool_rows::streams::note;
 use miette_tool_rows::value::{begins_array, begins_object};
-use miette_tool_rows::verdict::RowKind;
-use std::alloc::Global;
+use miette_tool_rows::verdict::{Failure, RowKind};
+use std::alloc::{AllocError, Global};
 use std::io::Write;
 
 /// A row, and the format that it is read in.
@@ -47,7 +48,52 @@ pub fn is_error(severity: Option<Severity>) -> bool
     }
 }
 
-/// Passes on a row that isn't shown, after a note where it can't be read.
+/// Whether one of the two holds.
+pub fn either(one: bool, other: bool) -> bool
+    ensures { result ≡ (one || other) }
+{
+    one || other
+}
+
+/// What failed, in words.
+fn failure_words(what: Failure) -> &'static str
+    ensures { result.now ≡ failure_words what }
+{
+    match what {
+        Failure::Build => "the build failed",
+        Failure::Tool => "the tool failed",
+    }
+}
+
+/// What is said of a row that says what failed.
+fn failure_row(alloc: Global, number: u64, what: Failure) -> Result<String, AllocError>
+    ensures { IfOk result (λ text. string_bytes text ≡ failure_row number what) }
+{
+    let words = failure_words(what);
+    format!(in alloc; "show: row {number}: {words}\n")
+}
+
+/// Says what failed, as a row says.
+fn say_failure<E: Write>(
+    alloc: Global,
+    faults: &mut Device<E>,
+    number: u64,
+    what: Failure,
+) -> Result<(), Fault>
+    requires sound { faults.old.failed ≡ false }
+    ensures passed { OnOk result (Appends (E.contents faults.old.inner) (E.contents faults.new.inner)
+        (failure_row number what)) }
+    ensures beginning { (result ≡ Err Fault.Write) → TakesBeginning (E.contents faults.old.inner)
+        (E.contents faults.new.inner) (failure_row number what) }
+    ensures untouched { OnErr result ((result ≡ Err Fault.Write) ⊎ (faults.new ≡ faults.old)) }
+    ensures failed { IsTrue faults.new.failed ↔ (result ≡ Err Fault.Write) }
+    ensures others { OnErr result ((result ≡ Err Fault.Memory) ⊎ (result ≡ Err Fault.Write)) }
+{
+    let text = failure_row(alloc, number, what)?;
+    write_whole(faults, text.as_bytes())
+}
+
+/// Passes on a row that isn't shown, after a note where it can't be read; of one that says what failed, a note alone.
 pub fn pass_on<E: Write>(
     alloc: Global,
     faults: &mut Device<E>,
@@ -71,5 +117,6 @@ pub fn pass_on<E: Write>(
             write_whole(faults, row)
         }
         RowKind::Messages(_) => Ok(()),
+        RowKind::Failed(what) => say_failure(alloc, faults, number, what),
     }
 }

@@ -1,8 +1,9 @@
 //! The words that the program is called with.
 
 ghost use Rattle.std.specs.Prelude.{◌≡◌};
-ghost use Rattle.std.specs.Option.{option_map};
-ghost use Rattle.miette_row_reports.specs.rules.ShowWords.{asked_for, asked_in_front, format_named, is_alone};
+ghost use Rattle.std.specs.Option.{option_copied, option_map};
+ghost use Rattle.miette_row_reports.specs.rules.ShowWords.{asked_for, asked_in_front, folder_named, format_named};
+ghost use Rattle.miette_row_reports.specs.rules.ShowWords.{is_alone};
 ghost use Rattle.miette_row_reports.specs.views.Asked.{request_of, words_of};
 
 /// What is read.
@@ -36,6 +37,13 @@ impl Format {
     }
 }
 
+/// A folder by its name, which isn't empty.
+fn folder_named(name: &str) -> Option<&str>
+    ensures { option_copied result ≡ folder_named name.now }
+{
+    if name.is_empty() { None } else { Some(name) }
+}
+
 /// What the words ask for.
 #[derive(Clone, Copy)]
 pub struct ShowWords<'w> {
@@ -45,6 +53,8 @@ pub struct ShowWords<'w> {
     pub from: Format,
     /// Whether files are fixed; then there are no words of `job`.
     pub fix: bool,
+    /// Whether those of a package that has errors are fixed too.
+    pub broken: bool,
     /// The words of `job`.
     pub options: &'w [String],
 }
@@ -57,6 +67,7 @@ impl<'w> ShowWords<'w> {
         let mut root = None;
         let mut from = Format::Auto;
         let mut fix = false;
+        let mut broken = false;
         let mut rest = words;
         while let Some((word, more)) = rest.split_first() {
             match word.as_str() {
@@ -64,9 +75,13 @@ impl<'w> ShowWords<'w> {
                     fix = true;
                     rest = more;
                 }
+                "--broken-code" => {
+                    broken = true;
+                    rest = more;
+                }
                 "--root" => {
                     let (value, after) = more.split_first()?;
-                    root = Some(value.as_str());
+                    root = Some(folder_named(value.as_str())?);
                     rest = after;
                 }
                 "--from" => {
@@ -81,18 +96,24 @@ impl<'w> ShowWords<'w> {
             root,
             from,
             fix,
+            broken,
             options: rest,
         })
     }
 
-    /// Whether no word of `job` stands after `--fix`.
+    /// Whether no word of `job` stands after `--fix`, and `--broken-code` nowhere without it.
     fn is_alone(&self) -> bool
         ensures { result ≡ is_alone (request_of self.now) }
     {
-        !self.fix || self.options.is_empty()
+        if self.fix {
+            self.options.is_empty()
+        } else {
+            !self.broken
+        }
     }
 
-    /// What the words ask for; nothing where those in front are wrong, or others stand after `--fix`.
+    /// What the words ask for; nothing where those in front are wrong, as a folder without a name is, where others
+    /// stand after `--fix`, and where `--broken-code` stands without it.
     pub fn read(words: &'w [String]) -> Option<ShowWords<'w>>
         ensures { option_map request_of result ≡ asked_for (words_of words.entry) }
     {

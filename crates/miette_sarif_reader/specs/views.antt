@@ -1,4 +1,5 @@
 -- What values mean.
+pub mod Seen
 pub mod Grounds
 pub mod Pieces
 pub mod Begins

@@ -3,6 +3,8 @@
 
 mod bases;
 mod begins;
+mod counting;
+mod descriptors;
 mod drafts;
 mod ground;
 pub mod laws;
@@ -11,6 +13,8 @@ mod locations;
 mod messages;
 pub mod names;
 mod newlines;
+mod notices;
+mod picked;
 mod proposals;
 mod regions;
 pub mod sarif;
@@ -18,3 +22,4 @@ mod saying;
 mod tables;
 mod telling;
 mod uris;
+mod wholes;

@@ -8,7 +8,8 @@ ghost use Rattle.miette_sarif_reader.specs.rules.Results.{region_of, with_begin,
 ghost use Rattle.miette_sarif_reader.specs.rules.Regions.{start_column, start_line};
 ghost use Rattle.miette_sarif_reader.specs.views.Grounds.{ground_in};
 
-use crate::ground::{Ground, item_at};
+use crate::descriptors::item_at;
+use crate::ground::Ground;
 use crate::lines::FileLines;
 use crate::regions::{has_begin, start_column, start_line, stretch_in};
 use miette_readers::files::Files;

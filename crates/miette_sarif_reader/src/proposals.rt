@@ -61,7 +61,7 @@ fn offer_of<'f, 'd, F: Files>(
 }
 
 /// Appends a proposal, where its places are found.
-fn push_offer<'f, 'd, F: Files>(
+pub(crate) fn push_offer<'f, 'd, F: Files>(
     list: &mut Vec<Offer<'f, 'd>>,
     alloc: Global,
     files: &'f F,

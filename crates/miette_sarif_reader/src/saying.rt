@@ -10,7 +10,8 @@ ghost use Rattle.miette_sarif_reader.specs.rules.Results.{message_in, message_te
 ghost use Rattle.miette_sarif_reader.specs.rules.Results.{string_named, string_of, url_of};
 ghost use Rattle.miette_sarif_reader.specs.views.Grounds.{ground_in};
 
-use crate::ground::{Ground, rule_id};
+use crate::descriptors::rule_id;
+use crate::ground::Ground;
 use crate::messages::shown;
 use miette_protocol::protocol::Severity;
 use miette_readers::files::Files;
@@ -82,7 +83,7 @@ pub(crate) fn said(text: Option<String>) -> Option<String>
 }
 
 /// A text, or an empty one.
-fn or_empty(alloc: Global, text: Option<String>) -> String
+pub(crate) fn or_empty(alloc: Global, text: Option<String>) -> String
     ensures { string_bytes result ≡ unwrap_or (option_map string_bytes text) [] }
 {
     match text {

@@ -8,6 +8,7 @@ ghost use Rattle.miette_readers.specs.views.Values.{seen};
 ghost use Rattle.miette_sarif_reader.specs.rules.Results.{file_of, file_row, flow_told, location_told, message_in};
 ghost use Rattle.miette_sarif_reader.specs.rules.Results.{own_told, region_of, related_told, row_alone, step_row};
 ghost use Rattle.miette_sarif_reader.specs.rules.Results.{step_told, steps_told, thread_told, told_at, told_of};
+ghost use Rattle.miette_sarif_reader.specs.rules.Results.{whole_row};
 ghost use Rattle.miette_sarif_reader.specs.views.Grounds.{ground_in};
 
 use crate::bases::file_name;
@@ -19,12 +20,11 @@ use miette_basics::numbers::push_number;
 use miette_readers::files::Files;
 use miette_readers::lists::push_item;
 use miette_readers::members::{object_at, objects_at};
-use miette_readers::place::Told;
 use serde_json::Value;
 use std::alloc::{AllocError, Global};
 
 /// The text of a location, where it says something.
-fn row_of(
+pub(crate) fn row_of(
     alloc: Global,
     strings: Option<&Value>,
     location: &Value,
@@ -60,6 +60,17 @@ fn file_row(name: String, text: Option<String>) -> Result<String, AllocError>
     Ok(row)
 }
 
+/// A text of a file as a whole, where there is one.
+fn whole_row(name: String, text: Option<String>) -> Result<Option<String>, AllocError>
+    ensures { IfOk result (λ row. option_map string_bytes row
+        ≡ whole_row (string_bytes name) (option_map string_bytes text)) }
+{
+    match text {
+        Some(text) => Ok(Some(file_row(name, Some(text))?)),
+        None => Ok(None),
+    }
+}
+
 /// The row of a step: its number, and its text, where it has one.
 fn step_row(alloc: Global, number: usize, text: Option<String>) -> Result<String, AllocError>
     ensures { IfOk result (λ row. string_bytes row ≡ step_row number (option_map string_bytes text)) }
@@ -92,7 +103,7 @@ impl<'f, 'l, 'v, F: Files> Ground<'f, 'l, 'v, F> {
         };
         let name = file_name(alloc, self.bases, file)?;
         let Some(region) = region_of(location) else {
-            return Ok(row_alone(Some(file_row(name, row)?), own));
+            return Ok(row_alone(whole_row(name, row)?, own));
         };
         let stretch = self.stretch_at(name.as_str(), region);
         if stretch.is_none() && !has_line(region) {
@@ -141,7 +152,11 @@ impl<'f, 'l, 'v, F: Files> Ground<'f, 'l, 'v, F> {
     }
 
     /// What a result's own locations tell; the first is primary.
-    fn own_told(&self, alloc: Global, locations: &[&'v Value]) -> Result<Vec<Spot>, AllocError>
+    pub(crate) fn own_told(
+        &self,
+        alloc: Global,
+        locations: &[&'v Value],
+    ) -> Result<Vec<Spot>, AllocError>
         ensures { IfOk result (λ list. list.items
             ≡ own_told (ground_in F.found self.now) (seen locations.now)) }
     {
@@ -246,7 +261,7 @@ impl<'f, 'l, 'v, F: Files> Ground<'f, 'l, 'v, F> {
         Ok(list)
     }
 
-    /// All that a result tells at places: at its locations, and by the steps of its flows.
+    /// All that a result tells at places and as texts: at its locations, and by the steps of its flows.
     pub(crate) fn told_of(&self, alloc: Global, finding: &'v Value) -> Result<Vec<Spot>, AllocError>
         ensures { IfOk result (λ list. list.items ≡ told_of (ground_in F.found self.now) (view finding.now)) }
     {
@@ -255,16 +270,4 @@ impl<'f, 'l, 'v, F: Files> Ground<'f, 'l, 'v, F> {
         self.push_flows(&mut list, alloc, flows.as_slice())?;
         Ok(list)
     }
-}
-
-/// What is told, with the names of files borrowed.
-pub(crate) fn borrowed(alloc: Global, spots: &[Spot]) -> Result<Vec<Told<'_>>, AllocError>
-    ensures { IfOk result (λ list. list.items ≡ spots.now) }
-{
-    let mut list = Vec::new(alloc);
-    for spot in spots {
-        let told = spot.told(alloc)?;
-        push_item(&mut list, told)?;
-    }
-    Ok(list)
 }

@@ -9,7 +9,7 @@ use std::alloc::{AllocError, Global};
 use std::borrow::CowStr;
 
 /// What stands after a front of a text.
-fn after_front<'t>(text: &'t str, front: &str) -> Option<&'t str>
+pub(crate) fn after_front<'t>(text: &'t str, front: &str) -> Option<&'t str>
     ensures { option_copied result ≡ after_front front.now text.now }
 {
     text.strip_prefix(front)

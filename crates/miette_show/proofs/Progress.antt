@@ -14,8 +14,9 @@ use Rattle.miette_devices.specs.views.Device.{TakesBeginning}
 use Rattle.miette_tree.specs.rules.Tree.{Tree}
 use Rattle.miette_tool_rows.specs.rules.Parts.{ends_in, parts_of}
 use Rattle.miette_row_reports.specs.rules.Shown.{ShowsFirst, IsShown, Shown, Shows, is_error, is_unread}
-use Rattle.miette_tool_rows.specs.rules.Notes.{kind_grave, kind_unread}
-use Rattle.miette_row_reports.specs.rules.Shown.{notes_from, passed_on, text_of, verdict_of}
+use Rattle.miette_tool_rows.specs.rules.Notes.{kind_grave, kind_read, kind_unread}
+use Rattle.miette_row_reports.specs.rules.Shown.{is_read, notes_from, passed_on, text_of}
+use Rattle.miette_row_reports.specs.rules.Told.{is_missing}
 use Rattle.miette_tool_rows.specs.views.Reading.{IsNextPart}
 use Rattle.miette_tool_rows.specs.declared.verdict.RowKind.{RowKind}
 use Rattle.miette_tool_rows.specs.declared.verdict.Verdict.{Verdict}
@@ -60,23 +61,28 @@ verdict_by unread error = record { unread = unread; error = error }
 text_more : (ss : List Shown) (s : Shown) → text_of (ss ++ s ∷ []) ≡ text_of ss ++ s.text
 text_more ss s = flat_map-append (λ (x : Shown). x.text) ss (s ∷ []) ∙ ap (λ l. text_of ss ++ l) (append-nil s.text)
 
+-- what is told of these parts, but for what is missing
+abbrev told_so_far : List Shown → Verdict
+told_so_far shown = verdict_by (list_any is_unread shown) (list_any is_error shown)
+
 -- These parts were shown, what is left is left, and the writers took their texts and notes.
 pub record Progress (from : Format) (gives : Tree → List ℕ → Type 0)
     (found : (List ℕ → Option Source) → List (List ℕ) → Type 0) (first left old new before after : Option (List ℕ))
-    (number : ℕ) (verdict : Verdict) : Type 0 where
+    (number : ℕ) (seen : Bool) (verdict : Verdict) : Type 0 where
   pub shown : List Shown
   pub rows : PartsLeft first left (map row_of shown)
   pub each : All (IsShown from gives found) shown
   pub text : Appends old new (text_of shown)
   pub notes : Appends before after (notes_from 1 shown)
   pub count : number ≡ ends_before shown + 1
-  pub is : verdict ≡ verdict_of shown
+  pub saw : seen ≡ list_any is_read shown
+  pub is : verdict ≡ told_so_far shown
 
 module _ (from : Format) (gives : Tree → List ℕ → Type 0)
     (found : (List ℕ → Option Source) → List (List ℕ) → Type 0) where
   pub begin : (first old before : Option (List ℕ)) (number : ℕ) (verdict : Verdict) → number ≡ 1
       → verdict ≡ record { unread = false; error = false }
-      → Progress from gives found first first old old before before number verdict
+      → Progress from gives found first first old old before before number false verdict
   begin first old before number verdict one none = record {
     shown = [];
     rows = parts_begin first;
@@ -84,20 +90,22 @@ module _ (from : Format) (gives : Tree → List ℕ → Type 0)
     text = Appends-nil old;
     notes = Appends-nil before;
     count = one;
+    saw = refl;
     is = none;
   }
 
-  pub more : (first left next old new newer before after later : Option (List ℕ)) (number : ℕ) (verdict made : Verdict)
-      (row : List ℕ) (kind : RowKind) (text : List ℕ) (following : ℕ) → 0 < length row
-      → Progress from gives found first left old new before after number verdict → IsNextPart left next row
+  pub more : (first left next old new newer before after later : Option (List ℕ)) (number : ℕ) (seen sees : Bool)
+      (verdict made : Verdict) (row : List ℕ) (kind : RowKind) (text : List ℕ) (following : ℕ) → 0 < length row
+      → Progress from gives found first left old new before after number seen verdict → IsNextPart left next row
       → IsShown from gives found (record { row = row; kind = kind; text = text }) → Appends new newer text
       → Appends after later (passed_on number kind row)
       → made ≡ record { unread = verdict.unread || kind_unread kind; error = verdict.error || kind_grave kind }
-      → following ≡ number + ends_in row → Progress from gives found first next old newer before later following made
-  more first left next old new newer before after later number verdict made row kind text following some p is_next
-      is_shown took said with_it count_is =
+      → sees ≡ (seen || kind_read kind) → following ≡ number + ends_in row
+      → Progress from gives found first next old newer before later following sees made
+  more first left next old new newer before after later number seen sees verdict made row kind text following some p
+      is_next is_shown took said with_it see count_is =
       let s : Shown = record { row = row; kind = kind; text = text } in
-      let was : verdict ≡ verdict_of p.shown = p.is in
+      let was : verdict ≡ told_so_far p.shown = p.is in
       let unread = ap (λ (v : Verdict). v.unread || kind_unread kind) was in
       let error = ap (λ (v : Verdict). v.error || kind_grave kind) was in
       let counted : number ≡ ends_before p.shown + 1 = p.count in
@@ -112,23 +120,35 @@ module _ (from : Format) (gives : Tree → List ℕ → Type 0)
         notes = subst (Appends before later) (sym (notes_more 1 p.shown s number counted))
             (Appends-trans before after later (notes_from 1 p.shown) (passed_on number kind row) p.notes said);
         count = omega (arith, counted, count_is, ends_more p.shown s);
+        saw = see ∙ ap (λ (b : Bool). b || kind_read kind) p.saw
+            ∙ sym (any_more is_read p.shown s (kind_read kind) refl);
         is = with_it ∙ ap₂ verdict_by
             (unread ∙ sym (any_more is_unread p.shown s (kind_unread kind) refl))
             (error ∙ sym (any_more is_error p.shown s (kind_grave kind) refl));
       }
 
-  pub end : (first left next old new before after : Option (List ℕ)) (number : ℕ) (verdict : Verdict) (row : List ℕ)
-      → row ≡ [] → Progress from gives found first left old new before after number verdict → IsNextPart left next row
+  pub end : (first left next old new before after : Option (List ℕ)) (number : ℕ) (seen missing : Bool)
+      (verdict whole : Verdict) (row : List ℕ) → row ≡ []
+      → Progress from gives found first left old new before after number seen verdict → IsNextPart left next row
+      → missing ≡ is_missing from seen → whole ≡ record { unread = verdict.unread || missing; error = verdict.error }
       → IfSome first (λ bytes. Shows from gives found bytes
-      (λ text notes. Appends old new text × Appends before after notes) verdict)
-  end first left next old new before after number verdict row none p is_next =
+      (λ text notes. Appends old new text × Appends before after notes) whole)
+  end first left next old new before after number seen missing verdict whole row none p is_next is_missed is =
       ended first (parts_end first left next (map row_of p.shown) row none p.rows is_next)
     where
       ended : (o : Option (List ℕ)) → IfSome o (λ bytes. map row_of p.shown ≡ parts_of bytes)
           → IfSome o (λ bytes. Shows from gives found bytes
-          (λ text notes. Appends old new text × Appends before after notes) verdict)
+          (λ text notes. Appends old new text × Appends before after notes) whole)
       ended None e = tt
-      ended (Some bytes) e = (p.shown, e, p.each, (p.text, p.notes), p.is)
+      ended (Some bytes) e = (
+        p.shown,
+        e,
+        p.each,
+        (p.text, p.notes),
+        is ∙ ap₂ verdict_by
+            (ap₂ (λ (v : Verdict) (m : Bool). v.unread || m) p.is (is_missed ∙ ap (is_missing from) p.saw))
+            (ap (λ (v : Verdict). v.error) p.is),
+      )
 
   -- ---- after an error
 
@@ -140,25 +160,25 @@ module _ (from : Format) (gives : Tree → List ℕ → Type 0)
   so_far (Some bytes) shown holds rows each h = (shown, rows.0, rows.1, each, h)
 
   -- the rows before this one
-  pub begun : (first left old new before after : Option (List ℕ)) (number : ℕ) (verdict : Verdict)
-      → Progress from gives found first left old new before after number verdict
+  pub begun : (first left old new before after : Option (List ℕ)) (number : ℕ) (seen : Bool) (verdict : Verdict)
+      → Progress from gives found first left old new before after number seen verdict
       → IfSome first (λ bytes. ShowsFirst from gives found bytes
       (λ text notes. TakesBeginning old new text × TakesBeginning before after notes))
-  begun first left old new before after number verdict p =
+  begun first left old new before after number seen verdict p =
       so_far first p.shown (λ text notes. TakesBeginning old new text × TakesBeginning before after notes)
       (first_parts first left (map row_of p.shown) p.rows) p.each
       (all_taken old new (text_of p.shown) p.text, all_taken before after (notes_from 1 p.shown) p.notes)
 
   -- and a beginning of this one's text, and of what is passed on of it
-  pub begun_with : (first left next old new newer before after later : Option (List ℕ)) (number : ℕ) (verdict : Verdict)
-      (row : List ℕ) (kind : RowKind) (text : List ℕ) → 0 < length row
-      → Progress from gives found first left old new before after number verdict → IsNextPart left next row
+  pub begun_with : (first left next old new newer before after later : Option (List ℕ)) (number : ℕ) (seen : Bool)
+      (verdict : Verdict) (row : List ℕ) (kind : RowKind) (text : List ℕ) → 0 < length row
+      → Progress from gives found first left old new before after number seen verdict → IsNextPart left next row
       → IsShown from gives found (record { row = row; kind = kind; text = text }) → TakesBeginning new newer text
       → TakesBeginning after later (passed_on number kind row)
       → IfSome first (λ bytes. ShowsFirst from gives found bytes
       (λ text notes. TakesBeginning old newer text × TakesBeginning before later notes))
-  begun_with first left next old new newer before after later number verdict row kind text some p is_next is_shown took
-      said =
+  begun_with first left next old new newer before after later number seen verdict row kind text some p is_next is_shown
+      took said =
       let s : Shown = record { row = row; kind = kind; text = text } in
       so_far first (p.shown ++ s ∷ []) (λ text notes. TakesBeginning old newer text × TakesBeginning before later notes)
       (first_parts first next (map row_of (p.shown ++ s ∷ []))

@@ -13,7 +13,7 @@ use Rattle.miette_row_reports.specs.rules.Shown.{AreDrawn, IsRowText, IsShown, S
 use Rattle.miette_tool_rows.specs.declared.verdict.RowKind.{RowKind}
 use Rattle.miette_tool_rows.specs.declared.verdict.Verdict.{Verdict}
 use Rattle.miette_row_reports.specs.declared.words.Format.{Format}
-use Rattle.miette_tool_rows.specs.declared.verdict.RowKind.TheVariants.{Passed, Unread, Messages}
+use Rattle.miette_tool_rows.specs.declared.verdict.RowKind.TheVariants.{Passed, Unread, Messages, Failed}
 
 drawn_by : (p q : Tree → List ℕ → Type 0) → ((t : Tree) (x : List ℕ) → p t x → q t x) → (ts : List Tree)
     (text : List ℕ) → AreDrawn p ts text → AreDrawn q ts text
@@ -26,8 +26,10 @@ row_by : (from : Format) (p q : Tree → List ℕ → Type 0) → ((t : Tree) (x
     → IsRowText from p files row kind text → IsRowText from q files row kind text
 row_by from p q h files row Passed text r = r
 row_by from p q h files row Unread text r = r
-row_by from p q h files row (Messages grave) text (begins, utf8, (ts, is, error, drawn)) =
-    (begins, utf8, (ts, is, error, drawn_by p q h ts text drawn))
+row_by from p q h files row (Messages grave) text (begins, utf8, (ts, is, error, drawn), none) =
+    (begins, utf8, (ts, is, error, drawn_by p q h ts text drawn), none)
+row_by from p q h files row (Failed what) text (begins, utf8, (ts, is, drawn), failed) =
+    (begins, utf8, (ts, is, drawn_by p q h ts text drawn), failed)
 
 pub shown_by : (from : Format) (p q : Tree → List ℕ → Type 0)
     (f g : (List ℕ → Option Source) → List (List ℕ) → Type 0) (s : Shown)

@@ -6,7 +6,7 @@ use Rattle.std.specs.Prelude.{IsUtf8, ◌||◌}
 use Rattle.std.specs.List.{list_any}
 use Rattle.std.proofs.lemmas.List.Folds.{list_any-append}
 use Rattle.serde_json.specs.Data.{Data}
-use Rattle.serde_json.specs.Read.{read}
+use Rattle.miette_tool_rows.specs.rules.Values.{read}
 use Rattle.miette_protocol.specs.rules.Reading.{Source}
 use Rattle.miette_tree.specs.rules.Reads.{report_accepted}
 use Rattle.miette_tree.specs.rules.Tree.{Tree}
@@ -21,9 +21,11 @@ use Rattle.miette_row_reports.specs.rules.Shown.{AreDrawn, IsRowText, IsShown, t
 use Rattle.miette_tool_rows.specs.rules.Looking.{all_names}
 use Rattle.miette_show.specs.views.Texts.{AreTexts, IsPushed, IsValueText}
 use Rattle.miette_tool_rows.specs.declared.verdict.RowKind.{RowKind}
-use Rattle.miette_tool_rows.specs.declared.verdict.RowKind.TheVariants.{Passed, Unread, Messages}
+use Rattle.miette_tool_rows.specs.declared.verdict.RowKind.TheVariants.{Passed, Unread, Messages, Failed}
+use Rattle.miette_tool_rows.specs.declared.verdict.Failure.{Failure}
 use Rattle.miette_row_reports.specs.declared.words.Format.{Format}
-use Rattle.miette_row_reports.proofs.ReportSteps.{none_said, says_of}
+use Rattle.miette_row_reports.proofs.ReportSteps.{fails_of, none_said, says_of}
+use Rattle.miette_row_reports.specs.rules.Told.{failure_of, kind_by}
 
 abbrev Given : Type 1
 Given = Tree → List ℕ → Type 0
@@ -50,18 +52,33 @@ unread from gives found files row text begins none empty = (
 
 text_of : (from : Format) (gives : Given) (files : List ℕ → Option Source) (row : List ℕ) (d : Data) (kind : RowKind)
     (text : List ℕ) → begins_message from row ≡ true → IsUtf8 row → read row ≡ Some d
-    → IsValueText gives (value_trees from files d) kind text
+    → IsValueText gives (value_trees from files d) (failure_of from d) kind text
     → IsRowText from gives files row kind text
 text_of from gives files row d Passed text begins utf8 is said = absurd said
 text_of from gives files row d Unread text begins utf8 is (none, empty) =
     (begins, (λ u. says_of from files row d is ∙ none), empty)
-text_of from gives files row d (Messages grave) text begins utf8 is (ts, says, texts) =
-    (begins, utf8, (ts, says_of from files row d is ∙ says, texts.0, texts.1))
+text_of from gives files row d (Messages grave) text begins utf8 is ((ts, says, texts), none) = (
+  begins,
+  utf8,
+  (ts, says_of from files row d is ∙ says, texts.0, texts.1),
+  fails_of from row d is ∙ none,
+)
+text_of from gives files row d (Failed what) text begins utf8 is ((ts, says, drawn), failed) =
+    (begins, utf8, (ts, says_of from files row d is ∙ says, drawn), fails_of from row d is ∙ failed)
+
+-- texts of reports, by what failed
+pub value_said : (gives : Given) (says : Option (List Tree)) (what : Option Failure) (kind : RowKind) (ts : List Tree)
+    (grave : Bool) (text : List ℕ) → says ≡ Some ts → AreTexts gives ts grave text → kind ≡ kind_by what grave
+    → IsValueText gives says what kind text
+value_said gives says None kind ts grave text said texts is =
+    subst (λ (k : RowKind). IsValueText gives says None k text) (sym is) ((ts, said, texts), refl)
+value_said gives says (Some failure) kind ts grave text said texts is =
+    subst (λ (k : RowKind). IsValueText gives says (Some failure) k text) (sym is) ((ts, said, texts.1), refl)
 
 -- one that is a value, when all names in it are known
 pub told : (from : Format) (gives : Given) (found : Finding) (files : List ℕ → Option Source) (row : List ℕ) (d : Data)
     (kind : RowKind) (text : List ℕ) → begins_message from row ≡ true → IsUtf8 row → read row ≡ Some d
-    → found files (all_names d) → IsValueText gives (value_trees from files d) kind text
+    → found files (all_names d) → IsValueText gives (value_trees from files d) (failure_of from d) kind text
     → IsShown from gives found (record { row = row; kind = kind; text = text })
 told from gives found files row d kind text begins utf8 is known said = (
   files,
@@ -75,7 +92,7 @@ told from gives found files row d kind text begins utf8 is known said = (
 pub told_ok : {E Z : Type 0} (from : Format) (gives : Given) (found : Finding) (files : List ℕ → Option Source)
     (row : List ℕ) (d : Data) (r : Result (RowKind × String Z) E) → begins_message from row ≡ true → IsUtf8 row
     → read row ≡ Some d → found files (all_names d)
-    → IfOk r (λ it. IsValueText gives (value_trees from files d) it.0 (string_bytes it.1))
+    → IfOk r (λ it. IsValueText gives (value_trees from files d) (failure_of from d) it.0 (string_bytes it.1))
     → IfOk r (λ it. IsShown from gives found
     (record { row = row; kind = it.0; text = string_bytes it.1 }))
 told_ok from gives found files row d (Err e) begins utf8 is known said = tt

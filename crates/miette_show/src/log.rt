@@ -6,6 +6,7 @@ ghost use Rattle.miette_devices.specs.views.Device.{TakesBeginning};
 ghost use Rattle.miette_logs.specs.rules.LogWords.{logged_text};
 ghost use Rattle.miette_tree.specs.rules.Tree.{trees};
 ghost use Rattle.miette_row_reports.specs.rules.Logging.{Logs, LogsFirst, LogsSome};
+ghost use Rattle.miette_show.specs.rules.LogCalls.{needs_places};
 ghost use Rattle.miette_tool_rows.specs.rules.Looking.{IsFoundBy};
 ghost use Rattle.miette_tool_rows.specs.rules.Statuses.{status_of};
 ghost use Rattle.miette_tool_rows.specs.declared.verdict.Verdict.{Verdict};
@@ -14,7 +15,7 @@ ghost use Rattle.miette_tool_rows.specs.views.Reading.{left_of};
 use crate::show::Streams;
 use miette_devices::fault::{Fault, Program};
 use miette_devices::whole::write_whole;
-use miette_logs::logs::Logging;
+use miette_logs::logs::{LogForm, Logging};
 use miette_row_reports::parts::{Held, all_parts, all_reports, load_parts};
 use miette_row_reports::words::Format;
 use miette_tool_rows::loader::Loader;
@@ -22,7 +23,18 @@ use miette_tool_rows::verdict::Verdict;
 use std::alloc::Global;
 use std::io::{Read, Write};
 
-/// Reads all rows that are left, and writes one log of all their messages, in order, after what is passed on.
+/// Whether each result of a log is to have a place.
+fn needs_places(form: LogForm) -> bool
+    ensures { result ≡ needs_places form }
+{
+    match form {
+        LogForm::Sarif => true,
+        LogForm::Lsp => false,
+    }
+}
+
+/// Reads all rows that are left, and writes one log of all their messages, in order, after what is passed on. A SARIF
+/// log has those alone that have a place, and the others are said beside it.
 ///
 /// # Errors
 /// `Read` exactly where a call of the reader failed, `Write` exactly where one of the writers failed. `Memory`.
@@ -36,23 +48,24 @@ pub fn log_on<F: Loader, R: Read, W: Write, E: Write>(
     requires rows_sound { streams.old.rows.failed ≡ false }
     requires writer_sound { streams.old.writer.failed ≡ false }
     requires faults_sound { streams.old.faults.failed ≡ false }
-    // The writer took the log of all reports in their order, and the other one each row that has no message.
+    // The writer took the log of all reports in their order, of a SARIF log of those that have a place, and the other
+    // one each row that has no message, and what is said of the others.
     ensures ok { IfOk result (λ verdict. IfSome (left_of R.remaining streams.old.rows) (λ bytes.
-        Logs from (IsFoundBy F.found F.knows files.old) bytes (λ ts notes.
+        Logs from (needs_places log.entry.form) (IsFoundBy F.found F.knows files.old) bytes (λ ts notes.
         Appends (W.contents streams.old.writer.inner) (W.contents streams.new.writer.inner)
         (logged_text log.entry (trees ts))
         × Appends (E.contents streams.old.faults.inner) (E.contents streams.new.faults.inner) notes) verdict)) }
     // After an error the writer took nothing, or a beginning of the log, after all that is passed on.
     ensures beginning { OnErr result ((streams.new.writer ≡ streams.old.writer)
         ⊎ IfSome (left_of R.remaining streams.old.rows) (λ bytes.
-        LogsSome from (IsFoundBy F.found F.knows files.old) bytes (λ ts notes.
+        LogsSome from (needs_places log.entry.form) (IsFoundBy F.found F.knows files.old) bytes (λ ts notes.
         TakesBeginning (W.contents streams.old.writer.inner) (W.contents streams.new.writer.inner)
         (logged_text log.entry (trees ts))
         × Appends (E.contents streams.old.faults.inner) (E.contents streams.new.faults.inner) notes))) }
     ensures untouched { OnErr result ((result ≡ Err Fault.Write) ⊎ (streams.new.writer ≡ streams.old.writer)) }
     // The other one took a beginning of what is passed on.
     ensures noted { OnErr result (IfSome (left_of R.remaining streams.old.rows) (λ bytes.
-        LogsFirst from (IsFoundBy F.found F.knows files.old) bytes
+        LogsFirst from (needs_places log.entry.form) (IsFoundBy F.found F.knows files.old) bytes
         (TakesBeginning (E.contents streams.old.faults.inner) (E.contents streams.new.faults.inner)))) }
     ensures others { OnErr result ((result ≡ Err Fault.Memory) ⊎ (result ≡ Err Fault.Read)
         ⊎ (result ≡ Err Fault.Write)) }
@@ -61,7 +74,11 @@ pub fn log_on<F: Loader, R: Read, W: Write, E: Write>(
         ↔ (result ≡ Err Fault.Write) }
 {
     let parts = all_parts(alloc, &mut streams.rows)?;
-    let held = Held { from, parts };
+    let held = Held {
+        from,
+        placed: needs_places(log.form),
+        parts,
+    };
     load_parts(alloc, files, &held)?;
     let (verdict, reports) = all_reports(alloc, files, &mut streams.faults, &held)?;
     let text = log.text(alloc, reports.as_slice())?;
@@ -88,7 +105,7 @@ where
     requires faults_sound { streams.faults.failed ≡ false }
     ensures status { (result ≡ 2) ⊎ IfSome (left_of R.remaining streams.rows) (λ bytes. (verdict : Verdict)
         × (result ≡ status_of verdict)
-        × Logs from (IsFoundBy F.found F.knows files.old) bytes (λ ts notes. ⊤) verdict) }
+        × Logs from (needs_places log.entry.form) (IsFoundBy F.found F.knows files.old) bytes (λ ts notes. ⊤) verdict) }
 {
     let mut streams = streams;
     match log_on(alloc, from, log, files, &mut streams) {

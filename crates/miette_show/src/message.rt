@@ -1,6 +1,6 @@
 //! What is shown of a row.
 
-ghost use Rattle.std.specs.Prelude.{◌≡◌, ◌||◌, IfOk, OnErr, OnOk, Some, map, string_bytes, true};
+ghost use Rattle.std.specs.Prelude.{◌≡◌, IfOk, OnErr, OnOk, Some, map, string_bytes, true};
 ghost use Rattle.std.specs.List.{All};
 ghost use Rattle.serde_json.specs.View.{view};
 ghost use Rattle.miette_tree.specs.rules.Reads.{AlwaysReads, report_accepted};
@@ -8,6 +8,7 @@ ghost use Rattle.miette_tree.specs.views.Report.{tree_of};
 ghost use Rattle.miette_program.specs.steps.JobHandler.{IsGiven, IsLed, Stays};
 ghost use Rattle.miette_tool_rows.specs.rules.Looking.{Goes, IsFoundBy};
 ghost use Rattle.miette_row_reports.specs.rules.Shown.{begins_message, IsShown, value_trees};
+ghost use Rattle.miette_row_reports.specs.rules.Told.{failure_of};
 ghost use Rattle.miette_show.specs.views.Texts.{AreTexts, IsPushed, IsValueText};
 
 use miette_devices::fault::Fault;
@@ -18,7 +19,8 @@ use miette_protocol::source::SourceCode;
 use miette_readers::files::Files;
 use miette_readers::rustc::ReadError;
 use miette_row_reports::reports::reports_of;
-use miette_row_reports::rows::{Row, begins_message, is_error};
+use miette_row_reports::rows::{Row, begins_message, either, is_error};
+use miette_row_reports::told::value_kind;
 use miette_row_reports::words::Format;
 use miette_tool_rows::loader::{Loader, load_all};
 use miette_tool_rows::value::value_in;
@@ -66,13 +68,6 @@ fn push_text<H: Highlighter, D: Diagnostic, S: SourceCode>(
     Ok(error)
 }
 
-/// Whether one of the two holds.
-fn either(one: bool, other: bool) -> bool
-    ensures { result ≡ (one || other) }
-{
-    one || other
-}
-
 /// The texts of reports whose labels are accepted, with an empty row after each; whether one is an error.
 fn texts_of<H: Highlighter, D: Diagnostic, S: SourceCode>(
     alloc: Global,
@@ -106,7 +101,8 @@ fn value_text<H: Highlighter, F: Files>(
     value: &Value,
 ) -> Result<(RowKind, String), Fault>
     ensures text { IfOk result (λ it. IsValueText (IsGiven H.is_blank H.may_follow handler.old)
-        (value_trees from (F.found files.now) (view value.now)) it.0 (string_bytes it.1)) }
+        (value_trees from (F.found files.now) (view value.now)) (failure_of from (view value.now)) it.0
+        (string_bytes it.1)) }
     ensures others { OnErr result (result ≡ Err Fault.Memory) }
     ensures stays { Stays H.is_blank handler.old handler.new }
     ensures led { OnOk result (IsLed H.may_follow handler.old handler.new) }
@@ -117,7 +113,7 @@ fn value_text<H: Highlighter, F: Files>(
         Err(ReadError::Memory) => return Err(Fault::Memory),
     };
     let (error, text) = texts_of(alloc, handler, reports.as_slice())?;
-    Ok((RowKind::Messages(error), text))
+    Ok((value_kind(from, value, error), text))
 }
 
 /// What a row is, and the text that is shown of it.

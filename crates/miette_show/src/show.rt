@@ -21,7 +21,8 @@ use miette_highlight::highlight::Highlighter;
 use miette_program::arguments::Arguments;
 use miette_program::job_handler::JobHandler;
 use miette_program::language::LanguageHighlighter;
-use miette_row_reports::rows::{Row, pass_on};
+use miette_row_reports::rows::{Row, either, pass_on};
+use miette_row_reports::told::is_missing;
 use miette_row_reports::words::{Format, ShowWords};
 use miette_tool_rows::loader::Loader;
 pub use miette_tool_rows::streams::Streams;
@@ -88,11 +89,12 @@ fn show_rows<H: Highlighter, F: Loader, R: Read, W: Write, E: Write>(
     let mut row = Vec::new(alloc);
     let mut part = Vec::new(alloc);
     let mut verdict = Verdict::none();
+    let mut seen = false;
     let mut number: u64 = 1;
     for _ in 0..u64::MAX {
         let following = streams.rows.next_part(number, &mut row, &mut part)?;
         if part.is_empty() {
-            return Ok(verdict);
+            return Ok(verdict.with_missing(is_missing(from, seen)));
         }
         let read = Row {
             from,
@@ -101,6 +103,7 @@ fn show_rows<H: Highlighter, F: Loader, R: Read, W: Write, E: Write>(
         let kind = show_row(alloc, handler, files, &mut streams.writer, read)?;
         pass_on(alloc, &mut streams.faults, number, kind, read.bytes)?;
         verdict = verdict.with(kind);
+        seen = either(seen, kind.is_read());
         number = following;
     }
     Err(Fault::Memory)

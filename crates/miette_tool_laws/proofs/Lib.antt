@@ -1,5 +1,7 @@
 mod GccFixes
 mod GccTexts
+mod LogOffers
+mod LogFixes
 mod LogTexts
 mod ShellcheckFixes
 mod ShellcheckTexts

@@ -1,37 +1,40 @@
 -- The texts of a result of a SARIF log stand in its report.
-use Rattle.std.proofs.Common.{◌≡◌, ◌⊎◌, ℕ, ◌+◌, List, [], ◌∷◌, ◌++◌, Option, Some, None, option_map, Bool, true}
-use Rattle.std.proofs.Common.{false, IfSome, codes, refl, ap, subst, sym, inl, inr}
-use Rattle.std.specs.Prelude.{◌||◌, if◌then◌else◌, decimal, is_none, is_some, option_and_then, ⊤}
+use Rattle.std.proofs.Common.{ℕ, ◌+◌, List, [], ◌∷◌, ◌++◌, Option, Some, None, Bool, true}
+use Rattle.std.proofs.Common.{false, IfSome, codes, inl, inr}
+use Rattle.std.specs.Prelude.{◌||◌, if◌then◌else◌, decimal, is_some, option_and_then}
 use Rattle.std.specs.List.{AllByRecursion, flat_map, fold}
 use Rattle.serde_json.specs.Data.{Data}
 use Rattle.miette_protocol.specs.rules.Reading.{Source}
 use Rattle.miette_readers.specs.rules.Kept.{IsPart}
 use Rattle.miette_readers.specs.rules.Members.{object_at, objects_at, said}
 use Rattle.miette_readers.specs.rules.Places.{Place, Told}
-use Rattle.miette_readers.specs.rules.Proposing.{FileEdit, Offer}
+use Rattle.miette_readers.specs.rules.Reports.{Said}
 use Rattle.miette_readers.specs.rules.Rustc.{maybe_row}
-use Rattle.miette_readers.proofs.ReportsRead.{either}
+use Rattle.miette_readers.specs.rules.Settling.{settled}
 use Rattle.miette_sarif_reader.specs.rules.Bases.{file_name}
-use Rattle.miette_sarif_reader.specs.rules.Logs.{result_in}
-use Rattle.miette_sarif_reader.specs.rules.Proposals.{Draft, all_found, draft_by, draft_of, drafts_of}
-use Rattle.miette_sarif_reader.specs.rules.Proposals.{edit_at, edits_of, help_of, help_row, offer_by, offer_of}
-use Rattle.miette_sarif_reader.specs.rules.Proposals.{offer_with, offers_of, with_help}
+use Rattle.miette_sarif_reader.specs.rules.Logs.{notice_tree, result_in}
+use Rattle.miette_sarif_reader.specs.rules.Notices.{notice_said}
+use Rattle.miette_sarif_reader.specs.rules.Proposals.{Draft, draft_of, drafts_of}
+use Rattle.miette_sarif_reader.specs.rules.Proposals.{edits_of, help_of}
+use Rattle.miette_sarif_reader.specs.rules.Proposals.{with_help}
 use Rattle.miette_sarif_reader.specs.rules.Regions.{has_line}
 use Rattle.miette_sarif_reader.specs.rules.Results.{Ground, file_of, file_row, flow_told, location_told, message_in}
 use Rattle.miette_sarif_reader.specs.rules.Results.{message_text, own_told, place_in, region_of, related_told}
 use Rattle.miette_sarif_reader.specs.rules.Results.{row_alone, said_of}
 use Rattle.miette_sarif_reader.specs.rules.Results.{step_by, step_row, step_told, steps_told, thread_told, told_at}
 use Rattle.miette_sarif_reader.specs.rules.Results.{told_of}
+use Rattle.miette_sarif_reader.specs.rules.Wholes.{Telling, all_told, file_named, found_file, name_told}
+use Rattle.miette_sarif_reader.specs.rules.Wholes.{notice_telling, telling_of, whole_own}
+use Rattle.miette_sarif_reader.proofs.LogsHold.{IsUnmarked}
 use Rattle.miette_tool_laws.specs.laws.LogTexts.{fix_texts, flow_texts, location_texts, step_texts}
 use Rattle.miette_tool_laws.specs.laws.LogTexts.{step_texts_by, texts_of, thread_texts}
-use Rattle.miette_reader_laws.specs.laws.Applying.{AreFound, IsFound}
 use Rattle.miette_reader_laws.specs.laws.Standing.{Stands}
-use Rattle.miette_readers.proofs.Holding.{Has, Is, all_each, all_flat, all_made, all_more, has_after, has_made}
+use Rattle.miette_readers.proofs.Holding.{Has, all_each, all_flat, all_more, has_after}
 use Rattle.miette_readers.proofs.Holding.{has_flat, has_map, has_more, has_split}
-use Rattle.miette_reader_laws.proofs.Offers.{AreSound, all_sound, edit_is}
-use Rattle.miette_readers.proofs.RowLists.{row_stays, row_there}
 use Rattle.miette_reader_laws.proofs.Rows.{part_after, part_self, part_within, row_joined}
-use Rattle.miette_reader_laws.proofs.Standing.{IsOffered, Says, help_stands, offered_stands, told_stands}
+use Rattle.miette_reader_laws.proofs.Standing.{Says}
+use Rattle.miette_tool_laws.proofs.LogOffers.{IsHelped, IsOfferedBy, IsProposed, draft_proposed, help_over}
+use Rattle.miette_tool_laws.proofs.LogOffers.{help_there, offered_over, told_over, whole_plain}
 
 abbrev Tells : List ℕ → Told → Type 0
 Tells text t = Has (IsPart text) t.rows
@@ -124,100 +127,6 @@ module _ (g : Ground) where
       (λ text. has_flat (IsThread text) (Tells text) (thread_told g) (λ t it. it) threads) (flow_texts g f)
       (all_flat IsThread (thread_texts g) thread_says threads)
 
--- ---- proposals
-
-module _ (files : List ℕ → Option Source) where
-  edit_sound : (e : Place × List ℕ) → IfSome (edit_at files e) (IsFound files)
-  edit_sound e = edit_is files e.0 e.1
-
-  abbrev IsOfferOf : List ℕ → Offer → Type 0
-  IsOfferOf words o = (o.message ≡ words) × AreSound files o.edits
-
-  offer_from : (words : List ℕ) (o : Option (List FileEdit)) → IfSome o (AreSound files)
-      → IfSome (option_map (offer_by words) o) (IsOfferOf words)
-  offer_from words None h = tt
-  offer_from words (Some es) h = (refl, h)
-
-  found_from : (o : Option Offer) (words : List ℕ) → IfSome o (IsOfferOf words) → IfSome o (AreFound files)
-  found_from None words h = tt
-  found_from (Some o) words h = h.1.0
-
-  offer_sound : (words : List ℕ) (es : List (Place × List ℕ)) → IfSome (offer_with files words es) (AreFound files)
-  offer_sound words [] = tt
-  offer_sound words (e ∷ es) =
-      found_from (offer_with files words (e ∷ es)) words
-      (offer_from words (all_found files (e ∷ es)) (all_sound files (edit_at files) edit_sound e es))
-
-  pub log_found : (ds : List Draft) → AllByRecursion (AreFound files) (offers_of files ds)
-  log_found ds = all_made (AreFound files) (offer_of files) (λ d. offer_sound d.words d.edits) ds
-
-  -- ---- those that aren't offered
-
-  abbrev IsSaying : List ℕ → Type 0
-  IsSaying [] = ⊥
-  IsSaying (c ∷ cs) = ⊤
-
-  abbrev IsHelped : List ℕ → Draft → Type 0
-  IsHelped text d = (is_none (offer_of files d) ≡ true) × (d.words ≡ text) × IsSaying text
-
-  row_kept : (text words : List ℕ) (rows : List (List ℕ)) → Has (Is text) rows → Has (Is text) (help_row rows words)
-  row_kept text [] rows h = h
-  row_kept text (c ∷ cs) rows h = row_stays (Is text) rows (c ∷ cs) h
-
-  help_stays : (text : List ℕ) (ds : List Draft) (rows : List (List ℕ)) → Has (Is text) rows
-      → Has (Is text) (fold (with_help files) rows ds)
-  help_stays text [] rows h = h
-  help_stays text (d ∷ ds) rows h =
-      help_stays text ds (with_help files rows d)
-      (either (Has (Is text)) (is_none (offer_of files d)) (help_row rows d.words) rows
-      (row_kept text d.words rows h) h)
-
-  row_helped : (text : List ℕ) (rows : List (List ℕ)) → IsSaying text → Has (Is text) (help_row rows text)
-  row_helped [] rows some = absurd some
-  row_helped (c ∷ cs) rows some = row_there rows (c ∷ cs)
-
-  help_by : (text words : List ℕ) (rows : List (List ℕ)) (b : Bool) → b ≡ true → words ≡ text → IsSaying text
-      → Has (Is text) (if b then help_row rows words else rows)
-  help_by text words rows false e is some = cc
-  help_by text words rows true e is some =
-      subst (λ (k : List ℕ). Has (Is text) (help_row rows k)) (sym is) (row_helped text rows some)
-
-  help_there : (text : List ℕ) (ds : List Draft) (rows : List (List ℕ)) → Has (IsHelped text) ds
-      → Has (Is text) (fold (with_help files) rows ds)
-  help_there text [] rows h = absurd h
-  help_there text (d ∷ ds) rows (inl it) =
-      help_stays text ds (with_help files rows d)
-      (help_by text d.words rows (is_none (offer_of files d)) it.0 it.1 it.2)
-  help_there text (d ∷ ds) rows (inr h) = help_there text ds (with_help files rows d) h
-
-  -- ---- each of them is offered, or is help
-
-  abbrev IsOfferedBy : List ℕ → Draft → Type 0
-  IsOfferedBy text d = (o : Offer) × (offer_of files d ≡ Some o) × (o.message ≡ text) × AreSound files o.edits
-
-  abbrev IsProposed : List ℕ → Draft → Type 0
-  IsProposed text d = IsHelped text d ⊎ IsOfferedBy text d
-
-  found_by : (words : List ℕ) → IsSaying words → (e : Place × List ℕ) (es : List (Place × List ℕ))
-      (o : Option (List FileEdit)) → all_found files (e ∷ es) ≡ o → IfSome o (AreSound files)
-      → IsProposed words (record { words = words; edits = e ∷ es })
-  found_by words some e es None is h = inl (ap (λ found. is_none (option_map (offer_by words) found)) is, refl, some)
-  found_by words some e es (Some found) is h =
-      inr (offer_by words found, ap (option_map (offer_by words)) is, refl, h)
-
-  text_proposed : (words : List ℕ) → IsSaying words → (edits : List (Place × List ℕ))
-      → IsProposed words (record { words = words; edits = edits })
-  text_proposed words some [] = inl (refl, refl, some)
-  text_proposed words some (e ∷ es) =
-      found_by words some e es (all_found files (e ∷ es)) refl (all_sound files (edit_at files) edit_sound e es)
-
-  -- of what it says of itself
-  draft_proposed : (edits : List (Place × List ℕ)) (o : Option (List ℕ))
-      → AllByRecursion (λ text. IsProposed text (draft_by (said o) edits)) (maybe_row (said o))
-  draft_proposed edits None = tt
-  draft_proposed edits (Some []) = tt
-  draft_proposed edits (Some (c ∷ cs)) = (text_proposed (c ∷ cs) tt edits, tt)
-
 -- ---- all of them
 
 module _ (g : Ground) (r : Data) where
@@ -236,6 +145,18 @@ module _ (g : Ground) (r : Data) where
   abbrev drafts : List Draft
   drafts = drafts_of g r
 
+  abbrev telling : Telling
+  telling = telling_of g r
+
+  abbrev told : List Told
+  told = all_told g.files telling
+
+  abbrev says : Said
+  says = said_of g (help_of g.files drafts) r
+
+  abbrev whole : Option (List ℕ × Source)
+  whole = option_and_then (file_named g.files) (whole_own g.files telling)
+
   abbrev told_own : List Told
   told_own = own_told g places
 
@@ -248,9 +169,13 @@ module _ (g : Ground) (r : Data) where
   abbrev IsFix : List ℕ → Data → Type 0
   IsFix text f = IsProposed g.files text (draft_of g f)
 
+  plain : IfSome whole (λ file. IsUnmarked (settled g.files told))
+  plain = whole_plain g.files telling
+
   stands : (text : List ℕ) → Says (told_of g r) text → Stands (result_in g r) text
   stands text h =
-      told_stands g.files (said_of g (help_of g.files drafts) r) (told_of g r) (offers_of g.files drafts) text h
+      told_over g.files says told drafts text whole plain
+      (has_more (Tells text) (told_of g r) (flat_map (name_told (found_file g.files telling)) telling.bares) h)
 
   own_stands : (text : List ℕ) → Has (IsSaid g text) places → Stands (result_in g r) text
   own_stands text h =
@@ -270,17 +195,11 @@ module _ (g : Ground) (r : Data) where
 
   draft_stands : (text : List ℕ) → Has (IsProposed g.files text) drafts → Stands (result_in g r) text
   draft_stands text h =
-      let says = said_of g (help_of g.files drafts) r in
-      let told = told_of g r in
-      let offers = offers_of g.files drafts in
       elim (has_split (IsHelped g.files text) (IsOfferedBy g.files text) drafts h) [
         | inl help ↦
-            help_stands g.files says told offers text
+            help_over g.files says told drafts text whole plain
             (row_joined text (fold (with_help g.files) [] drafts) (help_there g.files text drafts [] help))
-        | inr offered ↦
-            offered_stands g.files says told offers text
-            (has_made (IsOfferedBy g.files text) (IsOffered g.files says told offers text) (offer_of g.files)
-            (λ d it. (it.0, it.1, (it.2, it.3))) drafts offered)
+        | inr offered ↦ offered_over g.files says told drafts text whole plain offered
       ]
 
   fix_stands : (text : List ℕ) → Has (IsFix text) proposals → Stands (result_in g r) text
@@ -305,3 +224,16 @@ module _ (g : Ground) (r : Data) where
       (all_flat IsFix (fix_texts g) (λ f. draft_proposed g.files (edits_of g f)
       (option_and_then (message_text g.strings) (object_at (codes "description") f)))
       proposals))))
+
+-- ---- of what the tool says of itself
+
+pub notices_stand : (g : Ground) (n : Data)
+    → AllByRecursion (Stands (notice_tree g n)) (flat_map (location_texts g) (objects_at (codes "locations") n))
+notices_stand g n =
+    let places : List Data = objects_at (codes "locations") n in
+    let telling : Telling = notice_telling g n in
+    all_each (λ text. Has (IsSaid g text) places) (Stands (notice_tree g n))
+    (λ text h. told_over g.files (notice_said n) (all_told g.files telling) [] text
+    (option_and_then (file_named g.files) (whole_own g.files telling)) (whole_plain g.files telling)
+    (has_more (Tells text) (own_told g places) (flat_map (name_told (found_file g.files telling)) telling.bares)
+    (own_says g text places h))) (flat_map (location_texts g) places) (locations_have g places)

@@ -2,15 +2,16 @@
 //! be applied.
 //! Each law is the contract of a function that does nothing; a caller cites it by calling it.
 
-ghost use Rattle.std.specs.Prelude.{◌≡◌, ℕ, List, [], Option, unwrap_or};
-ghost use Rattle.std.specs.List.{AllByRecursion};
+ghost use Rattle.std.specs.Prelude.{◌≡◌, ℕ, List, [], None, Option, codes, unwrap_or};
+ghost use Rattle.std.specs.List.{AllByRecursion, flat_map};
 ghost use Rattle.serde_json.specs.Data.{Data};
 ghost use Rattle.miette_gcc.specs.rules.Gcc.{message_of};
 ghost use Rattle.miette_gcc.specs.rules.GccReport.{diagnostic_tree};
 ghost use Rattle.miette_protocol.specs.rules.Reading.{Source};
+ghost use Rattle.miette_readers.specs.rules.Members.{objects_at};
 ghost use Rattle.miette_reader_laws.specs.laws.Applying.{AllFixesApply};
 ghost use Rattle.miette_reader_laws.specs.laws.Standing.{Stands};
-ghost use Rattle.miette_sarif_reader.specs.rules.Logs.{result_tree};
+ghost use Rattle.miette_sarif_reader.specs.rules.Logs.{notice_tree, result_tree};
 ghost use Rattle.miette_sarif_reader.specs.rules.Results.{Ground, ground_for, message_in, strings_of};
 ghost use Rattle.miette_shellcheck.specs.rules.Comments as comments;
 ghost use Rattle.miette_tool_laws.specs.laws.GccTexts as gcc_texts;
@@ -44,6 +45,15 @@ pub fn log_texts_stand()
         → (head (result_tree g r)).message ≡ unwrap_or (message_in (strings_of g r) r) [] }
     ensures texts { (g : Ground) (r : Data)
         → AllByRecursion (Stands (result_tree g r)) (log_texts.texts_of (ground_for g r) r) }
+{}
+
+/// The message of an error that a tool says of itself in a SARIF log is its report's (`message`), and the texts of its
+/// locations stand in the report (`texts`).
+pub fn notice_texts_stand()
+    ensures message { (g : Ground) (n : Data)
+        → (head (notice_tree g n)).message ≡ unwrap_or (message_in None n) [] }
+    ensures texts { (g : Ground) (n : Data) → AllByRecursion (Stands (notice_tree g n))
+        (flat_map (log_texts.location_texts g) (objects_at (codes "locations") n)) }
 {}
 
 /// Each fix of a comment of ShellCheck can be applied, and each of related advice.

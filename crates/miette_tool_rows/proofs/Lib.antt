@@ -2,6 +2,8 @@ pub mod Beginnings
 pub mod ChangeSteps
 pub mod FolderSteps
 pub mod Going
+pub mod LeftSteps
+pub mod MarkSteps
 pub mod MendEnds
 pub mod MendSteps
 pub mod NameSteps
@@ -10,3 +12,4 @@ pub mod PartSteps
 pub mod RowEnds
 pub mod RowReading
 pub mod RowSteps
+pub mod VisibleSteps

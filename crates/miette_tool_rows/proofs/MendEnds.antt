@@ -1,20 +1,23 @@
 -- What a run of `show --fix` comes to.
-use Rattle.std.proofs.Common.{◌≡◌, ℕ, List, [], ◌++◌, map, Option, Some, None, IfSome, subst, sym, ◌∙◌}
+use Rattle.std.proofs.Common.{◌≡◌, ℕ, List, [], ◌++◌, map, Bool, Option, Some, None, IfSome, subst, sym, ◌∙◌}
 use Rattle.std.proofs.Common.{All, append-nil, string_bytes}
-use Rattle.std.specs.List.{flat_map}
 use Rattle.std.specs.Io.KnownBytes.{Appends}
 use Rattle.std.proofs.KnownBytes.{Appends-trans}
 use Rattle.std.proofs.lemmas.List.Elements.{All-weaker}
 use Rattle.miette_fixes.specs.rules.Edits.{Proposal}
 use Rattle.miette_protocol.specs.rules.Reading.{Source}
 use Rattle.miette_devices.specs.views.Device.{TakesBeginning}
-use Rattle.miette_mending.specs.rules.Gathered.{fixes_for}
-use Rattle.miette_mending.specs.rules.Sure.{FileFixes}
-use Rattle.miette_mending.specs.views.Holding.{Adds, HoldsAll, fixes_at}
+use Rattle.miette_mending.specs.rules.Gathered.{fixes_for, names_in}
+use Rattle.miette_mending.specs.rules.Packages.{Left, counted_fixes, left_over}
+use Rattle.miette_mending.specs.rules.Sure.{FileFixes, RowFixes}
+use Rattle.miette_mending.specs.views.Counted.{left_in}
+use Rattle.miette_mending.specs.views.Holding.{HoldsAll, fixes_at}
 use Rattle.miette_mending.specs.declared.gathered.Gathered.{Gathered}
+use Rattle.miette_mending.specs.declared.packages.Counted.{Counted}
 use Rattle.miette_tool_rows.specs.rules.Looking.{leads_out}
-use Rattle.miette_tool_rows.specs.rules.Mends.{Change, Changes, ChangesFirst, Gives, GivesFirst, Giving, IsChange}
-use Rattle.miette_tool_rows.specs.rules.Mends.{IsOutcome, Mends, MendsFirst, fault_of, given, unread_notes}
+use Rattle.miette_tool_rows.specs.rules.Mends.{Change, Changes, ChangesAll, ChangesFirst, ChangesSome, Gives}
+use Rattle.miette_tool_rows.specs.rules.Mends.{GivesFirst, Giving, IsChange, IsOutcome, Mends}
+use Rattle.miette_tool_rows.specs.rules.Mends.{MendsFirst, faults_of, unread_notes}
 use Rattle.miette_tool_rows.specs.rules.Statuses.{status_of}
 use Rattle.miette_tool_rows.specs.declared.verdict.Verdict.{Verdict}
 use Rattle.miette_tool_rows.proofs.Beginnings.{all_taken, taken_then}
@@ -33,150 +36,220 @@ each_changed refuses files new all changes held each =
     All-weaker (IsChange files refuses (fixes_at new.fixes)) (IsChange files refuses (λ name. fixes_for name all))
     (change_by files refuses (fixes_at new.fixes) (λ name. fixes_for name all) held.each) changes each
 
-module _ (found : (List ℕ → Option Source) → List (List ℕ) → Type 0) (refuses : List ℕ → Type 0)
-    (files : List ℕ → Option Source) (verdict : Verdict) (old new : Gathered) where
+-- ---- the rows that are held are those that all parts give
+
+-- of none that were held before
+pub from_none : (found : (List ℕ → Option Source) → List (List ℕ) → Type 0) (verdict : Verdict)
+    (first before after : Option (List ℕ)) (none held : List RowFixes) → none ≡ []
+    → IfSome first (λ bytes. Gives found bytes (λ rows notes. (held ≡ none ++ rows)
+    × Appends before after notes) verdict)
+    → IfSome first (λ bytes. Gives found bytes (λ rows notes. (held ≡ rows) × Appends before after notes) verdict)
+from_none found verdict first before after none held is gives =
+    subst (λ (l : List RowFixes). IfSome first (λ bytes. Gives found bytes (λ rows notes. (held ≡ l ++ rows)
+    × Appends before after notes) verdict)) is gives
+
+module _ (found : (List ℕ → Option Source) → List (List ℕ) → Type 0) (refuses : List ℕ → Type 0) (broken : Bool)
+    (files : List ℕ → Option Source) (verdict : Verdict) (held : List RowFixes) (those : Counted)
+    (fixes : HoldsAll those.fixes (counted_fixes broken held)) (is_left : left_in those ≡ left_over broken held)
+    (known : found files (map string_bytes those.fixes.names.items)) where
+  names_known : found files (names_in (counted_fixes broken held))
+  names_known = subst (found files) fixes.named known
+
+  -- what is done with what is held
+  changed_all : (holds : List Change → Left → Type 0)
+      → Changes files refuses (fixes_at those.fixes.fixes) (map string_bytes those.fixes.names.items)
+      (λ changes. holds changes (left_in those))
+      → ChangesAll found refuses (counted_fixes broken held) (λ changes. holds changes (left_over broken held))
+  changed_all holds (changes, named, each, is) = (
+    files,
+    names_known,
+    (
+      changes,
+      named ∙ fixes.named,
+      each_changed refuses files those.fixes (counted_fixes broken held) changes fixes each,
+      subst (holds changes) is_left is,
+    ),
+  )
+
+  changed_some : (holds : List Change → Left → Type 0)
+      → ChangesFirst files refuses (fixes_at those.fixes.fixes) (map string_bytes those.fixes.names.items)
+      (λ changes. holds changes (left_in those))
+      → ChangesSome found refuses (counted_fixes broken held) (λ changes. holds changes (left_over broken held))
+  changed_some holds (changes, others, named, each, is) = (
+    files,
+    names_known,
+    (
+      changes,
+      others,
+      sym fixes.named ∙ named,
+      each_changed refuses files those.fixes (counted_fixes broken held) changes fixes each,
+      subst (holds changes) is_left is,
+    ),
+  )
+
   -- what all rows come to
-  pub mends_of : (first before after last : Option (List ℕ)) (done wrote said : List Change → Type 0)
-      → IfSome first (λ bytes. Gives found bytes (λ all notes. Adds old new all × Appends before after notes) verdict)
-      → HoldsAll old [] → found files (map string_bytes new.names.items)
-      → Changes files refuses (fixes_at new.fixes) (map string_bytes new.names.items) (λ changes. done changes
-      × wrote changes × said changes × Appends after last (flat_map fault_of changes))
-      → IfSome first (λ bytes. Mends found refuses bytes (λ changes notes. done changes
-      × wrote changes × said changes × Appends before last (notes ++ flat_map fault_of changes)) verdict)
-  mends_of None before after last done wrote said gives none known changed = tt
-  mends_of (Some bytes) before after last done wrote said gives none known (changes, named, each, holds) =
-      let held : HoldsAll new (given gives.0) = gives.3.0 [] none in (
-        gives.0,
-        gives.1,
-        gives.2,
+  pub mends_of : (first before after last : Option (List ℕ)) (done wrote said : List Change → Left → Type 0)
+      → IfSome first (λ bytes. Gives found bytes (λ rows notes. (held ≡ rows) × Appends before after notes) verdict)
+      → Changes files refuses (fixes_at those.fixes.fixes) (map string_bytes those.fixes.names.items)
+      (λ changes. done changes (left_in those) × wrote changes (left_in those) × said changes (left_in those)
+      × Appends after last (faults_of changes (left_in those)))
+      → IfSome first (λ bytes. Mends found refuses broken bytes (λ changes left notes. done changes left
+      × wrote changes left × said changes left × Appends before last (notes ++ faults_of changes left)) verdict)
+  mends_of None before after last done wrote said gives changed = tt
+  mends_of (Some bytes) before after last done wrote said (all, rows, each, (same, noted), is) changed =
+      let holds : List Change → Left → Type 0 = λ changes left. done changes left × wrote changes left
+      × said changes left × Appends after last (faults_of changes left)
+      in
+      let those_done = changed_all holds changed in
+      let with_notes : ChangesAll found refuses (counted_fixes broken held)
+      (λ changes. done changes (left_over broken held) × wrote changes (left_over broken held)
+      × said changes (left_over broken held)
+      × Appends before last (unread_notes 1 all ++ faults_of changes (left_over broken held))) = (
+        those_done.0,
+        those_done.1,
         (
-          files,
-          subst (found files) held.named known,
+          those_done.2.0,
+          those_done.2.1,
+          those_done.2.2,
           (
-            changes,
-            named ∙ held.named,
-            each_changed refuses files new (given gives.0) changes held each,
-            (
-              holds.0,
-              holds.1,
-              holds.2,
-              Appends-trans before after last (unread_notes 1 gives.0) (flat_map fault_of changes) gives.3.1 holds.3,
-            ),
+            those_done.2.3.0,
+            those_done.2.3.1,
+            those_done.2.3.2,
+            Appends-trans before after last (unread_notes 1 all) (faults_of those_done.2.0 (left_over broken held))
+                noted those_done.2.3.3,
           ),
         ),
-        gives.4,
+      )
+      in (
+        all,
+        rows,
+        each,
+        subst (λ (rs : List RowFixes). ChangesAll found refuses (counted_fixes broken rs)
+            (λ changes. done changes (left_over broken rs) × wrote changes (left_over broken rs)
+            × said changes (left_over broken rs)
+            × Appends before last (unread_notes 1 all ++ faults_of changes (left_over broken rs)))) same with_notes,
+        is,
       )
 
   -- as is what is done with the first of them
-  pub first_of : (first before after last : Option (List ℕ)) (wrote said : List Change → Type 0)
-      → IfSome first (λ bytes. Gives found bytes (λ all notes. Adds old new all × Appends before after notes) verdict)
-      → HoldsAll old [] → found files (map string_bytes new.names.items)
-      → ChangesFirst files refuses (fixes_at new.fixes) (map string_bytes new.names.items) (λ changes. wrote changes
-      × said changes × TakesBeginning after last (flat_map fault_of changes))
-      → IfSome first (λ bytes. MendsFirst found refuses bytes (λ changes notes. wrote changes
-      × said changes × TakesBeginning before last (notes ++ flat_map fault_of changes)))
-  first_of None before after last wrote said gives none known changed = tt
-  first_of (Some bytes) before after last wrote said gives none known (changes, others, named, each, holds) =
-      let held : HoldsAll new (given gives.0) = gives.3.0 [] none in (
+  pub first_of : (first before after last : Option (List ℕ)) (wrote said : List Change → Left → Type 0)
+      → IfSome first (λ bytes. Gives found bytes (λ rows notes. (held ≡ rows) × Appends before after notes) verdict)
+      → ChangesFirst files refuses (fixes_at those.fixes.fixes) (map string_bytes those.fixes.names.items)
+      (λ changes. wrote changes (left_in those) × said changes (left_in those)
+      × TakesBeginning after last (faults_of changes (left_in those)))
+      → IfSome first (λ bytes. MendsFirst found refuses broken bytes (λ changes left notes. wrote changes left
+      × said changes left × TakesBeginning before last (notes ++ faults_of changes left)))
+  first_of None before after last wrote said gives changed = tt
+  first_of (Some bytes) before after last wrote said (all, rows, each, (same, noted), is) changed =
+      let holds : List Change → Left → Type 0 = λ changes left. wrote changes left × said changes left
+      × TakesBeginning after last (faults_of changes left)
+      in
+      let those_done = changed_some holds changed in
+      let with_notes : ChangesSome found refuses (counted_fixes broken held)
+      (λ changes. wrote changes (left_over broken held) × said changes (left_over broken held)
+      × TakesBeginning before last (unread_notes 1 all ++ faults_of changes (left_over broken held))) = (
+        those_done.0,
+        those_done.1,
+        (
+          those_done.2.0,
+          those_done.2.1,
+          those_done.2.2,
+          those_done.2.3,
+          (
+            those_done.2.4.0,
+            those_done.2.4.1,
+            taken_then before after last (unread_notes 1 all) (faults_of those_done.2.0 (left_over broken held)) noted
+                those_done.2.4.2,
+          ),
+        ),
+      )
+      in (
         verdict,
         (
-          gives.0,
-          gives.1,
-          gives.2,
-          (
-            files,
-            subst (found files) held.named known,
-            (
-              changes,
-              others,
-              sym held.named ∙ named,
-              each_changed refuses files new (given gives.0) changes held each,
-              (
-                holds.0,
-                holds.1,
-                taken_then before after last (unread_notes 1 gives.0) (flat_map fault_of changes) gives.3.1 holds.2,
-              ),
-            ),
-          ),
-          gives.4,
+          all,
+          rows,
+          each,
+          subst (λ (rs : List RowFixes). ChangesSome found refuses (counted_fixes broken rs)
+              (λ changes. wrote changes (left_over broken rs) × said changes (left_over broken rs)
+              × TakesBeginning before last (unread_notes 1 all ++ faults_of changes (left_over broken rs)))) same
+              with_notes,
+          is,
         ),
       )
 
 -- all rows are the first ones
-pub all_given : (found : (List ℕ → Option Source) → List (List ℕ) → Type 0) (adds : List FileFixes → Type 0)
+pub all_given : (found : (List ℕ → Option Source) → List (List ℕ) → Type 0) (adds : List RowFixes → Type 0)
     (verdict : Verdict) (first before after : Option (List ℕ))
-    → IfSome first (λ bytes. Gives found bytes (λ all notes. adds all × Appends before after notes) verdict)
+    → IfSome first (λ bytes. Gives found bytes (λ rows notes. adds rows × Appends before after notes) verdict)
     → IfSome first (λ bytes. GivesFirst found bytes (TakesBeginning before after))
 all_given found adds verdict None before after gives = tt
 all_given found adds verdict (Some bytes) before after (all, rows, each, (added, notes), is) =
     (all, [], sym rows ∙ sym (append-nil (map (λ (s : Giving). s.row) all)), each, all_taken before after _ notes)
 
--- of which only this is told
-pub mends_weaker : (found : (List ℕ → Option Source) → List (List ℕ) → Type 0) (refuses : List ℕ → Type 0)
-    (p q : List Change → List ℕ → Type 0) (verdict : Verdict) (first : Option (List ℕ))
-    → ((changes : List Change) (notes : List ℕ) → p changes notes → q changes notes)
-    → IfSome first (λ bytes. Mends found refuses bytes p verdict)
-    → IfSome first (λ bytes. Mends found refuses bytes q verdict)
-mends_weaker found refuses p q verdict None h mends = tt
-mends_weaker found refuses p q verdict (Some bytes) h (all, rows, each, (files, known, changed), is) =
-    (all, rows, each, (files, known, (changed.0, changed.1, changed.2, h changed.0 (unread_notes 1 all) changed.3)), is)
-
--- all of them are the first of them
-pub mends_first : (found : (List ℕ → Option Source) → List (List ℕ) → Type 0) (refuses : List ℕ → Type 0)
-    (p q : List Change → List ℕ → Type 0) (verdict : Verdict) (first : Option (List ℕ))
-    → ((changes : List Change) (notes : List ℕ) → p changes notes → q changes notes)
-    → IfSome first (λ bytes. Mends found refuses bytes p verdict)
-    → IfSome first (λ bytes. MendsFirst found refuses bytes q)
-mends_first found refuses p q verdict None h mends = tt
-mends_first found refuses p q verdict (Some bytes) h (all, rows, each, (files, known, changed), is) = (
-  verdict,
-  (
+module _ (found : (List ℕ → Option Source) → List (List ℕ) → Type 0) (refuses : List ℕ → Type 0) (broken : Bool)
+    (p q : List Change → Left → List ℕ → Type 0)
+    (h : (changes : List Change) (left : Left) (notes : List ℕ) → p changes left notes → q changes left notes) where
+  -- of which only this is told
+  pub mends_weaker : (verdict : Verdict) (first : Option (List ℕ))
+      → IfSome first (λ bytes. Mends found refuses broken bytes p verdict)
+      → IfSome first (λ bytes. Mends found refuses broken bytes q verdict)
+  mends_weaker verdict None mends = tt
+  mends_weaker verdict (Some bytes) (all, rows, each, (files, known, changed), is) = (
     all,
     rows,
     each,
+    (files, known, (changed.0, changed.1, changed.2, h changed.0 _ (unread_notes 1 all) changed.3)),
+    is,
+  )
+
+  -- all of them are the first of them
+  pub mends_first : (verdict : Verdict) (first : Option (List ℕ))
+      → IfSome first (λ bytes. Mends found refuses broken bytes p verdict)
+      → IfSome first (λ bytes. MendsFirst found refuses broken bytes q)
+  mends_first verdict None mends = tt
+  mends_first verdict (Some bytes) (all, rows, each, (files, known, changed), is) = (
+    verdict,
     (
-      files,
-      known,
+      all,
+      rows,
+      each,
       (
-        changed.0,
-        [],
-        sym changed.1 ∙ sym (append-nil (map (λ (c : Change). c.name) changed.0)),
-        changed.2,
-        h changed.0 (unread_notes 1 all) changed.3,
+        files,
+        known,
+        (
+          changed.0,
+          [],
+          sym changed.1 ∙ sym (append-nil (map (λ (c : Change). c.name) changed.0)),
+          changed.2,
+          h changed.0 _ (unread_notes 1 all) changed.3,
+        ),
       ),
+      is,
     ),
-    is,
-  ),
-)
+  )
 
--- of the first of which only this is told
-pub first_weaker : (found : (List ℕ → Option Source) → List (List ℕ) → Type 0) (refuses : List ℕ → Type 0)
-    (p q : List Change → List ℕ → Type 0) (first : Option (List ℕ))
-    → ((changes : List Change) (notes : List ℕ) → p changes notes → q changes notes)
-    → IfSome first (λ bytes. MendsFirst found refuses bytes p)
-    → IfSome first (λ bytes. MendsFirst found refuses bytes q)
-first_weaker found refuses p q None h mends = tt
-first_weaker found refuses p q (Some bytes) h (verdict, (all, rows, each, (files, known, changed), is)) = (
-  verdict,
-  (
-    all,
-    rows,
-    each,
+  -- of the first of which only this is told
+  pub first_weaker : (first : Option (List ℕ)) → IfSome first (λ bytes. MendsFirst found refuses broken bytes p)
+      → IfSome first (λ bytes. MendsFirst found refuses broken bytes q)
+  first_weaker None mends = tt
+  first_weaker (Some bytes) (verdict, (all, rows, each, (files, known, changed), is)) = (
+    verdict,
     (
-      files,
-      known,
-      (changed.0, changed.1, changed.2, changed.3, h changed.0 (unread_notes 1 all) changed.4),
+      all,
+      rows,
+      each,
+      (
+        files,
+        known,
+        (changed.0, changed.1, changed.2, changed.3, h changed.0 _ (unread_notes 1 all) changed.4),
+      ),
+      is,
     ),
-    is,
-  ),
-)
+  )
 
--- and the status is that of the verdict
-pub mends_status : (found : (List ℕ → Option Source) → List (List ℕ) → Type 0) (refuses : List ℕ → Type 0)
-    (p q : List Change → List ℕ → Type 0) (verdict : Verdict) (first : Option (List ℕ)) (n : ℕ) → n ≡ status_of verdict
-    → ((changes : List Change) (notes : List ℕ) → p changes notes → q changes notes)
-    → IfSome first (λ bytes. Mends found refuses bytes p verdict)
-    → IfSome first (λ bytes. (v : Verdict) × (n ≡ status_of v) × Mends found refuses bytes q v)
-mends_status found refuses p q verdict None n is h mends = tt
-mends_status found refuses p q verdict (Some bytes) n is h mends =
-    (verdict, is, mends_weaker found refuses p q verdict (Some bytes) h mends)
+  -- and the status is that of the verdict
+  pub mends_status : (verdict : Verdict) (first : Option (List ℕ)) (n : ℕ) → n ≡ status_of verdict
+      → IfSome first (λ bytes. Mends found refuses broken bytes p verdict)
+      → IfSome first (λ bytes. (v : Verdict) × (n ≡ status_of v) × Mends found refuses broken bytes q v)
+  mends_status verdict None n is mends = tt
+  mends_status verdict (Some bytes) n is mends = (verdict, is, mends_weaker verdict (Some bytes) mends)

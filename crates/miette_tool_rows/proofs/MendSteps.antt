@@ -1,7 +1,7 @@
 -- Rows that give fixes, one after another.
 use Rattle.std.proofs.Common.{◌≡◌, ℕ, ◌+◌, ◌<◌, List, [], ◌∷◌, ◌++◌, Bool, true, false, length, map, Option, Some, None}
 use Rattle.std.proofs.Common.{IfSome, All, refl, sym, ap, ap₂, subst, ◌∙◌, arith, append_assoc, append-nil}
-use Rattle.std.specs.Prelude.{◌||◌, IsUtf8, option_and_then}
+use Rattle.std.specs.Prelude.{◌||◌, IsUtf8, option_and_then, option_to_list}
 use Rattle.std.specs.List.{list_any}
 use Rattle.std.specs.Io.KnownBytes.{Appends}
 use Rattle.std.proofs.KnownBytes.{Appends-nil, Appends-trans}
@@ -10,19 +10,19 @@ use Rattle.std.proofs.lemmas.List.Concat.{flat_map-append}
 use Rattle.std.proofs.lemmas.List.Elements.{All-nil, All-cons, All-append}
 use Rattle.std.proofs.lemmas.List.Folds.{list_any-append}
 use Rattle.serde_json.specs.Data.{Data}
-use Rattle.serde_json.specs.Read.{read}
+use Rattle.miette_tool_rows.specs.rules.Values.{read}
 use Rattle.miette_protocol.specs.rules.Reading.{Source}
 use Rattle.miette_devices.specs.views.Device.{TakesBeginning}
-use Rattle.miette_mending.specs.rules.Sure.{FileFixes, value_fixes}
+use Rattle.miette_mending.specs.rules.Sure.{RowFixes, value_fixes}
 use Rattle.miette_tool_rows.specs.rules.Looking.{Goes, IsFoundBy, all_names}
-use Rattle.miette_tool_rows.specs.rules.Mends.{Giving, Gives, GivesFirst, IsGiving, IsRowFixes, given, row_fixes}
-use Rattle.miette_tool_rows.specs.rules.Mends.{unread_notes}
+use Rattle.miette_tool_rows.specs.rules.Mends.{Giving, Gives, GivesFirst, IsGiving, are_grave, given, row_fixes}
+use Rattle.miette_tool_rows.specs.rules.Mends.{unread_notes, verdict_of}
 use Rattle.miette_tool_rows.specs.rules.Parts.{ends_in, parts_of}
 use Rattle.miette_tool_rows.specs.rules.Rows.{begins_object}
 use Rattle.miette_tool_rows.specs.rules.Notes.{kind_grave, kind_unread, note_of}
 use Rattle.miette_tool_rows.specs.views.Reading.{IsNextPart}
 use Rattle.miette_tool_rows.specs.declared.verdict.RowKind.{RowKind}
-use Rattle.miette_tool_rows.specs.declared.verdict.RowKind.TheVariants.{Passed, Unread, Messages}
+use Rattle.miette_tool_rows.specs.declared.verdict.RowKind.TheVariants.{Passed, Unread, Messages, Failed}
 use Rattle.miette_tool_rows.specs.declared.verdict.Verdict.{Verdict}
 use Rattle.miette_tool_rows.proofs.Beginnings.{all_taken, taken_then}
 use Rattle.miette_tool_rows.proofs.Going.{found_before}
@@ -31,18 +31,18 @@ use Rattle.miette_tool_rows.proofs.PartSteps.{PartsLeft, first_parts, parts_begi
 abbrev Finding : Type 1
 Finding = (List ℕ → Option Source) → List (List ℕ) → Type 0
 
-abbrev giving : List ℕ → RowKind → List FileFixes → Giving
-giving row kind fixes = record { row = row; kind = kind; fixes = fixes }
+abbrev giving : List ℕ → RowKind → Option RowFixes → Giving
+giving row kind gives = record { row = row; kind = kind; gives = gives }
 
 -- ---- one row
 
 pub passed_giving : (found : Finding) (files : List ℕ → Option Source) (row : List ℕ) → begins_object row ≡ false
-    → IsGiving found (giving row Passed [])
+    → IsGiving found (giving row Passed None)
 passed_giving found files row not =
     (files, (λ d utf8 begins is. (let no : false ≡ true = sym not ∙ begins in cc)), (not, refl))
 
 pub unread_giving : (found : Finding) (files : List ℕ → Option Source) (row : List ℕ) → begins_object row ≡ true
-    → (IsUtf8 row → read row ≡ None) → IsGiving found (giving row Unread [])
+    → (IsUtf8 row → read row ≡ None) → IsGiving found (giving row Unread None)
 unread_giving found files row begins none = (
   files,
   (λ d utf8 b is. (let no : None ≡ Some d = sym (none utf8) ∙ is in cc)),
@@ -61,23 +61,23 @@ module _ (found : Finding) (files : List ℕ → Option Source) (row : List ℕ)
       some_same : (a b : Data) → Some a ≡ Some b → a ≡ b
       some_same a b e = cc
 
-  pub none_giving : value_fixes files d ≡ None → IsGiving found (giving row Unread [])
+  pub none_giving : value_fixes files d ≡ None → IsGiving found (giving row Unread None)
   none_giving none = (files, (λ e u b there. same e there), (begins, (λ u. says ∙ none), refl))
 
-  pub some_giving : (fixes : List FileFixes) → value_fixes files d ≡ Some fixes
-      → IsGiving found (giving row (Messages false) fixes)
-  some_giving fixes some = (files, (λ e u b there. same e there), (begins, utf8, says ∙ some, refl))
+  pub some_giving : (gives : Option RowFixes) (grave : Bool) → value_fixes files d ≡ Some gives
+      → grave ≡ are_grave gives → IsGiving found (giving row (Messages grave) gives)
+  some_giving gives grave some is = (files, (λ e u b there. same e there), (begins, utf8, says ∙ some, is))
 
 pub giving_before : {F : Type 0} (find : F → List ℕ → Option Source) (knows : F → List ℕ → Type 0) (first second : F)
-    (slice row : List ℕ) (kind : RowKind) (fixes : List FileFixes)
+    (slice row : List ℕ) (kind : RowKind) (gives : Option RowFixes)
     → Goes (find first) (knows first) (find second) (knows second) → slice ≡ row
-    → IsGiving (IsFoundBy find knows second) (giving slice kind fixes)
-    → IsGiving (IsFoundBy find knows first) (giving row kind fixes)
-giving_before find knows first second slice row kind fixes goes same (files, named, gives) =
-    subst (λ (r : List ℕ). IsGiving (IsFoundBy find knows first) (giving r kind fixes)) same (
+    → IsGiving (IsFoundBy find knows second) (giving slice kind gives)
+    → IsGiving (IsFoundBy find knows first) (giving row kind gives)
+giving_before find knows first second slice row kind gives goes same (files, named, is_row) =
+    subst (λ (r : List ℕ). IsGiving (IsFoundBy find knows first) (giving r kind gives)) same (
       files,
       (λ d utf8 begins is. found_before find knows first second files (all_names d) goes (named d utf8 begins is)),
-      gives,
+      is_row,
     )
 
 -- ---- all parts
@@ -87,6 +87,9 @@ row_of s = s.row
 
 abbrev is_unread : Giving → Bool
 is_unread s = kind_unread s.kind
+
+abbrev is_grave : Giving → Bool
+is_grave s = kind_grave s.kind
 
 -- how many rows end in these
 abbrev ends_before : List Giving → ℕ
@@ -116,17 +119,8 @@ or_false false = refl
 abbrev verdict_by : Bool → Bool → Verdict
 verdict_by unread error = record { unread = unread; error = error }
 
--- no row that gives fixes is an error
-never_grave : (found : Finding) (s : Giving) → IsGiving found s → kind_grave s.kind ≡ false
-never_grave found s h = by s.kind h.2
-  where
-    by : (kind : RowKind) → IsRowFixes h.0 s.row kind s.fixes → kind_grave kind ≡ false
-    by Passed e = refl
-    by Unread e = refl
-    by (Messages grave) e = e.3
-
 -- These parts gave fixes, which are added; what is left is left, and the writer took their notes.
-pub record Passing (adds : List FileFixes → Type 0) (found : Finding)
+pub record Passing (adds : List RowFixes → Type 0) (found : Finding)
     (first left before after : Option (List ℕ)) (number : ℕ) (verdict : Verdict) : Type 0 where
   pub all : List Giving
   pub rows : PartsLeft first left (map row_of all)
@@ -134,10 +128,10 @@ pub record Passing (adds : List FileFixes → Type 0) (found : Finding)
   pub added : adds (given all)
   pub notes : Appends before after (unread_notes 1 all)
   pub count : number ≡ ends_before all + 1
-  pub is : verdict ≡ record { unread = list_any is_unread all; error = false }
+  pub is : verdict ≡ verdict_of all
 
 module _ (found : Finding) where
-  pub begin : (adds : List FileFixes → Type 0) (first before : Option (List ℕ)) (number : ℕ) (verdict : Verdict)
+  pub begin : (adds : List RowFixes → Type 0) (first before : Option (List ℕ)) (number : ℕ) (verdict : Verdict)
       → number ≡ 1 → verdict ≡ record { unread = false; error = false } → adds []
       → Passing adds found first first before before number verdict
   begin adds first before number verdict one none nothing = record {
@@ -150,27 +144,28 @@ module _ (found : Finding) where
     is = none;
   }
 
-  pub more : (adds adds_then : List FileFixes → Type 0) (first left next before after later : Option (List ℕ))
-      (number : ℕ) (verdict made : Verdict) (row : List ℕ) (kind : RowKind) (fixes : List FileFixes) (following : ℕ)
+  pub more : (adds adds_then : List RowFixes → Type 0) (first left next before after later : Option (List ℕ))
+      (number : ℕ) (verdict made : Verdict) (row : List ℕ) (kind : RowKind) (gives : Option RowFixes) (following : ℕ)
       → 0 < length row → Passing adds found first left before after number verdict → IsNextPart left next row
-      → IsGiving found (giving row kind fixes)
-      → ((all : List FileFixes) → adds all → adds_then (all ++ fixes))
+      → IsGiving found (giving row kind gives)
+      → ((all : List RowFixes) → adds all → adds_then (all ++ option_to_list gives))
       → Appends after later (note_of number (kind_unread kind))
       → made ≡ record { unread = verdict.unread || kind_unread kind; error = verdict.error || kind_grave kind }
       → following ≡ number + ends_in row → Passing adds_then found first next before later following made
-  more adds adds_then first left next before after later number verdict made row kind fixes following some p is_next
+  more adds adds_then first left next before after later number verdict made row kind gives following some p is_next
       is_giving add said with_it count_is =
-      let s = giving row kind fixes in
-      let was : verdict ≡ record { unread = list_any is_unread p.all; error = false } = p.is in
+      let s = giving row kind gives in
+      let was : verdict ≡ verdict_of p.all = p.is in
       let counted : number ≡ ends_before p.all + 1 = p.count in
-      let calm : kind_grave kind ≡ false = never_grave found s is_giving in
       let unread : (verdict.unread || kind_unread kind) ≡ list_any is_unread (p.all ++ s ∷ []) =
       ap (λ (v : Verdict). v.unread || kind_unread kind) was
       ∙ sym (list_any-append is_unread p.all (s ∷ [])
       ∙ ap (λ c. list_any is_unread p.all || c) (or_false (kind_unread kind)))
       in
-      let error : (verdict.error || kind_grave kind) ≡ false =
-      ap (λ (v : Verdict). v.error || kind_grave kind) was ∙ calm
+      let error : (verdict.error || kind_grave kind) ≡ list_any is_grave (p.all ++ s ∷ []) =
+      ap (λ (v : Verdict). v.error || kind_grave kind) was
+      ∙ sym (list_any-append is_grave p.all (s ∷ [])
+      ∙ ap (λ c. list_any is_grave p.all || c) (or_false (kind_grave kind)))
       in
       record {
         all = p.all ++ s ∷ [];
@@ -179,8 +174,8 @@ module _ (found : Finding) where
         each = All-append (IsGiving found) p.all (s ∷ []) p.each
             (All-cons (IsGiving found) s [] is_giving (All-nil (IsGiving found)));
         added = subst adds_then
-            (sym (flat_map-append (λ (x : Giving). x.fixes) p.all (s ∷ [])
-            ∙ ap (λ l. given p.all ++ l) (append-nil fixes)))
+            (sym (flat_map-append (λ (x : Giving). option_to_list x.gives) p.all (s ∷ [])
+            ∙ ap (λ l. given p.all ++ l) (append-nil (option_to_list gives))))
             (add (given p.all) p.added);
         notes = subst (Appends before later) (sym (notes_more 1 p.all s number counted))
             (Appends-trans before after later (unread_notes 1 p.all) (note_of number (kind_unread kind)) p.notes said);
@@ -188,15 +183,15 @@ module _ (found : Finding) where
         is = with_it ∙ ap₂ (λ (a b : Bool). verdict_by a b) unread error;
       }
 
-  pub end : (adds : List FileFixes → Type 0) (first left next before after : Option (List ℕ)) (number : ℕ)
+  pub end : (adds : List RowFixes → Type 0) (first left next before after : Option (List ℕ)) (number : ℕ)
       (verdict : Verdict) (row : List ℕ) → row ≡ [] → Passing adds found first left before after number verdict
       → IsNextPart left next row
-      → IfSome first (λ bytes. Gives found bytes (λ all notes. adds all × Appends before after notes) verdict)
+      → IfSome first (λ bytes. Gives found bytes (λ rows notes. adds rows × Appends before after notes) verdict)
   end adds first left next before after number verdict row none p is_next =
       ended first (parts_end first left next (map row_of p.all) row none p.rows is_next)
     where
       ended : (o : Option (List ℕ)) → IfSome o (λ bytes. map row_of p.all ≡ parts_of bytes)
-          → IfSome o (λ bytes. Gives found bytes (λ all notes. adds all × Appends before after notes) verdict)
+          → IfSome o (λ bytes. Gives found bytes (λ rows notes. adds rows × Appends before after notes) verdict)
       ended None e = tt
       ended (Some bytes) e = (p.all, e, p.each, (p.added, p.notes), p.is)
 
@@ -209,7 +204,7 @@ module _ (found : Finding) where
   so_far (Some bytes) all holds rows each h = (all, rows.0, rows.1, each, h)
 
   -- the notes on the rows before this one
-  pub begun : (adds : List FileFixes → Type 0) (first left before after : Option (List ℕ)) (number : ℕ)
+  pub begun : (adds : List RowFixes → Type 0) (first left before after : Option (List ℕ)) (number : ℕ)
       (verdict : Verdict) → Passing adds found first left before after number verdict
       → IfSome first (λ bytes. GivesFirst found bytes (TakesBeginning before after))
   begun adds first left before after number verdict p =
@@ -217,13 +212,13 @@ module _ (found : Finding) where
       (all_taken before after (unread_notes 1 p.all) p.notes)
 
   -- and a beginning of that on this one
-  pub begun_with : (adds : List FileFixes → Type 0) (first left next before after later : Option (List ℕ)) (number : ℕ)
-      (verdict : Verdict) (row : List ℕ) (kind : RowKind) (fixes : List FileFixes) → 0 < length row
+  pub begun_with : (adds : List RowFixes → Type 0) (first left next before after later : Option (List ℕ)) (number : ℕ)
+      (verdict : Verdict) (row : List ℕ) (kind : RowKind) (gives : Option RowFixes) → 0 < length row
       → Passing adds found first left before after number verdict → IsNextPart left next row
-      → IsGiving found (giving row kind fixes) → TakesBeginning after later (note_of number (kind_unread kind))
+      → IsGiving found (giving row kind gives) → TakesBeginning after later (note_of number (kind_unread kind))
       → IfSome first (λ bytes. GivesFirst found bytes (TakesBeginning before later))
-  begun_with adds first left next before after later number verdict row kind fixes some p is_next is_giving said =
-      let s = giving row kind fixes in
+  begun_with adds first left next before after later number verdict row kind gives some p is_next is_giving said =
+      let s = giving row kind gives in
       so_far first (p.all ++ s ∷ []) (TakesBeginning before later)
       (first_parts first next (map row_of (p.all ++ s ∷ []))
       (subst (PartsLeft first next) (sym (map-append row_of p.all (s ∷ [])))

@@ -1,79 +1,79 @@
 //! The files of a folder, each read once.
 
-ghost use Rattle.std.specs.Prelude.{◌≡◌, IfOk, string_bytes};
+ghost use Rattle.std.specs.Prelude.{◌≡◌};
 ghost use Rattle.std.specs.HashMap.{IsEmpty};
 ghost use Rattle.std.specs.Option.{option_copied};
-ghost use Rattle.miette_tool_rows.specs.rules.Looking.{path_in};
 
 use crate::loader::Loader;
+use crate::lookup::{Lookup, bytes_at, path_in};
+use crate::visible::visible;
 use miette_protocol::source::{IndexedSource, NamedSource};
 use miette_readers::files::{Files, LentFile, SourceFile};
 use std::alloc::{AllocError, Global};
 use std::collections::HashMap;
-use std::io::ErrorKind;
-use std::{fs, rt};
+use std::rt;
 
 /// The files below a folder, by the names that rows give them. Each is read once, when it is first looked for.
 #[derive(Drop)]
 pub struct Folder<'r, H> {
     host: &'r H,
-    root: Option<&'r str>,
+    lookup: Lookup<'r, H>,
+    visible: bool,
     files: HashMap<String, Option<SourceFile>>,
 }
 
-/// Where the file of this name lies: below the folder, unless its name begins with `/`.
-pub(crate) fn path_in(alloc: Global, root: Option<&str>, name: &str) -> Result<String, AllocError>
-    ensures { IfOk result (λ path. string_bytes path ≡ path_in (option_copied root.entry) name.now) }
-{
-    let mut path = String::new(alloc);
-    if let Some(root) = root {
-        if !name.starts_with("/") {
-            path.push_str(root)?;
-            path.push_str("/")?;
-        }
-    }
-    path.push_str(name)?;
-    Ok(path)
-}
-
-/// The bytes of a file, where it is one and can be read.
-pub(crate) fn bytes_at<H: rt::Files + AllocGlobal>(
-    host: &H,
-    path: &str,
-) -> Result<Option<Vec<u8>>, AllocError> {
-    match fs::metadata(host, path) {
-        Ok(found) if found.is_file() => {}
-        _ => return Ok(None),
-    }
-    match fs::read(host, path) {
-        Ok(bytes) => Ok(Some(bytes)),
-        Err(error) if error.kind() == ErrorKind::OutOfMemory => Err(AllocError),
-        Err(_) => Ok(None),
-    }
-}
-
 impl<'r, H: rt::Files + AllocGlobal> Folder<'r, H> {
-    /// Of no file yet: below this folder, else where names are looked for as they are.
+    /// Of no file yet: below this folder; where there is none, below the one that the program runs in, and then below
+    /// cargo's root above that.
     pub fn new(host: &'r H, root: Option<&'r str>) -> Folder<'r, H>
         ensures empty { IsEmpty result.files }
-        ensures root { option_copied result.root ≡ option_copied root.entry }
+        ensures root { option_copied result.lookup.root ≡ option_copied root.entry }
     {
         Folder {
             host,
-            root,
+            lookup: Lookup::new(host, root),
+            visible: false,
             files: HashMap::new(host.alloc()),
         }
     }
 
-    /// A file, where it can be read.
-    fn read(&self, alloc: Global, name: &str) -> Result<Option<SourceFile>, AllocError> {
-        let path = path_in(alloc, self.root, name)?;
-        let Some(bytes) = bytes_at(self.host, path.as_str())? else {
-            return Ok(None);
-        };
-        let file = NamedSource::new(alloc, name, IndexedSource::new(alloc, bytes)?)?;
-        Ok(Some(file))
+    /// The same, of which a sign stands for each control character of the files that are read from here on (`visible`):
+    /// so no file says what a terminal does.
+    pub fn with_visible_controls(self) -> Folder<'r, H>
+        ensures files { result.files ≡ self.entry.files }
+        ensures root { option_copied result.lookup.root ≡ option_copied self.entry.lookup.root }
+    {
+        Folder {
+            visible: true,
+            ..self
+        }
     }
+}
+
+/// The bytes of a file as they are drawn: where a sign stands for each control character, or as they are.
+fn shown(alloc: Global, bytes: Vec<u8>, is_visible: bool) -> Result<Vec<u8>, AllocError> {
+    if is_visible {
+        visible(alloc, bytes.as_slice())
+    } else {
+        Ok(bytes)
+    }
+}
+
+/// A file, where it can be read.
+fn read_file<H: rt::Files>(
+    lookup: &mut Lookup<'_, H>,
+    host: &H,
+    alloc: Global,
+    name: &str,
+    is_visible: bool,
+) -> Result<Option<SourceFile>, AllocError> {
+    let path = path_in(alloc, lookup.folder_of(alloc, name)?, name)?;
+    let Some(bytes) = bytes_at(alloc, host, path.as_str())? else {
+        return Ok(None);
+    };
+    let bytes = shown(alloc, bytes, is_visible)?;
+    let file = NamedSource::new(alloc, name, IndexedSource::new(alloc, bytes)?)?;
+    Ok(Some(file))
 }
 
 impl<'r, H: rt::Files + AllocGlobal> Files for Folder<'r, H> {
@@ -101,7 +101,7 @@ impl<'r, H: rt::Files + AllocGlobal> Loader for Folder<'r, H> {
             return Ok(());
         }
         let key = String::from_str(alloc, name)?;
-        let file = self.read(alloc, name)?;
+        let file = read_file(&mut self.lookup, self.host, alloc, name, self.visible)?;
         self.files.insert(key, file)?;
         Ok(())
     }

@@ -4,7 +4,9 @@
 
 pub mod folder;
 pub mod folder_store;
+mod left;
 pub mod loader;
+mod lookup;
 pub mod mend;
 pub mod parts;
 mod rewrite;
@@ -13,3 +15,4 @@ pub mod store;
 pub mod streams;
 pub mod value;
 pub mod verdict;
+pub mod visible;

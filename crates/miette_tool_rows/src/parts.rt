@@ -2,8 +2,9 @@
 
 ghost use Rattle.std.specs.Prelude.{◌≡◌, ◌≤◌, ◌&&◌, length};
 ghost use Rattle.miette_tool_rows.specs.rules.Parts.{after_bytes, begins_alone, begins_value, beside_text, closed};
-ghost use Rattle.miette_tool_rows.specs.rules.Parts.{ends_in, in_text, is_inner, is_open, with_byte};
-ghost use Rattle.miette_tool_rows.specs.rules.Rows.{begins_with, is_closing, is_mark, is_opening, is_space, leads_in};
+ghost use Rattle.miette_tool_rows.specs.rules.Parts.{ends_in, in_text, is_inner, is_open, opens_value, with_byte};
+ghost use Rattle.miette_tool_rows.specs.rules.Rows.{begins_with, is_closing, is_mark, is_opening, is_space, is_wide};
+ghost use Rattle.miette_tool_rows.specs.rules.Rows.{leads_in, unmarked};
 
 /// What is open after some bytes of JSON.
 #[derive(Clone, Copy)]
@@ -154,24 +155,50 @@ pub(crate) fn begins_with(bracket: u8, part: &[u8]) -> bool
     }
 }
 
-/// Whether a part begins with a bracket, after which a quote, a bracket, white space or the row's end stands.
-pub(crate) fn begins_value(part: &[u8]) -> bool
-    ensures { result ≡ begins_value part.now }
+/// What stands after a byte order mark of UTF-8, where it is in front.
+pub(crate) fn unmarked(part: &[u8]) -> &[u8]
+    ensures { result.now ≡ unmarked part.now }
 {
-    match part {
+    if part.starts_with(b"\xEF\xBB\xBF") {
+        &part[3..]
+    } else {
+        part
+    }
+}
+
+/// Whether a byte order mark of UTF-16 is in front.
+pub(crate) fn is_wide(part: &[u8]) -> bool
+    ensures { result ≡ is_wide part.now }
+{
+    part.starts_with(b"\xFF\xFE") || part.starts_with(b"\xFE\xFF")
+}
+
+/// Whether a bracket is in front, after which a quote, a bracket, white space or the row's end stands.
+fn opens_value(bytes: &[u8]) -> bool
+    ensures { result ≡ opens_value bytes.now }
+{
+    match bytes {
         [first, second, ..] => is_opening(*first) && (is_mark(*second) || is_space(*second)),
         _ => false,
     }
+}
+
+/// Whether a part begins so, after a byte order mark where there is one.
+pub(crate) fn begins_value(part: &[u8]) -> bool
+    ensures { result ≡ begins_value part.now }
+{
+    opens_value(unmarked(part))
 }
 
 /// Whether the first row is a bracket alone.
 pub(crate) fn begins_alone(part: &[u8]) -> bool
     ensures { result ≡ begins_alone part.now }
 {
-    part.starts_with(b"{\n")
-        || part.starts_with(b"{\r\n")
-        || part.starts_with(b"[\n")
-        || part.starts_with(b"[\r\n")
+    let bytes = unmarked(part);
+    bytes.starts_with(b"{\n")
+        || bytes.starts_with(b"{\r\n")
+        || bytes.starts_with(b"[\n")
+        || bytes.starts_with(b"[\r\n")
 }
 
 /// Whether a row begins as those within a value do.

@@ -6,17 +6,21 @@ ghost use Rattle.std.specs.List.{count_by, flat_map, list_all};
 ghost use Rattle.std.specs.Option.{option_map};
 ghost use Rattle.std.specs.Io.KnownBytes.{Appends};
 ghost use Rattle.miette_devices.specs.views.Device.{TakesBeginning};
+ghost use Rattle.miette_mending.specs.views.Counted.{left_in};
 ghost use Rattle.miette_mending.specs.views.Holding.{fixes_at};
 ghost use Rattle.miette_tool_rows.specs.rules.Looking.{begins_up, goes_up, leads_out};
-ghost use Rattle.miette_tool_rows.specs.rules.Mends.{Changes, ChangesFirst, IsOutcome, done_row, fault_as, fault_of};
-ghost use Rattle.miette_tool_rows.specs.rules.Mends.{fault_row, is_done, said_as, said_of, written_as, written_of};
+ghost use Rattle.miette_tool_rows.specs.rules.Mends.{Changes, ChangesFirst, IsOutcome, are_done, done_row, fault_as};
+ghost use Rattle.miette_tool_rows.specs.rules.Mends.{fault_of, fault_row, faults_of, is_done, said_as, said_of};
+ghost use Rattle.miette_tool_rows.specs.rules.Mends.{written_as, written_of};
 ghost use Rattle.miette_tool_rows.specs.views.Writing.{Writes};
 
+use crate::left::tell_left;
 use crate::store::Store;
 use crate::streams::Streams;
 use miette_devices::fault::Fault;
 use miette_devices::whole::write_whole;
 use miette_mending::gathered::{Gathered, mended};
+use miette_mending::packages::Counted;
 use miette_readers::files::Files;
 use std::alloc::{AllocError, Global};
 use std::io::Write;
@@ -153,7 +157,7 @@ fn both(one: bool, other: bool) -> bool
 }
 
 /// Writes all files that have fixes; whether all could be written.
-pub(crate) fn mend_files<F: Files, S: Store, R, W: Write, E: Write>(
+fn mend_files<F: Files, S: Store, R, W: Write, E: Write>(
     alloc: Global,
     files: &F,
     store: &mut S,
@@ -189,4 +193,39 @@ pub(crate) fn mend_files<F: Files, S: Store, R, W: Write, E: Write>(
         all = both(all, done);
     }
     Ok(all)
+}
+
+/// Says what is left, and writes all files that have fixes; whether nothing of a file is left, and all could be
+/// written.
+pub(crate) fn mend_counted<F: Files, S: Store, R, W: Write, E: Write>(
+    alloc: Global,
+    files: &F,
+    store: &mut S,
+    counted: &Counted,
+    streams: &mut Streams<R, W, E>,
+) -> Result<bool, Fault>
+    requires writer_sound { streams.old.writer.failed ≡ false }
+    requires faults_sound { streams.old.faults.failed ≡ false }
+    ensures ok { IfOk result (λ all. Changes (F.found files.now) S.refuses (fixes_at counted.now.fixes.fixes)
+        (map string_bytes counted.now.fixes.names.items) (λ changes. (all ≡ are_done changes (left_in counted.now))
+        × Writes (S.written store.old) (S.written store.new) (flat_map written_of changes)
+        × Appends (W.contents streams.old.writer.inner) (W.contents streams.new.writer.inner) (flat_map said_of changes)
+        × Appends (E.contents streams.old.faults.inner) (E.contents streams.new.faults.inner)
+        (faults_of changes (left_in counted.now)))) }
+    // After an error the first of them were written and said, the last perhaps said in part.
+    ensures first { OnErr result (ChangesFirst (F.found files.now) S.refuses (fixes_at counted.now.fixes.fixes)
+        (map string_bytes counted.now.fixes.names.items) (λ changes.
+        Writes (S.written store.old) (S.written store.new) (flat_map written_of changes)
+        × TakesBeginning (W.contents streams.old.writer.inner) (W.contents streams.new.writer.inner)
+        (flat_map said_of changes)
+        × TakesBeginning (E.contents streams.old.faults.inner) (E.contents streams.new.faults.inner)
+        (faults_of changes (left_in counted.now)))) }
+    ensures rows { streams.new.rows ≡ streams.old.rows }
+    ensures write_failed { (IsTrue streams.new.writer.failed ⊎ IsTrue streams.new.faults.failed)
+        ↔ (result ≡ Err Fault.Write) }
+    ensures others { OnErr result ((result ≡ Err Fault.Memory) ⊎ (result ≡ Err Fault.Write)) }
+{
+    tell_left(alloc, counted, &mut streams.faults)?;
+    let all = mend_files(alloc, files, store, &counted.fixes, streams)?;
+    Ok(both(all, counted.files.as_slice().is_empty()))
 }

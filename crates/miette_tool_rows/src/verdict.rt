@@ -1,8 +1,17 @@
 //! What rows are, and what is told of all of them.
 
 ghost use Rattle.std.specs.Prelude.{◌≡◌, ◌||◌, false};
-ghost use Rattle.miette_tool_rows.specs.rules.Notes.{kind_grave, kind_unread};
+ghost use Rattle.miette_tool_rows.specs.rules.Notes.{kind_grave, kind_read, kind_unread};
 ghost use Rattle.miette_tool_rows.specs.rules.Statuses.{status_of};
+
+/// What failed, as a row says.
+#[derive(Clone, Copy, Debug, PartialEq, Eq)]
+pub enum Failure {
+    /// The build, of which cargo says so at its end.
+    Build,
+    /// The tool, of which its log says so.
+    Tool,
+}
 
 /// What a row is.
 #[derive(Clone, Copy, Debug, PartialEq, Eq)]
@@ -13,6 +22,8 @@ pub enum RowKind {
     Unread,
     /// It has messages, of rustc or cargo one or none, and whether one of them is an error.
     Messages(bool),
+    /// It says what failed, which counts as an error; it may have messages too.
+    Failed(Failure),
 }
 
 impl RowKind {
@@ -22,7 +33,7 @@ impl RowKind {
     {
         match self {
             RowKind::Unread => true,
-            RowKind::Passed | RowKind::Messages(_) => false,
+            RowKind::Passed | RowKind::Messages(_) | RowKind::Failed(_) => false,
         }
     }
 
@@ -32,6 +43,17 @@ impl RowKind {
     {
         match self {
             RowKind::Messages(error) => error,
+            RowKind::Failed(_) => true,
+            RowKind::Passed | RowKind::Unread => false,
+        }
+    }
+
+    /// Whether it is a value of the format that is read.
+    pub fn is_read(self) -> bool
+        ensures { result ≡ kind_read self }
+    {
+        match self {
+            RowKind::Messages(_) | RowKind::Failed(_) => true,
             RowKind::Passed | RowKind::Unread => false,
         }
     }
@@ -40,7 +62,7 @@ impl RowKind {
 /// What is told of all rows.
 #[derive(Clone, Copy, Debug, PartialEq, Eq)]
 pub struct Verdict {
-    /// Whether there is a row that can't be read.
+    /// Whether there is a row that can't be read, or a value is missing that the tool always writes.
     pub unread: bool,
     /// Whether an error is among the messages.
     pub error: bool,
@@ -64,6 +86,16 @@ impl Verdict {
         Verdict {
             unread: self.unread || kind.is_unread(),
             error: self.error || kind.is_error(),
+        }
+    }
+
+    /// With whether a value is missing that the tool always writes.
+    pub fn with_missing(self, missing: bool) -> Verdict
+        ensures { result ≡ record { unread = self.unread || missing; error = self.error } }
+    {
+        Verdict {
+            unread: self.unread || missing,
+            error: self.error,
         }
     }
 

@@ -1,5 +1,5 @@
-//! The report of the first chapter of docs/GUIDE.md, by the calls that it shows. The same report by `job`, drawn and
-//! narrated, stands first in `cases/gallery.jsonl`.
+//! The report that docs/GUIDE.md tests, by the calls that it shows. The same report by `job`, drawn and narrated, is
+//! the first one in `cases/gallery.jsonl`.
 
 use crate::renderings::draws;
 use miette::diagnostic::MietteDiagnostic;

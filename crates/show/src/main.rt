@@ -34,9 +34,12 @@ fn main(rt: HostRuntime) -> ExitCode {
     ExitCode::from(match (asked.fix, Logging::asked(asked.options, "show")) {
         (true, _) => {
             let mut store = FolderStore::new(&rt, asked.root);
-            mend_with(rt.alloc(), &mut files, &mut store, streams)
+            mend_with(rt.alloc(), asked.broken, &mut files, &mut store, streams)
         }
         (false, Some(log)) => log_with(rt.alloc(), asked.from, log, &mut files, streams),
-        (false, None) => show_with(rt.alloc(), &on_terminal, &mut files, streams),
+        (false, None) => {
+            let mut drawn = files.with_visible_controls();
+            show_with(rt.alloc(), &on_terminal, &mut drawn, streams)
+        }
     })
 }

@@ -40,7 +40,7 @@ usage_of Draw = codes "NAME OFFSET LENGTH LABEL MESSAGE"
 usage_of Job = codes "[OPTIONS]"
 usage_of Bench = codes "N [OPTIONS]"
 usage_of Lint = codes "[--brief | --github | --fix | --diff | --sarif [--tool TOOL]] NAME WIDTH | --lsp WIDTH"
-usage_of Show = codes "[--from auto|rustc|gcc|sarif|shellcheck] [--root DIR] [--fix | OPTIONS]"
+usage_of Show = codes "[--from auto|rustc|gcc|sarif|shellcheck] [--root DIR] [--fix [--broken-code] | OPTIONS]"
 
 -- what a fault is called, where it is none of the words
 abbrev pub reason_of : Fault → Option (List ℕ)

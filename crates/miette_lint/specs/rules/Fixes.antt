@@ -5,7 +5,7 @@ use Rattle.std.specs.Prelude.{length, slice_range, take, take_while}
 use Rattle.miette_source_lines.specs.rules.Lines.{Line, LF, is_terminated, lines_of}
 use Rattle.miette_protocol.specs.views.Meaning.{Label}
 use Rattle.miette_fixes.specs.declared.applicability.Applicability.TheVariants.{MachineApplicable}
-use Rattle.miette_fixes.specs.rules.Edits.{Proposal, Replacement}
+use Rattle.miette_fixes.specs.rules.Edits.{Proposal}
 use Rattle.miette_lint.specs.rules.Findings.{cells_of, ending_blanks, is_blank, overlong, tab_after_space}
 
 -- ---- the text

@@ -92,7 +92,7 @@ LintFixes name width input clean holds =
 abbrev pub IsDiffed : List ℕ → ℕ → List ℕ → List Label → List ℕ → Type 0
 IsDiffed name width input [] text = text ≡ []
 IsDiffed name width input (l ∷ ls) text = IsPicture (Some width)
-    (with_fix (joint_proposal input (length (l ∷ ls))) (over_input name (warning (l ∷ ls)) input)) text
+    (with_fix (joint_proposal input width) (over_input name (warning (l ∷ ls)) input)) text
 
 -- A fact of that picture, with whether nothing is found in the input.
 abbrev pub LintDiffs : List ℕ → ℕ → List ℕ → Bool → (List ℕ → Type 0) → Type 0

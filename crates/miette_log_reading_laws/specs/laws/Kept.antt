@@ -1,7 +1,7 @@
 -- What is kept of a finding where its log is read over files: the report that it is then.
 use Rattle.std.specs.Prelude.{ℕ, ◌+◌, List, [], ◌∷◌, ◌++◌, Option, Some, None, Bool, true, false, codes, map}
-use Rattle.std.specs.Prelude.{if◌then◌else◌, option_map}
-use Rattle.std.specs.List.{list_any}
+use Rattle.std.specs.Prelude.{if◌then◌else◌, is_none, option_map}
+use Rattle.std.specs.List.{filter_map, list_any}
 use Rattle.std.specs.Str.{bytes_eq}
 use Rattle.indexmap.specs.IndexSet.{insert_key}
 use Rattle.miette_basics.specs.rules.Lists.{is_nil}
@@ -10,16 +10,16 @@ use Rattle.miette_positions.specs.declared.place.Stretch.{Stretch}
 use Rattle.miette_protocol.specs.rules.Reading.{Source}
 use Rattle.miette_readers.specs.rules.Members.{said}
 use Rattle.miette_readers.specs.rules.Places as places
-use Rattle.miette_readers.specs.rules.Reports.{Said, report_tree}
+use Rattle.miette_readers.specs.rules.Reports.{Said}
 use Rattle.miette_readers.specs.rules.Rustc.{maybe_row}
-use Rattle.miette_readers.specs.rules.Settling.{settled}
 use Rattle.miette_sarif.specs.rules.Artifacts.{Artifacts, all_named, artifacts_in, uri_of}
 use Rattle.miette_sarif.specs.rules.Codes.{Rules, help_uri, is_uri_of_rule, rules_in}
 use Rattle.miette_sarif.specs.rules.Findings.{Area, Finding, Mark, Place, Proposed, Replaced, SourceName}
 use Rattle.miette_sarif.specs.rules.Results.{fix_value}
-use Rattle.miette_sarif_reader.specs.rules.Proposals.{Draft, draft_by, help_of, offers_of}
-use Rattle.miette_sarif_reader.specs.rules.Results.{file_row, row_alone, severity_by}
+use Rattle.miette_sarif_reader.specs.rules.Proposals.{Draft, draft_by, help_of}
+use Rattle.miette_sarif_reader.specs.rules.Results.{row_alone, severity_by, whole_row}
 use Rattle.miette_sarif_reader.specs.rules.Uris.{name_of}
+use Rattle.miette_sarif_reader.specs.rules.Wholes.{Telling, telling_tree}
 use Rattle.miette_tree.specs.rules.Tree.{Tree}
 use Rattle.miette_log_reading_laws.specs.laws.Links.{without_links}
 use Rattle.miette_log_reading_laws.specs.laws.RegionsBack.{offsets_of}
@@ -83,10 +83,10 @@ place_kept files name s = record {
   column = s.start.position.column + 1;
 }
 
--- a text at the stretch of its file; where there is none, the name of the file and the text
+-- a text at the stretch of its file; where there is none, the name of the file in front of the text
 abbrev pub told_over : (List ℕ → Option Source) → Artifacts → Bool → Option (List ℕ) → SourceName → Option Area
     → places.Told
-told_over files a own text s None = row_alone (Some (file_row (file_name a s) text)) own
+told_over files a own text s None = row_alone (whole_row (file_name a s) text) own
 told_over files a own text s (Some area) = record {
   rows = maybe_row text;
   place = Some (place_kept files (file_name a s) area.stretch);
@@ -109,6 +109,28 @@ primary_kept files a (Some m) = mark_kept files a true m ∷ []
 -- the primary mark, and the others
 abbrev pub told_kept : (List ℕ → Option Source) → Artifacts → Finding → List places.Told
 told_kept files a f = primary_kept files a f.primary ++ map (mark_kept files a false) f.marks
+
+-- ---- files as a whole
+
+-- the name of the file of a place that has no stretch
+abbrev pub whole_kept : Artifacts → Option Place → Option (List ℕ)
+whole_kept a None = None
+whole_kept a (Some p) = if is_none p.area then Some (file_name a p.source) else None
+
+-- of a mark without a text
+abbrev pub bare_kept : Artifacts → Mark → Option (List ℕ)
+bare_kept a m = if is_none (words m.text) then whole_kept a m.place else None
+
+abbrev pub mark_alone : Option Mark → List Mark
+mark_alone None = []
+mark_alone (Some m) = m ∷ []
+
+abbrev pub telling_kept : (List ℕ → Option Source) → Artifacts → Finding → Telling
+telling_kept files a f = record {
+  told = told_kept files a f;
+  wholes = filter_map (λ (m : Mark). whole_kept a m.place) (mark_alone f.primary);
+  bares = filter_map (bare_kept a) (mark_alone f.primary ++ f.marks);
+}
 
 -- ---- fixes
 
@@ -135,7 +157,7 @@ fixes_kept files a f = map (fix_kept files a) (first_fixes a [] f.fixes)
 
 abbrev pub report_with : (List ℕ → Option Source) → List Finding → Artifacts → List Draft → Finding → Tree
 report_with files fs a drafts f =
-    report_tree (said_kept fs (help_of files drafts) f) (settled files (told_kept files a f)) (offers_of files drafts)
+    telling_tree files (said_kept fs (help_of files drafts) f) (telling_kept files a f) drafts
 
 -- of one of the findings of a log
 abbrev pub report_kept : (List ℕ → Option Source) → List Finding → Finding → Tree

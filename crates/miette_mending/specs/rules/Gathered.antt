@@ -15,12 +15,16 @@ fixes_for name all = flat_map (fixes_if name) all
 abbrev pub has_name : List ℕ → List (List ℕ) → Bool
 has_name name names = list_any (λ other. bytes_eq other name) names
 
-abbrev pub with_name : List (List ℕ) → FileFixes → List (List ℕ)
-with_name names it = if has_name it.name names then names else names ++ it.name ∷ []
+abbrev pub with_name : List (List ℕ) → List ℕ → List (List ℕ)
+with_name names name = if has_name name names then names else names ++ name ∷ []
 
--- the names of the files, each once, in the order in which they come
+-- names, each once, in the order in which they come first
+abbrev pub each_once : List (List ℕ) → List (List ℕ)
+each_once names = fold with_name [] names
+
+-- the names of the files
 abbrev pub names_in : List FileFixes → List (List ℕ)
-names_in all = fold with_name [] all
+names_in all = each_once (map (λ it. it.name) all)
 
 -- The text of a file after all of these fixes that count.
 abbrev pub mended : List ℕ → List Proposal → List ℕ

@@ -1,17 +1,20 @@
 -- The proposals of a row of rustc that are applied without being asked about.
-use Rattle.std.specs.Prelude.{ℕ, List, [], Option, Some, None, Bool, if◌then◌else◌, map, codes}
-use Rattle.std.specs.Prelude.{option_and_then, option_map, is_some, length, ◌==◌}
+use Rattle.std.specs.Prelude.{ℕ, List, [], Option, Some, None, Bool, true, false, if◌then◌else◌, map, codes}
+use Rattle.std.specs.Prelude.{option_and_then, option_map, is_some, length, unwrap_or, ◌==◌}
 use Rattle.std.specs.List.{flat_map, list_all}
 use Rattle.serde_json.specs.Data.{Data}
 use Rattle.miette_fixes.specs.declared.applicability.Applicability.TheVariants.{MachineApplicable}
 use Rattle.miette_fixes.specs.rules.Edits.{Proposal, is_sure}
+use Rattle.miette_protocol.specs.declared.protocol.Severity.{Severity}
+use Rattle.miette_protocol.specs.declared.protocol.Severity.TheVariants.{Advice, Warning, Error}
 use Rattle.miette_protocol.specs.rules.Reading.{Source}
 use Rattle.miette_readers.specs.rules.Members.{objects_at, text_at}
 use Rattle.miette_readers.specs.rules.Proposing.{FileEdit, Offer, fixes_in}
 use Rattle.miette_readers.specs.rules.Reports.{others}
 use Rattle.miette_readers.specs.rules.Rustc.{edits_of}
-use Rattle.miette_readers.specs.rules.RustcReport.{held_in, is_other_reason, is_other_type, offer_of}
+use Rattle.miette_readers.specs.rules.RustcReport.{held_in, is_other_reason, is_other_type, offer_of, severity_of}
 use Rattle.miette_mending.specs.rules.Fresh.{is_fresh}
+use Rattle.miette_mending.specs.rules.Stale.{child_stale}
 
 -- ---- the diagnostic in a row
 
@@ -81,15 +84,38 @@ is_whole offer = list_all (is_one_fix offer) (others None offer.edits)
 abbrev pub agree : (List ℕ → Option Source) → List Data → Bool
 agree files cs = is_whole (joint files cs)
 
--- ---- the fixes of a row
-
 abbrev pub children_fixes : (List ℕ → Option Source) → List Data → List FileFixes
 children_fixes files cs = if agree files cs then flat_map (child_fixes files) cs else []
 
-abbrev pub message_fixes : (List ℕ → Option Source) → Option Data → List FileFixes
-message_fixes files None = []
-message_fixes files (Some m) = children_fixes files (objects_at (codes "children") m)
+-- ---- what a row gives
 
--- the fixes of a row; nothing of one that can't be read
-abbrev pub value_fixes : (List ℕ → Option Source) → Data → Option (List FileFixes)
-value_fixes files d = option_map (message_fixes files) (diagnostic_in d)
+-- its package, whether its message is an error, its fixes, and the names of files that aren't what was compiled
+pub record RowFixes : Type 0 where
+  pub package_id : List ℕ
+  pub grave : Bool
+  pub fixes : List FileFixes
+  pub stale : List (List ℕ)
+
+-- Cargo says which package a row is of; those of rustc alone say none, and are one package together.
+abbrev pub package_of : Data → List ℕ
+package_of d = unwrap_or (text_at (codes "package_id") d) []
+
+abbrev pub is_error : Severity → Bool
+is_error Error = true
+is_error Warning = false
+is_error Advice = false
+
+abbrev pub is_grave : Data → Bool
+is_grave m = is_error (severity_of m)
+
+abbrev pub message_fixes : (List ℕ → Option Source) → Data → Data → RowFixes
+message_fixes files d m = record {
+  package_id = package_of d;
+  grave = is_grave m;
+  fixes = children_fixes files (objects_at (codes "children") m);
+  stale = flat_map (child_stale files) (objects_at (codes "children") m);
+}
+
+-- what a row gives, where it has a diagnostic; nothing of one that can't be read
+abbrev pub value_fixes : (List ℕ → Option Source) → Data → Option (Option RowFixes)
+value_fixes files d = option_map (option_map (message_fixes files d)) (diagnostic_in d)

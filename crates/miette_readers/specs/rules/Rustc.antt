@@ -1,7 +1,9 @@
 -- What a message of rustc tells, as its JSON format (`--error-format=json`) says.
-use Rattle.std.specs.Prelude.{ℕ, zero, suc, List, [], ◌∷◌, ◌++◌, Option, Some, None, Bool, true, false, not, ◌&&◌, ◌||◌}
+use Rattle.std.specs.Prelude.{ℕ, zero, suc, ◌-◌, List, [], ◌∷◌, ◌++◌, Option, Some, None, Bool, true, false, not}
+use Rattle.std.specs.Prelude.{◌&&◌, ◌||◌, ◌==◌, length, take}
 use Rattle.std.specs.Prelude.{if◌then◌else◌, option_and_then, option_map, is_some, unwrap_or, map, filter, bytes_eq}
 use Rattle.std.specs.List.{ends_with, filter_map, flat_map, starts_with}
+use Rattle.std.specs.Option.{option_or}
 use Rattle.std.specs.Prelude.{codes, nat_eq}
 use Rattle.serde_json.specs.Data.{Data}
 use Rattle.miette_protocol.specs.rules.Reading.{Source}
@@ -56,15 +58,76 @@ expansion_of d = object_at (codes "expansion") d
 abbrev pub call_of : Data → Option Data
 call_of d = option_and_then (object_at (codes "span")) (expansion_of d)
 
--- the first span whose file is there, of this one and those where its macros were called
-unfoldable pub standing_from : (List ℕ → Option Source) → ℕ → Data → Option Data
-standing_from files zero d = None
-standing_from files (suc n) d =
-    if is_some (files (file_name d)) then Some d else option_and_then (standing_from files n) (call_of d)
+-- the first span that fits, of this one and those where its macros were called
+unfoldable pub first_from : (Data → Bool) → ℕ → Data → Option Data
+first_from fits zero d = None
+first_from fits (suc n) d = if fits d then Some d else option_and_then (first_from fits n) (call_of d)
 
 -- No text of JSON that is read nests deeper than 127, so no more than 62 calls stand in one another.
-abbrev pub standing : (List ℕ → Option Source) → Data → Data
-standing files d = unwrap_or (standing_from files 64 d) d
+abbrev pub first_of : (Data → Bool) → Data → Option Data
+first_of fits d = first_from fits 64 d
+
+-- ---- where spans stand
+
+-- What was compiled: the files that are there, and the folder of its package, where that is known.
+pub record Build : Type 0 where
+  pub files : List ℕ → Option Source
+  pub folder : Option (List ℕ)
+
+-- what stands in front of an end
+abbrev pub before_end : List ℕ → List ℕ → Option (List ℕ)
+before_end end text = if ends_with nat_eq text end then Some (take (length text - length end) text) else None
+
+-- cargo tells the package of a row by its manifest
+abbrev pub package_of : Data → Option (List ℕ)
+package_of d = option_and_then (before_end (codes "/Cargo.toml")) (text_at (codes "manifest_path") d)
+
+abbrev pub build_of : (List ℕ → Option Source) → Data → Build
+build_of files d = record { files = files; folder = package_of d }
+
+abbrev pub ends_part : List ℕ → Bool
+ends_part [] = true
+ends_part (b ∷ bs) = ends_with nat_eq (b ∷ bs) (codes "/")
+
+-- A folder ends with these parts of a path, of which there is one at least.
+abbrev pub ends_in : List ℕ → List ℕ → Bool
+ends_in folder [] = false
+ends_in folder (b ∷ bs) =
+    ends_with nat_eq folder (b ∷ bs) && ends_part (take (length folder - length (b ∷ bs)) folder)
+
+-- it ends with the parts in front of one of the `/` of a name, of which these parts were passed
+abbrev pub lies_from : List ℕ → List ℕ → List ℕ → Bool
+lies_from folder passed [] = false
+lies_from folder passed (b ∷ bs) = ((b == 47) && ends_in folder passed) || lies_from folder (passed ++ b ∷ []) bs
+
+-- a file lies in a package whose folder ends with the first parts of its name
+abbrev pub lies_in : Option (List ℕ) → List ℕ → Bool
+lies_in None name = false
+lies_in (Some folder) name = lies_from folder [] name
+
+abbrev pub is_absolute : List ℕ → Bool
+is_absolute name = starts_with nat_eq name (codes "/")
+
+abbrev pub is_there : Build → Data → Bool
+is_there build d = is_some (build.files (file_name d))
+
+abbrev pub is_packaged : Build → Data → Bool
+is_packaged build d = lies_in build.folder (file_name d) && is_there build d
+
+-- rustc names the files of a workspace by where they stand in it, and others by their whole paths
+abbrev pub is_relative : Build → Data → Bool
+is_relative build d = not (is_absolute (file_name d)) && is_there build d
+
+-- The first span whose file is there and in the package; else the first whose file is there and of the workspace; else
+-- the first whose file is there; else the span itself.
+abbrev pub standing : Build → Data → Data
+standing build d =
+    unwrap_or (option_or (first_of (is_packaged build) d)
+    (option_or (first_of (is_relative build) d) (first_of (is_there build) d))) d
+
+-- it stands in another file, though its own is there
+abbrev pub is_moved : Build → Data → Bool
+is_moved build d = not (bytes_eq (file_name d) (file_name (standing build d))) && is_there build d
 
 unfoldable pub outermost_from : ℕ → Data → Data
 outermost_from zero e = e
@@ -100,40 +163,47 @@ holds_span outer inner =
 -- ---- what is told
 
 -- what a span tells, under these rows, where it stands
-abbrev pub span_told : (List ℕ → Option Source) → List (List ℕ) → Bool → Data → Told
-span_told files rows own d = record {
+abbrev pub span_told : Build → List (List ℕ) → Bool → Data → Told
+span_told build rows own d = record {
   rows = rows ++ label_rows d;
-  place = Some (place_of (standing files d));
+  place = Some (place_of (standing build d));
   primary = is_primary d;
   own = own;
 }
 
 -- one of the message's own spans
-abbrev pub own_told : (List ℕ → Option Source) → Data → Told
-own_told files d = span_told files [] true d
+abbrev pub own_told : Build → Data → Told
+own_told build d = span_told build [] true d
+
+abbrev pub place_told : Data → Told
+place_told d = record { rows = []; place = Some (place_of d); primary = false; own = false }
+
+-- its own place, without a text, of one that stands elsewhere
+abbrev pub moved_told : Build → Data → Option Told
+moved_told build d = if is_moved build d then Some (place_told d) else None
 
 abbrev pub call_told : List ℕ → Data → Told
 call_told text span = record { rows = text ∷ []; place = Some (place_of span); primary = false; own = false }
 
 -- the outermost call of the macro that a span stands in, unless that holds the span itself
-abbrev pub outer_told : (List ℕ → Option Source) → Data → Data → Option Told
-outer_told files d e =
+abbrev pub outer_told : Build → Data → Data → Option Told
+outer_told build d e =
     option_and_then (λ span.
-    if holds_span span (standing files d) then None
+    if holds_span span (standing build d) then None
     else option_map (λ text. call_told text span) (call_text (unwrap_or (text_at (codes "macro_decl_name") e) [])))
     (object_at (codes "span") e)
 
-abbrev pub macro_told : (List ℕ → Option Source) → Data → Option Told
-macro_told files d = option_and_then (λ e. outer_told files d (outermost_from 64 e)) (expansion_of d)
+abbrev pub macro_told : Build → Data → Option Told
+macro_told build d = option_and_then (λ e. outer_told build d (outermost_from 64 e)) (expansion_of d)
 
 -- one of the spans of a note or a help
-abbrev pub note_told : (List ℕ → Option Source) → List (List ℕ) → Data → Told
-note_told files rows d = span_told files rows false d
+abbrev pub note_told : Build → List (List ℕ) → Data → Told
+note_told build rows d = span_told build rows false d
 
 -- a note's message stands at its first place
-abbrev pub leading : (List ℕ → Option Source) → List (List ℕ) → List Data → List Told
-leading files rows [] = []
-leading files rows (d ∷ ds) = note_told files rows d ∷ map (note_told files []) ds
+abbrev pub leading : Build → List (List ℕ) → List Data → List Told
+leading build rows [] = []
+leading build rows (d ∷ ds) = note_told build rows d ∷ map (note_told build []) ds
 
 abbrev pub is_help : Data → Bool
 is_help c = bytes_eq (unwrap_or (text_at (codes "level") c) []) (codes "help")
@@ -167,15 +237,19 @@ abbrev pub text_told : List ℕ → Told
 text_told text = record { rows = text ∷ []; place = None; primary = false; own = false }
 
 -- What a note or a help tells at places; a note without any tells its message alone.
-abbrev pub child_told : (List ℕ → Option Source) → Data → List Told
-child_told files c =
-    if not (is_empty (edits_of c)) then leading files [] (filter tells (spans_of c))
-    else if not (is_empty (spans_of c)) then leading files (note_message c ∷ []) (spans_of c)
+abbrev pub child_told : Build → Data → List Told
+child_told build c =
+    if not (is_empty (edits_of c)) then leading build [] (filter tells (spans_of c))
+    else if not (is_empty (spans_of c)) then leading build (note_message c ∷ []) (spans_of c)
     else if is_help c then []
     else text_told (message_of c) ∷ []
 
--- all that a message tells at places: its own, those of macros' calls, those of its notes and helps
-abbrev pub told_of : (List ℕ → Option Source) → Data → List Told
-told_of files d =
-    (map (own_told files) (spans_of d) ++ filter_map (macro_told files) (spans_of d))
-    ++ flat_map (child_told files) (objects_at (codes "children") d)
+-- what a message tells at its own places: where they stand, in macros of others, and at the calls of macros
+abbrev pub spans_told : Build → List Data → List Told
+spans_told build spans =
+    (map (own_told build) spans ++ filter_map (moved_told build) spans) ++ filter_map (macro_told build) spans
+
+-- all that a message tells at places: at its own, and at those of its notes and helps
+abbrev pub told_of : Build → Data → List Told
+told_of build d =
+    spans_told build (spans_of d) ++ flat_map (child_told build) (objects_at (codes "children") d)

@@ -10,5 +10,10 @@ abbrev pub words_of : Bor (List (String Global)) → List (List ℕ)
 words_of words = map string_bytes words.now
 
 abbrev pub request_of : ShowWords → ShowRequest
-request_of it =
-    record { root = option_copied it.root; from = it.from; fix = it.fix; options = words_of it.options }
+request_of it = record {
+  root = option_copied it.root;
+  from = it.from;
+  fix = it.fix;
+  broken = it.broken;
+  options = words_of it.options;
+}

@@ -1,7 +1,7 @@
 -- What a result of a SARIF log says, and what it tells at places.
 use Rattle.std.specs.Prelude.{ℕ, List, [], ◌∷◌, ◌++◌, Option, Some, None, Bool, true, false, if◌then◌else◌, codes}
 use Rattle.std.specs.Prelude.{◌||◌}
-use Rattle.std.specs.Prelude.{bytes_eq, decimal, find, is_some, map, option_and_then, option_map, slice_get, unwrap_or}
+use Rattle.std.specs.Prelude.{bytes_eq, decimal, is_some, map, option_and_then, option_map, unwrap_or}
 use Rattle.std.specs.Prelude.{◌+◌}
 use Rattle.std.specs.List.{flat_map}
 use Rattle.std.specs.Option.{option_or}
@@ -15,53 +15,28 @@ use Rattle.miette_readers.specs.rules.Places.{Place, Told, text_after}
 use Rattle.miette_readers.specs.rules.Reports.{Said}
 use Rattle.miette_readers.specs.rules.Rustc.{maybe_row}
 use Rattle.miette_sarif_reader.specs.rules.Bases.{file_name}
+use Rattle.miette_sarif_reader.specs.rules.Descriptors.{item_at, rule_at, rule_id, rule_named}
 use Rattle.miette_sarif_reader.specs.rules.Messages.{shown}
 use Rattle.miette_sarif_reader.specs.rules.Regions.{has_begin, has_line, start_column, start_line}
 use Rattle.miette_sarif_reader.specs.rules.Regions.{stretch_in}
 
--- By what a run's results are read: the files, how columns are counted, what ends lines, the rules of its tool, its
--- artifacts, its bases, and the message strings of a result's rule.
+-- By what a run's results are read: the files, how columns are counted, what ends lines, the rules of its tool's driver
+-- and those of each extension, its artifacts, its bases, and the message strings of a result's rule.
 pub record Ground : Type 0 where
   pub files : List ℕ → Option Source
   pub encoding : PositionEncoding
   pub newlines : List (List ℕ)
   pub rules : List Data
+  pub extensions : List (List Data)
   pub artifacts : List Data
   pub bases : Option Data
   pub strings : Option Data
 
 -- ---- rules
 
-abbrev pub rule_told : Data → Option Data
-rule_told r = object_at (codes "rule") r
-
--- its rule is one of an extension of the tool, which isn't looked up
-abbrev pub is_extended : Data → Bool
-is_extended r = is_some (option_and_then (object_at (codes "toolComponent")) (rule_told r))
-
-abbrev pub index_told : Data → Option ℕ
-index_told r = option_or (whole_at (codes "ruleIndex") r) (option_and_then (whole_at (codes "index")) (rule_told r))
-
-abbrev pub rule_index : Data → Option ℕ
-rule_index r = if is_extended r then None else index_told r
-
-abbrev pub rule_id : Data → Option (List ℕ)
-rule_id r = option_or (text_at (codes "ruleId") r) (option_and_then (text_at (codes "id")) (rule_told r))
-
-abbrev pub has_id : List ℕ → Data → Bool
-has_id id rule = bytes_eq (unwrap_or (text_at (codes "id") rule) []) id
-
-abbrev pub rule_named : List Data → Option (List ℕ) → Option Data
-rule_named rules None = None
-rule_named rules (Some id) = find (has_id id) rules
-
-abbrev pub item_at : List Data → Option ℕ → Option Data
-item_at items None = None
-item_at items (Some index) = slice_get items index
-
--- a result's rule: by its index, else the first one of its id
+-- a result's rule: by its index, else by its id
 abbrev pub rule_of : Ground → Data → Option Data
-rule_of g r = option_or (item_at g.rules (rule_index r)) (rule_named g.rules (rule_id r))
+rule_of g r = option_or (rule_at g.rules g.extensions r) (rule_named g.rules g.extensions (rule_id r))
 
 -- ---- messages
 
@@ -180,10 +155,14 @@ told_in row primary own lines place =
     then record { rows = maybe_row row; place = Some place; primary = primary; own = own }
     else row_alone (Some (file_row place.name row)) own
 
+-- a text of a file as a whole, where there is one
+abbrev pub whole_row : List ℕ → Option (List ℕ) → Option (List ℕ)
+whole_row name row = option_map (λ text. file_row name (Some text)) row
+
 -- A location's text at its region; where it has none, the name of its file and that text; without a file that text.
 abbrev pub told_at : Ground → Option (List ℕ) → Bool → Bool → Option Data → Option Data → Told
 told_at g row primary own None region = row_alone row own
-told_at g row primary own (Some file) None = row_alone (Some (file_row (file_name g.bases file) row)) own
+told_at g row primary own (Some file) None = row_alone (whole_row (file_name g.bases file) row) own
 told_at g row primary own (Some file) (Some region) =
     told_in row primary own (has_line region) (place_in g (file_name g.bases file) region)
 

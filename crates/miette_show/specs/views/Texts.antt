@@ -4,7 +4,8 @@ use Rattle.std.specs.List.{list_any}
 use Rattle.miette_tree.specs.rules.Tree.{Tree}
 use Rattle.miette_row_reports.specs.rules.Shown.{AreDrawn, tree_grave}
 use Rattle.miette_tool_rows.specs.declared.verdict.RowKind.{RowKind}
-use Rattle.miette_tool_rows.specs.declared.verdict.RowKind.TheVariants.{Passed, Unread, Messages}
+use Rattle.miette_tool_rows.specs.declared.verdict.RowKind.TheVariants.{Passed, Unread, Messages, Failed}
+use Rattle.miette_tool_rows.specs.declared.verdict.Failure.{Failure}
 
 -- the texts of these reports, and whether an error is among them
 abbrev pub AreTexts : (Tree → List ℕ → Type 0) → List Tree → Bool → List ℕ → Type 0
@@ -15,8 +16,11 @@ abbrev pub IsPushed : (Tree → List ℕ → Type 0) → Tree → Bool → List 
 IsPushed gives t error old new = (error ≡ tree_grave t)
     × ((drawn : List ℕ) × gives t drawn × (new ≡ old ++ (drawn ++ 10 ∷ [])))
 
--- the text that is shown of a row, by what the row says
-abbrev pub IsValueText : (Tree → List ℕ → Type 0) → Option (List Tree) → RowKind → List ℕ → Type 0
-IsValueText gives says Passed text = ⊥
-IsValueText gives says Unread text = (says ≡ None) × (text ≡ [])
-IsValueText gives says (Messages grave) text = (ts : List Tree) × (says ≡ Some ts) × AreTexts gives ts grave text
+-- the text that is shown of a row, by what the row says, and by what it says that failed
+abbrev pub IsValueText : (Tree → List ℕ → Type 0) → Option (List Tree) → Option Failure → RowKind → List ℕ → Type 0
+IsValueText gives says what Passed text = ⊥
+IsValueText gives says what Unread text = (says ≡ None) × (text ≡ [])
+IsValueText gives says what (Messages grave) text =
+    ((ts : List Tree) × (says ≡ Some ts) × AreTexts gives ts grave text) × (what ≡ None)
+IsValueText gives says what (Failed failure) text =
+    ((ts : List Tree) × (says ≡ Some ts) × AreDrawn gives ts text) × (what ≡ Some failure)

@@ -2,7 +2,7 @@
 use Rattle.std.specs.Prelude.{ℕ, ◌+◌, ◌-◌, List, [], ◌∷◌, ◌++◌, Bool, if◌then◌else◌, ◌==◌, ◌||◌, ◌&&◌, codes, min, not}
 use Rattle.std.specs.Prelude.{false, true, nat_eq, nat_lt}
 use Rattle.std.specs.List.{count_by, fold, list_any, starts_with}
-use Rattle.miette_tool_rows.specs.rules.Rows.{is_closing, is_mark, is_opening, is_space, last_row, rows_of}
+use Rattle.miette_tool_rows.specs.rules.Rows.{is_closing, is_mark, is_opening, is_space, last_row, rows_of, unmarked}
 use Rattle.miette_tool_rows.specs.declared.parts.Open.{Open}
 
 -- ---- what is open after bytes of JSON
@@ -36,15 +36,18 @@ is_open o = nat_lt 0 o.depth && not o.quoted
 -- ---- parts
 
 -- a value begins with `{` or `[`, after which a quote, a bracket, white space or the row's end stands
+abbrev pub opens_value : List ℕ → Bool
+opens_value [] = false
+opens_value (a ∷ []) = false
+opens_value (a ∷ b ∷ bs) = is_opening a && (is_mark b || is_space b)
+
 abbrev pub begins_value : List ℕ → Bool
-begins_value [] = false
-begins_value (a ∷ []) = false
-begins_value (a ∷ b ∷ bs) = is_opening a && (is_mark b || is_space b)
+begins_value part = opens_value (unmarked part)
 
 -- its first row is a bracket alone
 abbrev pub begins_alone : List ℕ → Bool
 begins_alone part =
-    list_any (λ beginning. starts_with nat_eq part beginning)
+    list_any (λ beginning. starts_with nat_eq (unmarked part) beginning)
     (codes "{\n" ∷ codes "{\r\n" ∷ codes "[\n" ∷ codes "[\r\n" ∷ [])
 
 -- a row within a value begins with white space or closes a bracket

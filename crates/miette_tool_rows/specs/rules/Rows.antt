@@ -1,6 +1,7 @@
 -- The rows of what is read.
 use Rattle.std.specs.Prelude.{ℕ, List, [], ◌∷◌, ◌++◌, Bool, true, false, if◌then◌else◌, ◌==◌, ◌||◌, ◌&&◌}
-use Rattle.std.specs.List.{list_any}
+use Rattle.std.specs.Prelude.{drop, nat_eq}
+use Rattle.std.specs.List.{list_any, starts_with}
 
 -- a row that no LF ends, where it has a byte
 abbrev pub last_row : List ℕ → List (List ℕ)
@@ -18,6 +19,20 @@ rows_of bytes = rows_from [] bytes
 
 abbrev pub has_end : List ℕ → Bool
 has_end bytes = list_any (λ b. b == 10) bytes
+
+-- ---- marks in front
+
+-- the byte order mark of UTF-8
+abbrev pub byte_order_mark : List ℕ
+byte_order_mark = 239 ∷ (187 ∷ (191 ∷ []))
+
+-- what stands after that mark, where it is in front
+abbrev pub unmarked : List ℕ → List ℕ
+unmarked bytes = if starts_with nat_eq bytes byte_order_mark then drop 3 bytes else bytes
+
+-- a byte order mark of UTF-16 in front, of which nothing is read
+abbrev pub is_wide : List ℕ → Bool
+is_wide bytes = starts_with nat_eq bytes (255 ∷ (254 ∷ [])) || starts_with nat_eq bytes (254 ∷ (255 ∷ []))
 
 -- ---- how values begin
 
@@ -46,8 +61,8 @@ begins_with bracket (b ∷ bs) = b == bracket && leads_in bs
 
 -- rustc and cargo begin each message so, ShellCheck what it writes, and a tool its log
 abbrev pub begins_object : List ℕ → Bool
-begins_object row = begins_with 123 row
+begins_object row = begins_with 123 (unmarked row) || is_wide row
 
 -- GCC begins so what it writes
 abbrev pub begins_array : List ℕ → Bool
-begins_array row = begins_with 91 row
+begins_array row = begins_with 91 (unmarked row) || is_wide row

@@ -5,5 +5,5 @@ use Rattle.miette_reader_laws.proofs.RustcTexts.{rustc_found}
 use Rattle.miette_reader_laws.proofs.laws.rustc_fixes_can_be_applied.Goals as goal
 
 pub returns : goal.returns
-returns c = λ files d.
-    all_apply files (said_of files d) (told_of files d) (offers_of files d) (rustc_found files d)
+returns c = λ build d.
+    all_apply build.files (said_of build.files d) (told_of build d) (offers_of build.files d) (rustc_found build d)

@@ -2,12 +2,11 @@ use Rattle.std.proofs.Common.{[], List, Bor, map, string_bytes, ap, sym, ◌∙�
 use Rattle.std.proofs.lemmas.List.{take_all}
 use Rattle.serde_json.specs.View.{view}
 use Rattle.serde_json.specs.declared.value.Value.{Value}
-use Rattle.miette_readers.specs.rules.Rustc.{message_of}
-use Rattle.miette_readers.specs.rules.RustcReport.{help_rows, helps}
+use Rattle.miette_readers.specs.rules.RustcReport.{help_row, help_rows, helps}
 use Rattle.miette_readers.specs.rules.Settling.{with_row}
 use Rattle.miette_readers.specs.views.Values.{seen}
 use Rattle.miette_readers.proofs.Steps.{fold_kept, fold_stays}
-use Rattle.miette_readers.proofs.saying.help_rows.Goals.{then-branch+in_ok-push_row, else-branch}
+use Rattle.miette_readers.proofs.saying.help_rows.Goals.{then-branch+in_ok-row+in_ok-push_row, else-branch}
 use Rattle.miette_readers.proofs.saying.help_rows.Goals as goal
 
 pub loop-child-preserved : goal.loop-child-preserved
@@ -19,14 +18,14 @@ loop-child-preserved g c =
     let old = map string_bytes l.rows.items in
     let new = map string_bytes c.if-branch.rows.items in
     elim c.if-branch.branch [
-      | then-branch+in_ok-push_row w ↦
+      | then-branch+in_ok-row+in_ok-push_row w ↦
           fold_kept look children l.child-index c.child-item.result c.loop-child-test.true c.child-item.is with_row []
-          old new message_of (helps files) (sym c.in_ok-helps.ensures ∙ w.if-branch.true)
+          old new help_row (helps files) (sym c.in_ok-helps.ensures ∙ w.if-branch.true)
           (ap (λ v. map string_bytes v.items) w.rows-is ∙ w.in_ok-push_row.ensures
-          ∙ ap (with_row old) w.message_of.ensures) l.invariant
+          ∙ ap (with_row old) (w.as_str.ensures.value ∙ w.in_ok-row.ensures)) l.invariant
       | else-branch w ↦
           fold_stays look children l.child-index c.child-item.result c.loop-child-test.true c.child-item.is with_row []
-          new message_of (helps files) (sym c.in_ok-helps.ensures ∙ w.if-branch.false)
+          new help_row (helps files) (sym c.in_ok-helps.ensures ∙ w.if-branch.false)
           (ap (λ v. map string_bytes v.items) w.rows-is ∙ l.invariant)
     ]
 

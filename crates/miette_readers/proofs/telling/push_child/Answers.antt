@@ -6,6 +6,7 @@ use Rattle.serde_json.specs.View.{view}
 use Rattle.serde_json.specs.declared.value.Value.{Value}
 use Rattle.miette_readers.specs.rules.Places.{Told}
 use Rattle.miette_readers.specs.rules.Rustc.{child_told, edits_of, is_empty, leading, tells}
+use Rattle.miette_readers.specs.views.Builds.{built}
 use Rattle.miette_readers.specs.views.Values.{seen}
 use Rattle.miette_readers.proofs.telling.push_child.Goals as goal
 
@@ -18,13 +19,13 @@ chosen b x y e = ap (λ a. if not a then x else y) e
 
 pub returns-then-not-is_empty : goal.returns-then-not-is_empty
 returns-then-not-is_empty g c =
-    let files = g.F.Files.found c.args.files.now in
+    let build = built g.F.Files.found c.args.build.now in
     let child = view c.args.child.now in
     let edits = c.in_ok-edits_of.field-0.items in
-    let beside = λ (ss : List Data). leading files [] (filter tells ss) in
+    let beside = λ (ss : List Data). leading build [] (filter tells ss) in
     let full : 0 < length edits = search rules in
     let some : is_empty (edits_of child) ≡ false = ap is_empty (sym c.in_ok-edits_of.ensures) ∙ some_seen edits full in
-    let told : beside (seen c.as_slice.result.now) ≡ child_told files child =
+    let told : beside (seen c.as_slice.result.now) ≡ child_told build child =
     ap (λ (vs : List (Bor Value)). beside (seen vs)) c.as_slice.ensures.value ∙ ap beside c.in_ok-spans.ensures
     ∙ sym (chosen (is_empty (edits_of child)) _ _ some)
     in

@@ -4,21 +4,22 @@ use Rattle.std.proofs.lemmas.List.{take_all}
 use Rattle.serde_json.specs.View.{view}
 use Rattle.serde_json.specs.declared.value.Value.{Value}
 use Rattle.miette_readers.specs.rules.Rustc.{child_told}
+use Rattle.miette_readers.specs.views.Builds.{built}
 use Rattle.miette_readers.specs.views.Values.{seen}
 use Rattle.miette_readers.proofs.Steps.{flat_more}
 use Rattle.miette_readers.proofs.telling.push_children.Goals as goal
 
 pub loop-child-preserved : goal.loop-child-preserved
 loop-child-preserved g c =
-    let files = g.F.Files.found c.args.files.now in
+    let build = built g.F.Files.found c.args.build.now in
     let l = c.loop-child in
     flat_more (λ (v : Bor Value). view v.now) c.args.children.now l.child-index c.child-item.result
-    c.loop-child-test.true c.child-item.is (child_told files) c.args.list.now.items l.list.items
+    c.loop-child-test.true c.child-item.is (child_told build) c.args.list.now.items l.list.items
     c.push_child.new.list.items c.in_ok-push_child.ensures l.invariant
 
 pub returns : goal.returns
 returns g c =
-    let files = g.F.Files.found c.args.files.now in
+    let build = built g.F.Files.found c.args.build.now in
     c.loop-child.invariant
-    ∙ ap (λ (vs : List (Bor Value)). c.args.list.now.items ++ flat_map (child_told files) (seen vs))
+    ∙ ap (λ (vs : List (Bor Value)). c.args.list.now.items ++ flat_map (child_told build) (seen vs))
     (take_all c.loop-child.child-index c.args.children.now c.loop-child-test.false)

@@ -11,8 +11,8 @@ abbrev pub invariant-loop-part : goal.invariant-loop-part
 invariant-loop-part g l = record {
   sound : l.faults.failed ≡ false;
   reads : All AlwaysReads (map (tree_of meaning_of (λ (it : Source). it)) l.list.items);
-  gathering : Gathering l.held.from (g.F.Files.found l.files)
+  gathering : Gathering l.held.from l.held.placed (g.F.Files.found l.files)
       (map (λ part. part.items) (take l.part-index l.part-items))
       (map (tree_of meaning_of (λ (it : Source). it)) l.list.items)
-      (g.E.Write.contents l.initial.faults.inner) (g.E.Write.contents l.faults.inner) l.number l.verdict;
+      (g.E.Write.contents l.initial.faults.inner) (g.E.Write.contents l.faults.inner) l.number l.seen l.verdict;
 }

@@ -1,5 +1,5 @@
 use Rattle.std.proofs.Common.{◌≡◌, IfSome, Some, IsUtf8, false, subst, true, rules}
-use Rattle.serde_json.specs.Read.{read}
+use Rattle.miette_tool_rows.specs.rules.Values.{read}
 use Rattle.serde_json.specs.View.{view}
 use Rattle.miette_row_reports.specs.rules.Shown.{begins_message}
 use Rattle.miette_row_reports.proofs.Logging.{none_begun, none_read, one_read}

@@ -1,8 +1,10 @@
 use Rattle.std.proofs.Common.{◌≡◌, ◌∙◌, IfSome, Some, IsUtf8, None, ap, false, subst, true, rules}
-use Rattle.serde_json.specs.Read.{read}
+use Rattle.miette_tool_rows.specs.rules.Values.{read}
 use Rattle.serde_json.specs.View.{view}
 use Rattle.miette_row_reports.specs.rules.Shown.{begins_message}
-use Rattle.miette_row_reports.proofs.ReportSteps.{none_said, says_of}
+use Rattle.miette_row_reports.specs.rules.Told.{failure_of}
+use Rattle.miette_row_reports.proofs.Logging.{read_trees}
+use Rattle.miette_row_reports.proofs.ReportSteps.{fails_of, none_said, says_of}
 use Rattle.miette_row_reports.proofs.parts.part_reports.Goals as goal
 
 pub returns-then-not-begins_message-clause-trees : goal.returns-then-not-begins_message-clause-trees
@@ -24,12 +26,11 @@ returns-in-Ok-clause-trees g c =
     let begins : begins_message c.args.row.from row ≡ true = search rules in
     let some : IfSome (Some c.in-Some.value) (λ v. IsUtf8 row × (read row ≡ Some (view v))) =
     subst (λ o. IfSome o (λ v. IsUtf8 row × (read row ≡ Some (view v)))) c.in-Some.is c.in_ok-value.ensures.some
-    in (
-      begins,
-      some.0,
-      says_of c.args.row.from (g.F.Files.found c.args.files.now) row (view c.in-Some.value) some.1 ∙ c.in-Ok.ensures.ok,
-      search rules,
-    )
+    in
+    read_trees c.args.row.from (g.F.Files.found c.args.files.now) row c.value_kind.result _
+    (failure_of c.args.row.from (view c.in-Some.value)) begins some.0
+    (says_of c.args.row.from (g.F.Files.found c.args.files.now) row (view c.in-Some.value) some.1 ∙ c.in-Ok.ensures.ok)
+    (fails_of c.args.row.from row (view c.in-Some.value) some.1) (search rules)
 
 pub returns-in-Err-NoMessage-clause-trees : goal.returns-in-Err-NoMessage-clause-trees
 returns-in-Err-NoMessage-clause-trees g c =

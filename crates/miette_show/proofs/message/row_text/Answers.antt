@@ -1,5 +1,5 @@
 use Rattle.std.proofs.Common.{◌≡◌, IfSome, Some, IsUtf8, true, false, refl, string_bytes, subst, rules}
-use Rattle.serde_json.specs.Read.{read}
+use Rattle.miette_tool_rows.specs.rules.Values.{read}
 use Rattle.serde_json.specs.View.{view}
 use Rattle.miette_program.specs.steps.JobHandler.{IsGiven}
 use Rattle.miette_tool_rows.specs.rules.Looking.{IsFoundBy}

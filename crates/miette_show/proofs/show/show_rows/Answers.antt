@@ -1,6 +1,8 @@
-use Rattle.std.proofs.Common.{◌≡◌, ◌<◌, ◌∙◌, ℕ, List, Err, IfSome, inl, inr, length, refl, sym, ap, subst, rules}
+use Rattle.std.proofs.Common.{◌≡◌, ◌<◌, ◌∙◌, ℕ, List, Err, IfSome, inl, inr, length, refl, sym, ap, subst, arith, rules}
+use Rattle.std.proofs.lemmas.Bool.Decides.{nat_tests}
 use Rattle.std.proofs.lemmas.List.{nil_from_length}
 use Rattle.std.specs.Io.KnownBytes.{Appends}
+use Rattle.std.specs.Prelude.{◌||◌}
 use Rattle.miette_program.proofs.HighlighterSteps.{led-nowhere, led-on}
 use Rattle.miette_program.proofs.JobHandlerSteps.{stays-itself, stays-on}
 use Rattle.miette_devices.specs.declared.fault.Fault.TheVariants.{Read, Refused, Usage, Write}
@@ -30,8 +32,9 @@ loop-init g c = record {
 pub returns-then-is_empty-clause-ok : goal.returns-then-is_empty-clause-ok
 returns-then-is_empty-clause-ok g c =
     let none : length c.next_part.new.part.items ≡ 0 = search rules in
-    progress.end _ _ _ _ _ _ _ _ _ _ c.loop.number c.loop.verdict c.next_part.new.part.items
-    (nil_from_length c.next_part.new.part.items none) c.loop.invariant.progress c.in_ok-following.ensures.part
+    progress.end _ _ _ _ _ _ _ _ _ _ c.loop.number c.loop.seen c.is_missing.result c.loop.verdict
+    c.with_missing.result c.next_part.new.part.items (nil_from_length c.next_part.new.part.items none)
+    c.loop.invariant.progress c.in_ok-following.ensures.part c.is_missing.ensures c.with_missing.ensures
 
 pub returns-in_err-pass_on-clause-accepted : goal.returns-in_err-pass_on-clause-accepted
 returns-in_err-pass_on-clause-accepted g c = λ e.
@@ -71,7 +74,9 @@ loop-preserved g c =
     let kind = c.in_ok-kind.kind in
     let row = c.next_part.new.part.items in
     let shown = c.in_ok-kind.ensures.shown in
-    let some : 0 < length row = search rules in
+    let some : 0 < length row =
+    (let a = c.is_empty.ensures in let b = c.if-is_empty.false in grind (arith, nat_tests))
+    in
     let is_shown = shown_before c.args.from blank follow c.args.handler.now l.handler g.F.Files.found g.F.Loader.knows
     first l.files
     c.as_slice.result.now row kind shown.0 l.invariant.stays l.invariant.led l.invariant.goes
@@ -92,14 +97,15 @@ loop-preserved g c =
           c.show_row.ensures.stays;
       led = led-on follow c.args.handler.now l.handler c.show_row.new.handler l.invariant.led
           c.in_ok-kind.ensures.led;
-      progress = progress.more c.args.from gives found _ _ _ _ _ _ _ _ _ l.number l.verdict c.with-verdict.result row
-          kind shown.0 c.in_ok-following.following some l.invariant.progress c.in_ok-following.ensures.part is_shown
-          shown.2 passed c.with-verdict.ensures c.in_ok-following.ensures.number;
+      progress = progress.more c.args.from gives found _ _ _ _ _ _ _ _ _ l.number l.seen c.either-seen.result l.verdict
+          c.with-verdict.result row kind shown.0 c.in_ok-following.following some l.invariant.progress
+          c.in_ok-following.ensures.part is_shown shown.2 passed c.with-verdict.ensures
+          (c.either-seen.ensures ∙ ap (λ b. l.seen || b) c.is_read.ensures) c.in_ok-following.ensures.number;
     }
 
 pub returns-in_err-following-clause-beginning : goal.returns-in_err-following-clause-beginning
 returns-in_err-following-clause-beginning g c = on_err_of _ _
-    (progress.begun _ _ _ _ _ _ _ _ _ c.loop.number c.loop.verdict c.loop.invariant.progress)
+    (progress.begun _ _ _ _ _ _ _ _ _ c.loop.number c.loop.seen c.loop.verdict c.loop.invariant.progress)
 
 pub returns-in_err-kind-clause-beginning : goal.returns-in_err-kind-clause-beginning
 returns-in_err-kind-clause-beginning g c =
@@ -109,7 +115,9 @@ returns-in_err-kind-clause-beginning g c =
     let found = IsFoundBy g.F.Files.found g.F.Loader.knows first in
     let left = left_of g.R.Read.remaining c.args.streams.now.rows in
     let row = c.next_part.new.part.items in
-    let some : 0 < length row = search rules in
+    let some : 0 < length row =
+    (let a = c.is_empty.ensures in let b = c.if-is_empty.false in grind (arith, nat_tests))
+    in
     on_err_of _ _ (elim c.in_err-kind.ensures.untouched [
       | inl failed ↦
           (let cut = c.in_err-kind.ensures.beginning failed in
@@ -117,15 +125,15 @@ returns-in_err-kind-clause-beginning g c =
           l.handler g.F.Files.found g.F.Loader.knows first l.files c.as_slice.result.now row cut.0 cut.1
           l.invariant.stays l.invariant.led l.invariant.goes c.as_slice.ensures.value cut.2
           in
-          progress.begun_with c.args.from gives found left _ _ _ _ _ _ _ _ l.number l.verdict row cut.0 cut.1 some
-          l.invariant.progress c.in_ok-following.ensures.part is_shown cut.3
+          progress.begun_with c.args.from gives found left _ _ _ _ _ _ _ _ l.number l.seen l.verdict row cut.0 cut.1
+          some l.invariant.progress c.in_ok-following.ensures.part is_shown cut.3
           (none_taken _ _))
       | inr same ↦
           subst (λ d. IfSome left (λ bytes. ShowsFirst c.args.from gives found bytes
           (λ text notes. TakesBeginning (g.W.Write.contents c.args.streams.now.writer.inner)
           (g.W.Write.contents d.inner) text × TakesBeginning (g.E.Write.contents c.args.streams.now.faults.inner)
           (g.E.Write.contents l.streams.faults.inner) notes))) (sym same)
-          (progress.begun c.args.from gives found left _ _ _ _ _ l.number l.verdict l.invariant.progress)
+          (progress.begun c.args.from gives found left _ _ _ _ _ l.number l.seen l.verdict l.invariant.progress)
     ])
 
 pub returns-in_err-pass_on-clause-beginning : goal.returns-in_err-pass_on-clause-beginning
@@ -138,7 +146,9 @@ returns-in_err-pass_on-clause-beginning g c =
     let kind = c.in_ok-kind.kind in
     let row = c.next_part.new.part.items in
     let shown = c.in_ok-kind.ensures.shown in
-    let some : 0 < length row = search rules in
+    let some : 0 < length row =
+    (let a = c.is_empty.ensures in let b = c.if-is_empty.false in grind (arith, nat_tests))
+    in
     let is_shown = shown_before c.args.from g.H.Highlighter.is_blank g.H.Highlighter.may_follow c.args.handler.now
     l.handler
     g.F.Files.found g.F.Loader.knows first l.files c.as_slice.result.now row kind shown.0 l.invariant.stays
@@ -156,9 +166,9 @@ returns-in_err-pass_on-clause-beginning g c =
     ]
     in
     on_err_of _ _
-    (progress.begun_with c.args.from gives found left _ _ _ _ _ _ _ _ l.number l.verdict row kind shown.0 some
+    (progress.begun_with c.args.from gives found left _ _ _ _ _ _ _ _ l.number l.seen l.verdict row kind shown.0 some
     l.invariant.progress c.in_ok-following.ensures.part is_shown (all_taken _ _ _ shown.2) taken)
 
 pub returns-clause-beginning : goal.returns-clause-beginning
 returns-clause-beginning g c =
-    progress.begun _ _ _ _ _ _ _ _ _ c.loop.number c.loop.verdict c.loop.invariant.progress
+    progress.begun _ _ _ _ _ _ _ _ _ c.loop.number c.loop.seen c.loop.verdict c.loop.invariant.progress

@@ -19,5 +19,5 @@ invariant-loop g l = record {
       (IsFoundBy g.F.Files.found g.F.Loader.knows l.initial.files) (left_of g.R.Read.remaining l.initial.streams.rows)
       (left_of g.R.Read.remaining l.streams.rows) (g.W.Write.contents l.initial.streams.writer.inner)
       (g.W.Write.contents l.streams.writer.inner) (g.E.Write.contents l.initial.streams.faults.inner)
-      (g.E.Write.contents l.streams.faults.inner) l.number l.verdict;
+      (g.E.Write.contents l.streams.faults.inner) l.number l.seen l.verdict;
 }

@@ -1,9 +1,10 @@
-use Rattle.std.proofs.Common.{◌≡◌, ◌<◌, ◌∙◌, Err, inl, inr, length, refl, subst, sym, ap, rules}
+use Rattle.std.proofs.Common.{◌≡◌, ◌<◌, ◌∙◌, ◌++◌, List, Err, inl, inr, length, refl, subst, sym, ap, rules}
+use Rattle.std.proofs.Common.{append-nil, append_assoc}
+use Rattle.std.specs.Prelude.{option_to_list}
 use Rattle.std.proofs.lemmas.List.{nil_from_length}
 use Rattle.miette_devices.specs.declared.fault.Fault.TheVariants.{Read, Write}
 use Rattle.miette_devices.specs.views.Device.{TakesBeginning}
-use Rattle.miette_mending.proofs.Holds.{adds_none, adds_then}
-use Rattle.miette_mending.specs.views.Holding.{Adds}
+use Rattle.miette_mending.specs.rules.Sure.{RowFixes}
 use Rattle.miette_tool_rows.specs.rules.Looking.{IsFoundBy}
 use Rattle.miette_tool_rows.specs.rules.Notes.{kind_unread, note_of}
 use Rattle.miette_tool_rows.proofs.Beginnings.{none_taken}
@@ -12,21 +13,29 @@ use Rattle.miette_tool_rows.proofs.NoteEnds.{no_other, not_failed, on_err_of}
 use Rattle.miette_tool_rows.proofs.MendSteps as steps
 use Rattle.miette_tool_rows.proofs.mend.gather_rows.Goals as goal
 
+-- these rows are put after the first ones
+abbrev added : List RowFixes → List RowFixes → List RowFixes → Type 0
+added old new rows = new ≡ old ++ rows
+
+added_then : (old mid new more : List RowFixes) → new ≡ mid ++ more
+    → (rows : List RowFixes) → added old mid rows → added old new (rows ++ more)
+added_then old mid new more is rows h = is ∙ ap (λ l. l ++ more) h ∙ append_assoc old rows more
+
 pub loop-init : goal.loop-init
 loop-init g c = record {
   rows_sound = c.requires.rows_sound;
   faults_sound = c.requires.faults_sound;
   goes = goes_still _ _;
   passing = steps.begin (IsFoundBy g.F.Files.found g.F.Loader.knows c.args.files.now)
-      (Adds c.args.gathered.now c.args.gathered.now) _ _ 1 c.none-verdict.result refl c.none-verdict.ensures
-      (adds_none c.args.gathered.now);
+      (added c.args.held.now.items c.args.held.now.items) _ _ 1 c.none-verdict.result refl c.none-verdict.ensures
+      (sym (append-nil c.args.held.now.items));
 }
 
 pub returns-then-is_empty-clause-ok : goal.returns-then-is_empty-clause-ok
 returns-then-is_empty-clause-ok g c =
     let none : length c.next_part.new.part.items ≡ 0 = search rules in
     steps.end (IsFoundBy g.F.Files.found g.F.Loader.knows c.args.files.now)
-    (Adds c.args.gathered.now c.loop.gathered) _ _ _ _ _ c.loop.number c.loop.verdict
+    (added c.args.held.now.items c.loop.held.items) _ _ _ _ _ c.loop.number c.loop.verdict
     c.next_part.new.part.items (nil_from_length c.next_part.new.part.items none) c.loop.invariant.passing
     c.in_ok-following.ensures.part
 
@@ -63,10 +72,11 @@ loop-preserved g c =
       goes = goes_on (g.F.Files.found first) (g.F.Files.found l.files) (g.F.Files.found c.gather_row.new.files)
           (g.F.Loader.knows first) (g.F.Loader.knows l.files) (g.F.Loader.knows c.gather_row.new.files)
           l.invariant.goes c.gather_row.ensures.goes;
-      passing = steps.more found (Adds c.args.gathered.now l.gathered)
-          (Adds c.args.gathered.now c.gather_row.new.gathered) _ _ _ _ _ _ l.number l.verdict c.with-verdict.result row
+      passing = steps.more found (added c.args.held.now.items l.held.items)
+          (added c.args.held.now.items c.gather_row.new.held.items) _ _ _ _ _ _ l.number l.verdict
+          c.with-verdict.result row
           kind gives.0 c.in_ok-following.following some l.invariant.passing c.in_ok-following.ensures.part is_giving
-          (λ all added. adds_then c.args.gathered.now l.gathered c.gather_row.new.gathered all gives.0 added gives.2)
+          (added_then c.args.held.now.items l.held.items c.gather_row.new.held.items (option_to_list gives.0) gives.2)
           c.in_ok-note.ensures.noted c.with-verdict.ensures c.in_ok-following.ensures.number;
     }
 

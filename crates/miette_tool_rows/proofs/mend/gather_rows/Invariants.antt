@@ -1,5 +1,5 @@
-use Rattle.std.proofs.Common.{◌≡◌, false}
-use Rattle.miette_mending.specs.views.Holding.{Adds}
+use Rattle.std.proofs.Common.{◌≡◌, ◌++◌, List, false}
+use Rattle.miette_mending.specs.rules.Sure.{RowFixes}
 use Rattle.miette_tool_rows.specs.rules.Looking.{Goes, IsFoundBy}
 use Rattle.miette_tool_rows.specs.views.Reading.{left_of}
 use Rattle.miette_tool_rows.proofs.MendSteps.{Passing}
@@ -12,7 +12,7 @@ invariant-loop g l = record {
   faults_sound : l.faults.failed ≡ false;
   goes : Goes (g.F.Files.found l.initial.files) (g.F.Loader.knows l.initial.files) (g.F.Files.found l.files)
       (g.F.Loader.knows l.files);
-  passing : Passing (Adds l.initial.gathered l.gathered)
+  passing : Passing (λ (rows : List RowFixes). l.held.items ≡ l.initial.held.items ++ rows)
       (IsFoundBy g.F.Files.found g.F.Loader.knows l.initial.files) (left_of g.R.Read.remaining l.initial.rows)
       (left_of g.R.Read.remaining l.rows) (g.E.Write.contents l.initial.faults.inner)
       (g.E.Write.contents l.faults.inner) l.number l.verdict;

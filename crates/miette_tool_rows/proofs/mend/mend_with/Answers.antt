@@ -1,9 +1,10 @@
 use Rattle.std.proofs.Common.{◌≡◌, ◌∙◌, ℕ, List, inr, sym, true, rules}
-use Rattle.std.specs.List.{flat_map, list_all}
+use Rattle.std.specs.List.{flat_map}
 use Rattle.std.specs.Io.KnownBytes.{Appends}
 use Rattle.std.specs.Prelude.{◌++◌}
+use Rattle.miette_mending.specs.rules.Packages.{Left}
 use Rattle.miette_tool_rows.specs.rules.Looking.{IsFoundBy}
-use Rattle.miette_tool_rows.specs.rules.Mends.{Change, fault_of, is_done, said_of, written_of}
+use Rattle.miette_tool_rows.specs.rules.Mends.{Change, are_done, faults_of, said_of, written_of}
 use Rattle.miette_tool_rows.specs.views.Reading.{left_of}
 use Rattle.miette_tool_rows.specs.views.Writing.{Writes}
 use Rattle.miette_tool_rows.proofs.MendEnds.{mends_status}
@@ -17,11 +18,11 @@ returns-then-all-clause-status g c =
     (g.S.Store.written c.mend_on.new.store) (flat_map written_of changes)
     in
     let all : c.in-Ok.all ≡ true = search rules in
-    inr (mends_status (IsFoundBy g.F.Files.found g.F.Loader.knows c.args.files.now) g.S.Store.refuses
-    (λ (changes : List Change) (notes : List ℕ). (c.in-Ok.all ≡ list_all is_done changes) × wrote changes
+    inr (mends_status (IsFoundBy g.F.Files.found g.F.Loader.knows c.args.files.now) g.S.Store.refuses c.args.broken
+    (λ (changes : List Change) (left : Left) (notes : List ℕ). (c.in-Ok.all ≡ are_done changes left) × wrote changes
     × Appends (g.W.Write.contents first.writer.inner) (g.W.Write.contents last.writer.inner) (flat_map said_of changes)
     × Appends (g.E.Write.contents first.faults.inner) (g.E.Write.contents last.faults.inner)
-    (notes ++ flat_map fault_of changes))
-    (λ (changes : List Change) (notes : List ℕ). (list_all is_done changes ≡ true) × wrote changes) c.in-Ok.verdict
-    (left_of g.R.Read.remaining first.rows) c.status.result c.status.ensures
-    (λ changes notes h. (sym h.0 ∙ all, h.1)) c.in-Ok.ensures.ok)
+    (notes ++ faults_of changes left))
+    (λ (changes : List Change) (left : Left) (notes : List ℕ). (are_done changes left ≡ true) × wrote changes)
+    (λ changes left notes h. (sym h.0 ∙ all, h.1)) c.in-Ok.verdict
+    (left_of g.R.Read.remaining first.rows) c.status.result c.status.ensures c.in-Ok.ensures.ok)

@@ -64,7 +64,9 @@ returns-then-not-is_open-clause-part g c =
     c.as_slice.ensures.value c.as_slice-in-loop.ensures.value c.begins_value.ensures c.if-not-begins_value.false
     c.loop.invariant.reached c.after_bytes-state.ensures c.as_slice-in-loop-2.ensures.value in
     let none : is_open state ≡ false = sym c.is_open.ensures ∙ c.if-not-is_open.true in
-    let some : 0 < length row = search rules in
+    let some : 0 < length row =
+    (let a = c.is_empty.ensures in let b = c.if-is_empty.false in grind (arith, nat_tests))
+    in
     held_whole _ _ _ held row part its.0 some
     (row_more _ _ _ held row part its.0 some c.loop.invariant.held c.in_ok-next.ensures.row) (Consumes-nil _)
     (closed_ends _ part (is_as part state false its.2 its.1 none))
@@ -79,7 +81,9 @@ returns-then-not-branch-clause-part g c =
     c.as_slice.ensures.value c.as_slice-in-loop.ensures.value c.begins_value.ensures c.if-not-begins_value.false
     c.loop.invariant.reached c.after_bytes-state.ensures c.as_slice-in-loop-2.ensures.value in
     let more : is_open state ≡ true = sym c.is_open.ensures ∙ c.if-not-is_open.false in
-    let some : 0 < length row = search rules in
+    let some : 0 < length row =
+    (let a = c.is_empty.ensures in let b = c.if-is_empty.false in grind (arith, nat_tests))
+    in
     held_whole _ _ _ held row part its.0 some
     (row_more _ _ _ held row part its.0 some c.loop.invariant.held c.in_ok-next.ensures.row)
     c.in_ok-goes_on.ensures.left
@@ -96,7 +100,9 @@ loop-preserved g c =
     c.as_slice.ensures.value c.as_slice-in-loop.ensures.value c.begins_value.ensures c.if-not-begins_value.false
     c.loop.invariant.reached c.after_bytes-state.ensures c.as_slice-in-loop-2.ensures.value in
     let more : is_open state ≡ true = sym c.is_open.ensures ∙ c.if-not-is_open.false in
-    let some : 0 < length row = search rules in
+    let some : 0 < length row =
+    (let a = c.is_empty.ensures in let b = c.if-is_empty.false in grind (arith, nat_tests))
+    in
     record {
       sound = search rules;
       held = held_more _ _ _ part

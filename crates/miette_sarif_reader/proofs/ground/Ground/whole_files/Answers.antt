@@ -1,0 +1,25 @@
+use Rattle.std.proofs.Common.{[], ◌++◌, Bor, List, ap, map, string_bytes, ◌∙◌}
+use Rattle.std.specs.List.{cons_option, filter_map}
+use Rattle.std.proofs.lemmas.List.{take_all}
+use Rattle.serde_json.specs.View.{view}
+use Rattle.serde_json.specs.declared.value.Value.{Value}
+use Rattle.miette_readers.specs.views.Values.{seen}
+use Rattle.miette_sarif_reader.specs.rules.Wholes.{whole_file}
+use Rattle.miette_sarif_reader.specs.views.Grounds.{ground_in}
+use Rattle.miette_sarif_reader.proofs.NewlineSteps.{sequence_more}
+use Rattle.miette_sarif_reader.proofs.ground.Ground.whole_files.Goals as goal
+
+pub loop-location-preserved : goal.loop-location-preserved
+loop-location-preserved g c =
+    let l = c.loop-location in
+    let before = map string_bytes l.list.items in
+    sequence_more (λ (v : Bor Value). view v.now) (whole_file (ground_in g.F.Files.found c.args.self.now))
+    c.args.locations.now l.location-index c.location-item.result c.loop-location-test.true c.location-item.is before
+    (map string_bytes c.push_name.new.list.items)
+    (c.in_ok-push_name.ensures ∙ ap (λ o. before ++ cons_option o []) c.in_ok-name.ensures) l.invariant
+
+pub returns : goal.returns
+returns g c =
+    c.loop-location.invariant
+    ∙ ap (λ (vs : List (Bor Value)). filter_map (whole_file (ground_in g.F.Files.found c.args.self.now)) (seen vs))
+    (take_all c.loop-location.location-index c.args.locations.now c.loop-location-test.false)
