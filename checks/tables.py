@@ -1,7 +1,4 @@
-"""Tables of Markdown, as the scripts of this folder print them and the documents hold them."""
-import re
-
-RULE = re.compile(r"\|[-|:]+\|")
+"""Tables of Markdown, as the scripts of this folder print them."""
 
 
 def cell(value):
@@ -25,18 +22,3 @@ def table(names, rows):
     """A whole table, whose columns are as wide as their widest cell."""
     widths = [max(len(cell(it[k])) for it in [names, *rows]) for k in range(len(names))]
     return "\n".join([begin(names, widths), *[row(it, widths) for it in rows]])
-
-
-def tables(text):
-    """The tables of a text, each as its rows of cells, the names of its columns first."""
-    found, rows = [], None
-    for line in text.split("\n"):
-        if not line.startswith("|"):
-            rows = None
-            continue
-        if rows is None:
-            rows = []
-            found.append(rows)
-        if not RULE.fullmatch(line.replace(" ", "")):
-            rows.append([it.strip() for it in line.strip().strip("|").split("|")])
-    return found
