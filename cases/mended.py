@@ -23,7 +23,7 @@ CC = os.environ.get("CC") or "cc"
 WIDTH = str(2**64 - 1)
 C = ["cases/stop.c", "cases/refuse.c", "bench/heap.c"]
 HEADERS = ["stdio.h", "stdlib.h", "unistd.h", "math.h"]
-RUST = ["crates/miette_wrapping/src/wrap.rt", "crates/miette_painting/src/report.rt", "crates/miette_lint/src/findings.rt"]
+RUST = ["crates/miette_text/src/wrapping.rt", "crates/miette_graphical/src/report.rt", "crates/miette_lint/src/findings.rt"]
 TOML = ["gallery", "worked", "examples"]
 # the words of Rust: comments, texts, letters, words, numbers, signs
 RUST_WORD = re.compile(rb"""//[^\n\r]*|b?"(?:[^"\\]|\\.)*"|b?'(?:[^'\\\n]|\\.[^'\n]*)'|\w+|[^\s\w]""", re.DOTALL)

@@ -188,7 +188,7 @@ def tried(case, runs):
 def main(words):
     runs, paths = "--run" in words, [it for it in words if it != "--run"]
     if not shutil.which("patch"):
-        print("GNU patch isn't there: nothing is tried")
+        print("skipped: fixes as patches, since there is no GNU patch")
         return counted(0, 0)
     cases = []
     for path in paths:

@@ -17,7 +17,7 @@ them:
 - causes, help, fixes that can't be applied, and URLs that aren't the rule's are rows of the message; labels of causes
   are the report's
 
-No text of them has a link, and each fix has a message. What is proved of all logs is told in miette_log_reading_laws.
+No text of them has a link, and each fix has a message. What is proved of all logs is told in miette_read_laws.
 
 The last line is 'N passed, M failed', and the exit status is 0 only where nothing failed."""
 import json

@@ -31,10 +31,10 @@ KEEPING = (
     "debug",
     "display",
     "fill",
-    "append_whole",
+    "append_all_or_nothing",
     "write_report",
-    "print_to",
-    "print_on",
+    "print_to_writer",
+    "print_with_outputs",
     "render_report",
 )
 HANDING = (
@@ -50,9 +50,9 @@ NO_GROWTH = (
     "Runs::new",
     "Output::for_text",
     "Output::for_runs",
-    "without_leading",
-    "without_trailing",
-    "columns_of",
+    "trim_leading_feeds",
+    "trim_trailing_feeds",
+    "printed_columns",
     "Edit::delete",
 )
 

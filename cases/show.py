@@ -330,6 +330,7 @@ def live_tried():
     done = []
     for compiler, form, sources, words in runs:
         if shutil.which(compiler) is None:
+            print(f"skipped: what {compiler} writes, since there is none")
             continue
         with tempfile.TemporaryDirectory() as folder:
             for name in files_in(sources):

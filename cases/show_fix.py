@@ -495,6 +495,7 @@ def inputs():
 def beside_cargo():
     """A crate that cargo fixes in one round has the same files after `show --fix`."""
     if shutil.which("cargo") is None:
+        print("skipped: a crate that cargo fixes, since there is no cargo")
         return []
     with tempfile.TemporaryDirectory() as folder:
         ours, its = os.path.join(folder, "ours"), os.path.join(folder, "its")
@@ -514,6 +515,7 @@ def beside_cargo():
 def left_by_cargo():
     """A crate that doesn't compile stays as it is, here and there."""
     if shutil.which("cargo") is None:
+        print("skipped: a crate that cargo leaves, since there is no cargo")
         return []
     with tempfile.TemporaryDirectory() as folder:
         write(folder, {"Cargo.toml": MANIFEST.encode(), "src/main.rs": WRONG.encode()})

@@ -1,13 +1,13 @@
-//! Renders the report of a description many times, and prints how long one text is.
+//! Renders the report of a description many times, and prints the length of its text.
 #![tactic(auto)]
 
-use miette_report::bench::{bench_with, refuse_words};
-use miette_report::words::program_words;
+use miette_report::bench::{bench_with, fail_bench_arguments};
+use miette_report::words::program_arguments;
 use std::process::ExitCode;
 
 fn main(rt: HostRuntime) -> ExitCode {
-    ExitCode::from(match program_words(&rt) {
+    ExitCode::from(match program_arguments(&rt) {
         Ok(words) => bench_with(rt.alloc(), &words, rt.stdin(), rt.stdout(), rt.stderr()),
-        Err(fault) => refuse_words(fault, rt.stderr()),
+        Err(fault) => fail_bench_arguments(fault, rt.stderr()),
     })
 }

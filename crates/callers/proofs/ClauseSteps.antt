@@ -5,36 +5,36 @@ use Rattle.std.specs.List.{AllByRecursion}
 use Rattle.std.specs.Str.{chars}
 use Rattle.bstr.specs.Utf8.{pieces_from}
 use Rattle.unicode_width.specs.Width.{char_width}
-use Rattle.miette_source_lines.specs.rules.Lines.{ends_line, line_of}
+use Rattle.miette_lines.specs.rules.Lines.{ends_line, line_of}
 use Rattle.miette_tree.specs.rules.Tree.{Tree}
 use Rattle.miette_style.specs.rules.Themes.{Styles, theme_of, ansi_styles, no_styles}
 use Rattle.miette_style.specs.rules.Themes.{unicode_characters}
 use Rattle.miette_style.specs.declared.theme.GraphicalTheme.{GraphicalTheme}
-use Rattle.miette_picture_rules.specs.rules.Answers.{unlisted}
-use Rattle.miette_picture_rules.specs.rules.PossibleAnswers.{Appends, IsTextOf}
-use Rattle.miette_printed_laws.specs.laws.Clean.{AreCleanSettings, IsCleanTree}
-use Rattle.miette_printed_laws.specs.laws.PlainTexts.{ArePlain, restyled}
-use Rattle.miette_printed_laws.specs.laws.Headline.{LinesAreShown, MarksAreApart, TextsHang}
-use Rattle.miette_printed_laws.specs.laws.CharacterSets.{AreNarrow}
-use Rattle.miette_picture_rules.specs.rules.PrintedDiagnostics.{HoldsOfPrinted, all_read, diagnostics_of}
-use Rattle.miette_picture_rules.specs.rules.Settings.{Settings, default_settings}
-use Rattle.miette_picture_rules.specs.rules.Snippets.{whole_drawing}
-use Rattle.miette_picture_rules.specs.rules.Text.{report_text}
-use Rattle.miette_picture_rules.specs.views.Handling.{Handling, draws_plain, without_highlighter}
+use Rattle.miette_graphical_rules.specs.rules.Answers.{unlisted}
+use Rattle.miette_graphical_rules.specs.rules.PossibleAnswers.{Appends, IsTextOf}
+use Rattle.miette_graphical_rules.specs.laws.Clean.{AreCleanSettings, IsCleanTree}
+use Rattle.miette_graphical_rules.specs.laws.PlainTexts.{ArePlain, restyled}
+use Rattle.miette_graphical_rules.specs.laws.SnippetTheorems.{LinesAreShown, UnderlinesAreApart, TextsAreConnected}
+use Rattle.miette_graphical_rules.specs.laws.CharacterSets.{AreNarrow}
+use Rattle.miette_graphical_rules.specs.rules.PrintedDiagnostics.{HoldsOfPrinted, all_read, diagnostics_of}
+use Rattle.miette_graphical_rules.specs.rules.GraphicalSettings.{GraphicalSettings, default_settings}
+use Rattle.miette_graphical_rules.specs.rules.Snippets.{whole_drawing}
+use Rattle.miette_graphical_rules.specs.rules.Text.{report_text}
+use Rattle.miette_graphical_rules.specs.views.HandlerState.{HandlerState, draws_plain, without_highlighter}
 use Rattle.miette_runs.specs.rules.Sequences.{erase}
-use Rattle.miette_wrap_rules.specs.rules.ColouredTexts.{AppendsErasing}
+use Rattle.miette_text.specs.rules.ColouredTexts.{AppendsErasing}
 use Rattle.callers.specs.Known.{HasOwnMark, ShowsBothLines, TextHangs, in_colours, plain, warning_tree}
-use Rattle.miette_cells.specs.rules.Widths.{width_of}
+use Rattle.miette_columns.specs.rules.Widths.{width_of}
 
 -- ---- how the handlers are set
 
-pub plain-one : {H : Type 0} (theme : GraphicalTheme) (made : Handling H) → theme_of theme
+pub plain-one : {H : Type 0} (theme : GraphicalTheme) (made : HandlerState H) → theme_of theme
     ≡ record { characters = unicode_characters; styles = no_styles }
     → made ≡ without_highlighter (default_settings (theme_of theme)) → made
     ≡ without_highlighter plain
 plain-one theme made is m = m ∙ ap (λ t. without_highlighter (default_settings t)) is
 
-pub coloured-one : {H : Type 0} (theme : GraphicalTheme) (made : Handling H) → theme_of theme
+pub coloured-one : {H : Type 0} (theme : GraphicalTheme) (made : HandlerState H) → theme_of theme
     ≡ record { characters = unicode_characters; styles = ansi_styles }
     → made ≡ without_highlighter (default_settings (theme_of theme)) → made
     ≡ without_highlighter in_colours
@@ -53,7 +53,7 @@ clean = (
 
 -- ---- what its snippet shows
 
-pub both_lines : {H : Type 0} (h : Handling H) (t : Tree) → h ≡ without_highlighter plain → t ≡ warning_tree
+pub both_lines : {H : Type 0} (h : HandlerState H) (t : Tree) → h ≡ without_highlighter plain → t ≡ warning_tree
     → AllByRecursion (HoldsOfPrinted LinesAreShown h.settings) (diagnostics_of h.settings t) → ShowsBothLines plain
 unfolding ends_line line_of
 both_lines h t p q all =
@@ -66,31 +66,32 @@ both_lines h t p q all =
           (omega arith, tt);
     }
 
-pub own_mark : {H : Type 0} (h : Handling H) (t : Tree) → h ≡ without_highlighter plain → t ≡ warning_tree
-    → AllByRecursion (HoldsOfPrinted MarksAreApart h.settings) (diagnostics_of h.settings t) → HasOwnMark plain
+pub own_mark : {H : Type 0} (h : HandlerState H) (t : Tree) → h ≡ without_highlighter plain → t ≡ warning_tree
+    → AllByRecursion (HoldsOfPrinted UnderlinesAreApart h.settings) (diagnostics_of h.settings t) → HasOwnMark plain
 unfolding ends_line pieces_from char_width
 own_mark h t p q all =
-    let here : AllByRecursion (HoldsOfPrinted MarksAreApart plain) (diagnostics_of plain warning_tree) =
-    subst (λ u. AllByRecursion (HoldsOfPrinted MarksAreApart plain) (diagnostics_of plain u)) q
-    (subst (λ g. AllByRecursion (HoldsOfPrinted MarksAreApart g.settings) (diagnostics_of g.settings t)) p all) in
+    let here : AllByRecursion (HoldsOfPrinted UnderlinesAreApart plain) (diagnostics_of plain warning_tree) =
+    subst (λ u. AllByRecursion (HoldsOfPrinted UnderlinesAreApart plain) (diagnostics_of plain u)) q
+    (subst (λ g. AllByRecursion (HoldsOfPrinted UnderlinesAreApart g.settings) (diagnostics_of g.settings t)) p all) in
     record { columns = (refl, tt); own = here.0.0 1 }
 
-pub text_hangs : {H : Type 0} (h : Handling H) (t : Tree) → h ≡ without_highlighter plain → t ≡ warning_tree
+pub text_hangs : {H : Type 0} (h : HandlerState H) (t : Tree) → h ≡ without_highlighter plain → t ≡ warning_tree
     → AreNarrow width_of unicode_characters
-    → AllByRecursion (HoldsOfPrinted TextsHang h.settings) (diagnostics_of h.settings t) → TextHangs plain
+    → AllByRecursion (HoldsOfPrinted TextsAreConnected h.settings) (diagnostics_of h.settings t) → TextHangs plain
 text_hangs h t p q narrow all =
-    let here : AllByRecursion (HoldsOfPrinted TextsHang plain) (diagnostics_of plain warning_tree) =
-    subst (λ u. AllByRecursion (HoldsOfPrinted TextsHang plain) (diagnostics_of plain u)) q
-    (subst (λ g. AllByRecursion (HoldsOfPrinted TextsHang g.settings) (diagnostics_of g.settings t)) p all) in
+    let here : AllByRecursion (HoldsOfPrinted TextsAreConnected plain) (diagnostics_of plain warning_tree) =
+    subst (λ u. AllByRecursion (HoldsOfPrinted TextsAreConnected plain) (diagnostics_of plain u)) q
+    (subst (λ g. AllByRecursion (HoldsOfPrinted TextsAreConnected g.settings) (diagnostics_of g.settings t)) p all) in
     here.0.0 narrow
 
 -- ---- the plain picture is the text of the definition, and the coloured one is it too, without its colours
 
-are_read : {H : Type 0} (h : Handling H) (t : Tree) (s : Settings) → h ≡ without_highlighter s → t ≡ warning_tree
+are_read : {H : Type 0} (h : HandlerState H) (t : Tree) (s : GraphicalSettings) → h ≡ without_highlighter s → t
+    ≡ warning_tree
     → all_read (diagnostics_of s warning_tree) ≡ true → all_read (diagnostics_of h.settings t) ≡ true
 are_read h t s p r read = ap₂ (λ u w. all_read (diagnostics_of u.settings w)) p r ∙ read
 
-pub plain_text : {H : Type 0} (is_blank : H → Bool) (h : Handling H) (t : Tree) (old new : List ℕ)
+pub plain_text : {H : Type 0} (is_blank : H → Bool) (h : HandlerState H) (t : Tree) (old new : List ℕ)
     → h ≡ without_highlighter plain → t ≡ warning_tree → old ≡ []
     → (draws_plain is_blank h ≡ true → all_read (diagnostics_of h.settings t) ≡ true
     → new ≡ old ++ encode_utf8_all (report_text whole_drawing h.settings t unlisted))
@@ -100,7 +101,7 @@ plain_text is_blank h t old new p r none only =
     ∙ ap (λ o. o ++ encode_utf8_all (report_text whole_drawing h.settings t unlisted)) none
     ∙ ap₂ (λ u w. encode_utf8_all (report_text whole_drawing u.settings w unlisted)) p r
 
-pub bare_text : {H : Type 0} (h : Handling H) (t : Tree) (old new : List ℕ)
+pub bare_text : {H : Type 0} (h : HandlerState H) (t : Tree) (old new : List ℕ)
     → h ≡ without_highlighter in_colours → t ≡ warning_tree → old ≡ []
     → (all_read (diagnostics_of h.settings t) ≡ true → AreCleanSettings h.settings → IsCleanTree t
     → (styles : Styles) → ArePlain styles
@@ -116,10 +117,10 @@ bare_text h t old new p r none coloured tame bare =
 
 -- ---- what every handler appends, where it can be one text alone
 
-pub debugged : {H : Type 0} (is_blank : H → Bool) (h : Handling H) (t : Tree) (old new : List ℕ)
+pub debugged : {H : Type 0} (is_blank : H → Bool) (h : HandlerState H) (t : Tree) (old new : List ℕ)
     → h ≡ without_highlighter plain → t ≡ warning_tree → old ≡ []
     → Appends whole_drawing h.settings (draws_plain is_blank h) t old new
-    → ((s : Settings) (t : Tree) (bytes : List ℕ) → IsTextOf whole_drawing s true t bytes
+    → ((s : GraphicalSettings) (t : Tree) (bytes : List ℕ) → IsTextOf whole_drawing s true t bytes
     → all_read (diagnostics_of s t) ≡ true → bytes ≡ encode_utf8_all (report_text whole_drawing s t unlisted))
     → new ≡ encode_utf8_all (report_text whole_drawing plain warning_tree unlisted)
 debugged is_blank h t old new p r none given law =

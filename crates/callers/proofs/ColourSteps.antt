@@ -6,42 +6,42 @@ use Rattle.miette_tree.specs.views.Handler.{AppendsOne}
 use Rattle.miette_style.specs.rules.Themes.{Styles, no_styles, theme_of, unicode_characters}
 use Rattle.miette_style.specs.declared.theme.GraphicalTheme.{GraphicalTheme}
 use Rattle.miette_highlight.specs.rules.HighlighterCalls.{AnsweredBy, Call}
-use Rattle.miette_highlight.specs.rules.Pieces.{Piece, plain_pieces}
+use Rattle.miette_highlight.specs.rules.Pieces.{StyledPiece, plain_pieces}
 use Rattle.miette_snippet_rules.specs.rules.Highlighting.{AreCallsOn, follows}
 use Rattle.miette_runs.specs.rules.Sequences.{erase}
-use Rattle.miette_wrap_rules.specs.rules.ColouredTexts.{AppendsErasing}
-use Rattle.miette_printed_laws.specs.laws.Clean.{AreCleanSettings, IsCleanTree}
-use Rattle.miette_printed_laws.specs.laws.PlainTexts.{IsColouredText, IsRestyledText, plain_settings}
-use Rattle.miette_printed_laws.specs.laws.PlainTexts.{unhighlighted_answers}
-use Rattle.miette_picture_rules.specs.rules.Answers.{unlisted}
-use Rattle.miette_picture_rules.specs.rules.ByLine.{answers_by}
-use Rattle.miette_picture_rules.specs.rules.Calls.{report_calls}
-use Rattle.miette_picture_rules.specs.rules.PossibleAnswers.{Appends, IsAskedText, IsTextOf}
-use Rattle.miette_picture_rules.specs.rules.PrintedDiagnostics.{all_read, diagnostics_of}
-use Rattle.miette_picture_rules.specs.rules.Settings.{Settings, default_settings}
-use Rattle.miette_picture_rules.specs.rules.Snippets.{whole_drawing}
-use Rattle.miette_picture_rules.specs.rules.Text.{report_text}
-use Rattle.miette_picture_rules.specs.views.Handling.{Handling, follows_of, without_highlighter}
+use Rattle.miette_text.specs.rules.ColouredTexts.{AppendsErasing}
+use Rattle.miette_graphical_rules.specs.laws.Clean.{AreCleanSettings, IsCleanTree}
+use Rattle.miette_graphical_rules.specs.laws.PlainTexts.{IsColouredText, IsRestyledText, plain_settings}
+use Rattle.miette_graphical_rules.specs.laws.PlainTexts.{unhighlighted_answers}
+use Rattle.miette_graphical_rules.specs.rules.Answers.{unlisted}
+use Rattle.miette_graphical_rules.specs.rules.ByLine.{answers_by}
+use Rattle.miette_graphical_rules.specs.rules.Calls.{report_calls}
+use Rattle.miette_graphical_rules.specs.rules.PossibleAnswers.{Appends, IsTextByCalls, IsTextOf}
+use Rattle.miette_graphical_rules.specs.rules.PrintedDiagnostics.{all_read, diagnostics_of}
+use Rattle.miette_graphical_rules.specs.rules.GraphicalSettings.{GraphicalSettings, default_settings}
+use Rattle.miette_graphical_rules.specs.rules.Snippets.{whole_drawing}
+use Rattle.miette_graphical_rules.specs.rules.Text.{report_text}
+use Rattle.miette_graphical_rules.specs.views.HandlerState.{HandlerState, follows_of, without_highlighter}
 use Rattle.callers.specs.Known.{IsAskedPlainly, in_colours, plain, warning_tree}
 use Rattle.callers.proofs.ClauseSteps.{clean}
 
 -- a handler of a theme, with a highlighter
-pub themed-settings : {H : Type 0} (theme : GraphicalTheme) (styles : Styles) (made set : Handling H) (h : H)
+pub themed-settings : {H : Type 0} (theme : GraphicalTheme) (styles : Styles) (made set : HandlerState H) (h : H)
     → theme_of theme ≡ record { characters = unicode_characters; styles = styles }
     → made ≡ without_highlighter (default_settings (theme_of theme)) → set ≡ record made { highlighter = Some h }
     → set.settings ≡ default_settings (record { characters = unicode_characters; styles = styles })
 themed-settings {H} theme styles made set h is m e =
-    let own : set.settings ≡ made.settings = ap (λ (u : Handling H). u.settings) e in
-    let first : made.settings ≡ default_settings (theme_of theme) = ap (λ (u : Handling H). u.settings) m in
+    let own : set.settings ≡ made.settings = ap (λ (u : HandlerState H). u.settings) e in
+    let first : made.settings ≡ default_settings (theme_of theme) = ap (λ (u : HandlerState H). u.settings) m in
     own ∙ first ∙ ap default_settings is
 
-pub read : (s : Settings) (t : Tree) (u : Settings) → s ≡ u → t ≡ warning_tree
+pub read : (s : GraphicalSettings) (t : Tree) (u : GraphicalSettings) → s ≡ u → t ≡ warning_tree
     → all_read (diagnostics_of u warning_tree) ≡ true → all_read (diagnostics_of s t) ≡ true
 read s t u p q r = ap₂ (λ v w. all_read (diagnostics_of v w)) p q ∙ r
 
 -- ---- colours
 
-pub bare_text : (s : Settings) (t : Tree) (old new : List ℕ) → s ≡ in_colours → t ≡ warning_tree → old ≡ []
+pub bare_text : (s : GraphicalSettings) (t : Tree) (old new : List ℕ) → s ≡ in_colours → t ≡ warning_tree → old ≡ []
     → AreCleanSettings in_colours
     → (all_read (diagnostics_of s t) ≡ true → AreCleanSettings s → IsCleanTree t
     → AppendsErasing old new (encode_utf8_all (report_text whole_drawing (plain_settings s) t unlisted)))
@@ -52,7 +52,8 @@ bare_text s t old new p q none tame law =
     ap erase (own.1 ∙ ap (λ o. o ++ own.0) none) ∙ own.2
     ∙ ap₂ (λ v w. encode_utf8_all (report_text whole_drawing (plain_settings v) w unlisted)) p q
 
-pub may_be_printed : (s : Settings) (blank : Bool) (t : Tree) (old new : List ℕ) → s ≡ in_colours → t ≡ warning_tree
+pub may_be_printed : (s : GraphicalSettings) (blank : Bool) (t : Tree) (old new : List ℕ) → s ≡ in_colours → t
+    ≡ warning_tree
     → old ≡ [] → AreCleanSettings in_colours
     → (AreCleanSettings s → IsCleanTree t → AppendsOne (IsColouredText whole_drawing s blank t) old new)
     → IsTextOf whole_drawing plain true warning_tree (erase new)
@@ -68,7 +69,7 @@ may_be_printed s blank t old new p q none tame law =
       own.erased,
     )
 
-pub alike_text : (s u : Settings) (blank : Bool) (t : Tree) (old new before after : List ℕ) → s ≡ in_colours
+pub alike_text : (s u : GraphicalSettings) (blank : Bool) (t : Tree) (old new before after : List ℕ) → s ≡ in_colours
     → u ≡ plain → t ≡ warning_tree → old ≡ [] → before ≡ [] → AreCleanSettings in_colours
     → (all_read (diagnostics_of s t) ≡ true → AreCleanSettings s → IsCleanTree t → (others : List ℕ)
     → IsRestyledText whole_drawing s t others → AppendsErasing old new (erase others))
@@ -95,10 +96,11 @@ may-end : {H : Type 0} (h : Option H) → follows Plainly h []
 may-end None = tt
 may-end (Some h) = tt
 
-pub asked_plainly : {H : Type 0} (h : H) (old : Handling H) (after : Option H) (blank : Bool) (t : Tree)
+pub asked_plainly : {H : Type 0} (h : H) (old : HandlerState H) (after : Option H) (blank : Bool) (t : Tree)
     (before new : List ℕ)
     → old.settings ≡ plain → old.highlighter ≡ Some h → t ≡ warning_tree → before ≡ []
-    → AppendsOne (IsAskedText whole_drawing old.settings blank (AreCallsOn Plainly old.highlighter after) t) before new
+    → AppendsOne (IsTextByCalls whole_drawing old.settings blank (AreCallsOn Plainly old.highlighter after) t) before
+    new
     → IsAskedPlainly new
 asked_plainly h old after blank t before new p o q none appended =
     let given = appended.is_given in
@@ -117,9 +119,9 @@ asked_plainly h old after blank t before new p o q none appended =
           ∙ ap₂ (λ v w. encode_utf8_all (report_text whole_drawing v w answers)) p q;
     }
 
-pub stateless_text : {H : Type 0} (h : H) (old : Handling H) (after : Option H) (t : Tree) (before new : List ℕ)
+pub stateless_text : {H : Type 0} (h : H) (old : HandlerState H) (after : Option H) (t : Tree) (before new : List ℕ)
     → old.settings ≡ plain → old.highlighter ≡ Some h → t ≡ warning_tree → before ≡ []
-    → ((answer : List ℕ → List Piece)
+    → ((answer : List ℕ → List StyledPiece)
     → ((calls : List Call) → follows_of Plainly old calls → AnsweredBy answer calls)
     → follows Plainly after [] → all_read (diagnostics_of old.settings t) ≡ true
     → new ≡ before ++ encode_utf8_all (report_text whole_drawing old.settings t

@@ -4,18 +4,18 @@ use Rattle.std.proofs.Common.{encode_utf8_all, Some}
 use Rattle.std.specs.List.{AllByRecursion}
 use Rattle.miette_tree.specs.rules.Tree.{Tree}
 use Rattle.miette_tree.specs.views.Handler.{AppendsOne}
-use Rattle.miette_printed_laws.proofs.Rows.{bytes-stand}
-use Rattle.miette_printed_laws.specs.laws.FixPictures.{FixesAreTold, TellsChanges}
-use Rattle.miette_printed_laws.specs.laws.Holding.{IsHoldingText, StandsIn}
-use Rattle.miette_picture_rules.specs.rules.DiagnosticText.{fixes_text}
-use Rattle.miette_picture_rules.specs.rules.PrintedDiagnostics.{diagnostics_of}
-use Rattle.miette_picture_rules.specs.rules.Snippets.{drawn_fix, whole_drawing}
-use Rattle.miette_picture_rules.specs.rules.Text.{report_text}
-use Rattle.miette_picture_rules.specs.views.Handling.{Handling, draws_plain, without_highlighter}
+use Rattle.miette_graphical_rules.proofs.Rows.{bytes-stand}
+use Rattle.miette_graphical_rules.specs.laws.FixDiffs.{FixesAreTold, TellsChanges}
+use Rattle.miette_graphical_rules.specs.laws.HeldRows.{IsHoldingText, StartsRowIn}
+use Rattle.miette_graphical_rules.specs.rules.DiagnosticText.{fixes_text}
+use Rattle.miette_graphical_rules.specs.rules.PrintedDiagnostics.{diagnostics_of}
+use Rattle.miette_graphical_rules.specs.rules.Snippets.{drawn_fix, whole_drawing}
+use Rattle.miette_graphical_rules.specs.rules.Text.{report_text}
+use Rattle.miette_graphical_rules.specs.views.HandlerState.{HandlerState, draws_plain, without_highlighter}
 use Rattle.callers.specs.Known.{plain}
 use Rattle.callers.specs.Mended.{FixStands, TellsColon, code_file, colon, colon_tree}
 
-pub fix_stands : {H : Type 0} (is_blank : H → Bool) (h : Handling H) (t : Tree) (old new : List ℕ)
+pub fix_stands : {H : Type 0} (is_blank : H → Bool) (h : HandlerState H) (t : Tree) (old new : List ℕ)
     → h ≡ without_highlighter plain → t ≡ colon_tree → old ≡ []
     → AppendsOne (IsHoldingText whole_drawing h.settings (draws_plain is_blank h) t) old new → FixStands new
 fix_stands is_blank h t old new p q none appended =
@@ -27,11 +27,11 @@ fix_stands is_blank h t old new p q none appended =
     let whole : new ≡ encode_utf8_all text =
     appended.appended ∙ ap (λ o. o ++ appended.text) none ∙ own.text in
     let drawn : Bool → List ℕ = λ fails. fixes_text plain (drawn_fix plain (Some code_file) fails colon ∷ []) in
-    let stands : StandsIn (drawn false) text =
-    subst (λ fails. StandsIn (drawn fails) text) (own.are.0.fixes refl) (own.fixes [] _ refl) in
-    subst (StandsIn (encode_utf8_all (drawn false))) (sym whole) (bytes-stand (drawn false) text stands)
+    let stands : StartsRowIn (drawn false) text =
+    subst (λ fails. StartsRowIn (drawn fails) text) (own.are.0.fixes refl) (own.fixes [] _ refl) in
+    subst (StartsRowIn (encode_utf8_all (drawn false))) (sym whole) (bytes-stand (drawn false) text stands)
 
-pub colon_told : {H : Type 0} (h : Handling H) (t : Tree) → h ≡ without_highlighter plain → t ≡ colon_tree
+pub colon_told : {H : Type 0} (h : HandlerState H) (t : Tree) → h ≡ without_highlighter plain → t ≡ colon_tree
     → AllByRecursion (FixesAreTold h.settings) (diagnostics_of h.settings t) → TellsColon
 colon_told h t p q all =
     let known : AllByRecursion (FixesAreTold plain) (diagnostics_of plain colon_tree) =

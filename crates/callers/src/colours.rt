@@ -1,12 +1,12 @@
-//! What the clauses of a picture on colours and highlighters give a caller.
+//! What the clauses on colors and highlighters tell a caller.
 
 ghost use Rattle.std.specs.Prelude.{◌≡◌, IfOk, true, encode_utf8_all, string_bytes};
-ghost use Rattle.miette_printed_laws.specs.laws.PlainTexts.{plain_settings};
-ghost use Rattle.miette_picture_rules.specs.rules.Answers.{unlisted};
-ghost use Rattle.miette_picture_rules.specs.rules.ByLine.{answers_by};
-ghost use Rattle.miette_picture_rules.specs.rules.PossibleAnswers.{IsTextOf};
-ghost use Rattle.miette_picture_rules.specs.rules.Snippets.{whole_drawing};
-ghost use Rattle.miette_picture_rules.specs.rules.Text.{report_text};
+ghost use Rattle.miette_graphical_rules.specs.laws.PlainTexts.{plain_settings};
+ghost use Rattle.miette_graphical_rules.specs.rules.Answers.{unlisted};
+ghost use Rattle.miette_graphical_rules.specs.rules.ByLine.{answers_by};
+ghost use Rattle.miette_graphical_rules.specs.rules.PossibleAnswers.{IsTextOf};
+ghost use Rattle.miette_graphical_rules.specs.rules.Snippets.{whole_drawing};
+ghost use Rattle.miette_graphical_rules.specs.rules.Text.{report_text};
 ghost use Rattle.miette_highlight.specs.rules.Pieces.{plain_pieces};
 ghost use Rattle.miette_runs.specs.rules.Sequences.{erase};
 ghost use Rattle.miette_tree.specs.views.Report.{tree_of};
@@ -19,11 +19,11 @@ use miette::protocol::Diagnostic;
 use miette::report::Report;
 use miette::source::SourceCode;
 use miette::theme::GraphicalTheme;
+use miette_graphical_laws::laws::themes_law;
 use miette_highlight::highlight::{BlankHighlighter, Highlighter};
-use miette_picture_laws::laws::themes_law;
 use std::alloc::Global;
 
-/// The warning in colours by one highlighter, and in plain styles by another one, each of any kind.
+/// Renders the warning with two highlighters of any kind: once in colors, once in plain styles.
 pub fn highlighted_both<H: Highlighter, K: Highlighter>(
     alloc: Global,
     first: H,
@@ -32,12 +32,12 @@ pub fn highlighted_both<H: Highlighter, K: Highlighter>(
 ) -> Result<Pictures, RenderError>
     requires { tree_of ⟦<Box<dyn Diagnostic> as Diagnostic>⟧.meaning
         ⟦<Box<dyn SourceCode> as SourceCode>⟧.source report.now ≡ warning_tree }
-    // without their colours they are one text: by `themes`, and `ok` of the second
+    // without colors both are the same text, by `themes` and `ok`
     ensures alike { IfOk result (λ p. erase (string_bytes p.coloured) ≡ erase (string_bytes p.plain)) }
-    // which is that of no highlighter: by `colourless`
+    // which is that without a highlighter, by `colourless`
     ensures bare { IfOk result (λ p. erase (string_bytes p.coloured)
         ≡ encode_utf8_all (report_text whole_drawing plain warning_tree unlisted)) }
-    // and may be printed by a handler of plain styles: by `colours`
+    // and a handler with plain styles can print it, by `colours`
     ensures printed { IfOk result (λ p. IsTextOf whole_drawing plain true warning_tree
         (erase (string_bytes p.coloured))) }
 {
@@ -55,13 +55,13 @@ pub fn highlighted_both<H: Highlighter, K: Highlighter>(
     Ok(Pictures { coloured, plain })
 }
 
-/// The warning by the highlighter that leaves each line plain.
+/// Renders the warning with a highlighter that leaves lines plain.
 pub fn draw_blank(alloc: Global, report: &Report) -> Result<String, RenderError>
     requires { tree_of ⟦<Box<dyn Diagnostic> as Diagnostic>⟧.meaning
         ⟦<Box<dyn SourceCode> as SourceCode>⟧.source report.now ≡ warning_tree }
-    // it was asked for the lines, and answered one plain piece for each: by `calls`
+    // the highlighter gave one plain piece for each line, by `calls`
     ensures asked { IfOk result (λ text. IsAskedPlainly (string_bytes text)) }
-    // so that is the text: by `stateless`
+    // the text follows from that, by `stateless`
     ensures text { IfOk result (λ text. string_bytes text ≡ encode_utf8_all
         (report_text whole_drawing plain warning_tree
         (answers_by plain_pieces plain.layout warning_tree))) }

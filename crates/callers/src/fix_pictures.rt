@@ -1,4 +1,4 @@
-//! What a caller knows of the picture of a fix, by the clauses of the call that draws it.
+//! What the contract of `render_report` tells a caller about a fix.
 
 ghost use Rattle.std.specs.Prelude.{◌≡◌, IfOk, string_bytes};
 ghost use Rattle.miette_tree.specs.views.Report.{tree_of};
@@ -13,7 +13,7 @@ use miette::theme::GraphicalTheme;
 use miette_fixes::fix::{Edit, Fix};
 use std::alloc::{AllocError, Global};
 
-/// A line without its colon, and what puts one there.
+/// Returns a report of a line without its colon, with a fix that inserts one.
 pub fn no_colon(alloc: Global) -> Result<Report, AllocError>
     ensures { IfOk result (λ r. tree_of ⟦<Box<dyn Diagnostic> as Diagnostic>⟧.meaning
         ⟦<Box<dyn SourceCode> as SourceCode>⟧.source r ≡ colon_tree) }
@@ -28,13 +28,13 @@ pub fn no_colon(alloc: Global) -> Result<Report, AllocError>
     report.with_fix(alloc, fix)
 }
 
-/// The picture of that report.
+/// Renders that report.
 pub fn draw_fix(alloc: Global, report: &Report) -> Result<String, RenderError>
     requires { tree_of ⟦<Box<dyn Diagnostic> as Diagnostic>⟧.meaning
         ⟦<Box<dyn SourceCode> as SourceCode>⟧.source report.now ≡ colon_tree }
-    // the fix stands in the text: by `holds`
+    // the fix is in the text, by `holds`
     ensures stands { IfOk result (λ text. FixStands (string_bytes text)) }
-    // its rows leave out only lines that the file and that with the colon share: by `fixes`
+    // its rows leave out unchanged lines only, by `fixes`
     ensures lines { IfOk result (λ text. TellsColon) }
 {
     let mut text = String::new(alloc);

@@ -5,7 +5,7 @@ ghost use Rattle.std.specs.Prelude.{◌≡◌, ◌+◌, ◌++◌, IfOk, drop, sl
 use miette_fixes::fix::{Edit, Fix, FixError};
 use std::alloc::Global;
 
-/// A source with a name in place of what a span holds.
+/// Returns the source with a span replaced by a name.
 pub fn renamed(
     alloc: Global,
     source: &[u8],

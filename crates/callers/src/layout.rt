@@ -1,4 +1,4 @@
-//! The snippets of a text by themselves.
+//! The snippets of a text without a report.
 
 ghost use Rattle.std.specs.Prelude.{IfOk};
 ghost use Rattle.miette_protocol.specs.rules.Reading.{plain_source};
@@ -6,7 +6,7 @@ ghost use Rattle.callers.specs.Rows.{AreSnippets};
 
 use miette_highlight::highlight::BlankHighlighter;
 use miette_layout::options::{LayoutOptions, SnippetSettings};
-use miette_layout::page::Page;
+use miette_layout::page::RowPrinter;
 use miette_layout::snippets::snippets;
 use miette_protocol::error::RenderError;
 use miette_protocol::protocol::LabeledSpan;
@@ -14,7 +14,7 @@ use miette_style::theme::GraphicalTheme;
 use miette_text::runs::output::Output;
 use std::alloc::Global;
 
-/// The rows of the labels' snippets, by the usual layout and without a highlighter.
+/// Renders the snippets of these labels in the default layout, without a highlighter.
 pub fn snippets_in(
     alloc: Global,
     theme: &GraphicalTheme,
@@ -31,7 +31,7 @@ pub fn snippets_in(
         layout: &layout,
     };
     let mut highlighter: Option<BlankHighlighter> = None;
-    let page = Page::over(Output::for_text(alloc));
+    let page = RowPrinter::over(Output::for_text(alloc));
     let page = snippets(page, &mut highlighter, &settings, &source, labels)?;
     Ok(page.into_output()?)
 }

@@ -1,6 +1,9 @@
-//! Callers of the library, under contracts of their own and as programs write them. The pages for callers begin with
-//! them, each by the name of its crate, `miette`'s with `printing`. `handlers` says what the clauses of a picture give
-//! of one report, `load` is an error on its way up. What `handlers` and `fix_pictures` draw stands in
+//! Callers of the library with contracts of their own, written like programs. The pages for
+//! callers start with them. A module is named after its crate, and `printing` is on the page of
+//! `miette`.
+//!
+//! `handlers` shows what the contract of a graphical handler says about one report. `load` shows
+//! an error on its way up. The output of `handlers` and `fix_pictures` is in
 //! `cases/worked.jsonl`.
 #![tactic(auto)]
 

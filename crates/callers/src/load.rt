@@ -1,4 +1,4 @@
-//! A file that is read, with what a reader should know when that fails.
+//! Reading a file, with context for its errors.
 
 use miette_protocol::protocol::Severity;
 use miette_tree::miette;
@@ -7,7 +7,7 @@ use std::alloc::{Alloc, Global};
 use std::fs;
 use std::fs::Files;
 
-/// The bytes of a file.
+/// Reads a file.
 fn settings_bytes<R: Files + Alloc<A = Global>>(rt: &R, path: &str) -> Result<Vec<u8>> {
     let alloc = rt.alloc();
     fs::read(rt, path)
@@ -15,7 +15,7 @@ fn settings_bytes<R: Files + Alloc<A = Global>>(rt: &R, path: &str) -> Result<Ve
         .wrap_err_with(alloc, || format!(in alloc; "could not read {path}"))
 }
 
-/// How many bytes a file of settings has; the default settings have none.
+/// Returns the size of a settings file, or 0 without one.
 pub fn settings_len<R: Files + Alloc<A = Global>>(rt: &R, path: &str) -> Result<usize> {
     let alloc = rt.alloc();
     let bytes = settings_bytes(rt, path).wrap_err(alloc, "the settings could not be loaded")?;
@@ -30,7 +30,7 @@ pub fn settings_len_or_hint<R: Files + Alloc<A = Global>>(rt: &R, path: &str) ->
     }
 }
 
-/// The report with a hint beside it, where there is memory for that.
+/// Adds a related report with a hint, if it can be allocated.
 fn beside_a_hint(alloc: Global, path: &str, report: Report) -> Report {
     let hint =
         miette!(in alloc; severity = Severity::Advice, "without {path} the default settings hold");

@@ -1,7 +1,7 @@
-//! A report that is heard.
+//! A narrated report.
 
 ghost use Rattle.std.specs.Prelude.{◌≡◌, IfOk, string_bytes, true};
-ghost use Rattle.miette_narrated.specs.rules.Report.{default_settings, narration, unlisted};
+ghost use Rattle.miette_narrated.specs.rules.Report.{default_narration_settings, narration, unlisted};
 ghost use Rattle.miette_narrated.specs.rules.PossibleAnswers.{fixes_read};
 ghost use Rattle.miette_tree.specs.rules.Reads.{report_reads};
 ghost use Rattle.miette_tree.specs.views.Report.{tree_of};
@@ -13,7 +13,7 @@ use miette_protocol::source::SourceCode;
 use miette_tree::report::Report;
 use std::alloc::Global;
 
-/// The narrated report: where the sources always read, it is this one text.
+/// Renders a narrated report. If the sources always read, there is exactly one such text.
 pub fn narrated<D: Diagnostic, S: SourceCode>(
     alloc: Global,
     report: &Report<D, S>,
@@ -21,7 +21,7 @@ pub fn narrated<D: Diagnostic, S: SourceCode>(
     ensures { IfOk result (λ text.
         report_reads (tree_of D.meaning S.source report.now) ≡ true →
         fixes_read (tree_of D.meaning S.source report.now) ≡ true → string_bytes text
-        ≡ narration default_settings (tree_of D.meaning S.source report.now) unlisted) }
+        ≡ narration default_narration_settings (tree_of D.meaning S.source report.now) unlisted) }
 {
     let mut text = String::new(alloc);
     NarratableReportHandler::new().render(report, &mut text)?;

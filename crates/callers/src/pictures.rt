@@ -1,15 +1,15 @@
-//! What each clause of a picture gives a caller, of a report with a folded label, a line that is cut, a label at the
-//! end of its source, and a cause.
+//! What each clause of `render_report` tells a caller. The report has a folded label, a line that is
+//! cut, a label at the end of its source, and a cause.
 
 ghost use Rattle.std.specs.Prelude.{◌≡◌, ◌++◌, ℕ, List, IfOk, Some, false, true, string_bytes};
 ghost use Rattle.std.specs.List.{Contains};
-ghost use Rattle.miette_printed_laws.specs.laws.Alike.{AreDrawnAlike};
-ghost use Rattle.miette_printed_laws.specs.laws.Paths.{HasPath};
-ghost use Rattle.miette_picture_rules.specs.rules.Answers.{Answers};
-ghost use Rattle.miette_picture_rules.specs.rules.DiagnosticText.{Drawing};
-ghost use Rattle.miette_picture_rules.specs.rules.PrintedDiagnostics.{diagnostics_of};
-ghost use Rattle.miette_picture_rules.specs.rules.Text.{report_text};
-ghost use Rattle.miette_picture_rules.specs.views.Handling.{draws_plain, without_highlighter};
+ghost use Rattle.miette_graphical_rules.specs.laws.Alike.{AreDrawnAlike};
+ghost use Rattle.miette_graphical_rules.specs.laws.Paths.{HasPath};
+ghost use Rattle.miette_graphical_rules.specs.rules.Answers.{Answers};
+ghost use Rattle.miette_graphical_rules.specs.rules.DiagnosticText.{Drawing};
+ghost use Rattle.miette_graphical_rules.specs.rules.PrintedDiagnostics.{diagnostics_of};
+ghost use Rattle.miette_graphical_rules.specs.rules.Text.{report_text};
+ghost use Rattle.miette_graphical_rules.specs.views.HandlerState.{draws_plain, without_highlighter};
 ghost use Rattle.miette_tree.specs.views.Report.{tree_of};
 ghost use Rattle.callers.specs.Sums.{CauseStands, CauseStays, EndStandsAfter, IsLeftOut, LongIsCut, RowsStand};
 ghost use Rattle.callers.specs.Sums.{NamesRows, depth_tree, narrow};
@@ -17,16 +17,16 @@ ghost use Rattle.callers.specs.Sums.{printed_cause, printed_sum, sum_tree};
 
 use miette::diagnostic::MietteDiagnostic;
 use miette::error::RenderError;
-use miette::handlers::GraphicalReportHandler;
+use miette::handlers::{GraphicalReportHandler, SetLayout};
 use miette::protocol::Diagnostic;
 use miette::report::{OwnedSource, Report};
 use miette::source::SourceCode;
 use miette::theme::GraphicalTheme;
+use miette_graphical_laws::laws::{levels_law, paths_law, printed_law};
 use miette_highlight::highlight::{BlankHighlighter, Highlighter};
-use miette_picture_laws::laws::{levels_law, paths_law, printed_law};
 use std::alloc::{AllocError, Global};
 
-/// The cause: a setting that is too large.
+/// Returns the cause: a setting that is too large.
 pub fn depth(alloc: Global) -> Result<Report, AllocError>
     ensures { IfOk result (λ r. tree_of ⟦<Box<dyn Diagnostic> as Diagnostic>⟧.meaning
         ⟦<Box<dyn SourceCode> as SourceCode>⟧.source r ≡ depth_tree) }
@@ -38,7 +38,7 @@ pub fn depth(alloc: Global) -> Result<Report, AllocError>
     Ok(Report::new(labelled).with_owned_source(source))
 }
 
-/// A call over six lines, below it a long line at whose end a term is missing, and the cause.
+/// Returns a report of a call over six lines, and of a long line that lacks a term at its end.
 pub fn sum(alloc: Global) -> Result<Report, AllocError>
     ensures { IfOk result (λ r. tree_of ⟦<Box<dyn Diagnostic> as Diagnostic>⟧.meaning
         ⟦<Box<dyn SourceCode> as SourceCode>⟧.source r ≡ sum_tree) }
@@ -58,7 +58,8 @@ pub fn sum(alloc: Global) -> Result<Report, AllocError>
     }
 }
 
-/// A handler that cuts lines of more than 12 columns, folds labels of more than two lines, and draws labels at the end.
+/// Returns a handler that cuts lines after 12 columns, folds labels over more than two lines, and
+/// draws labels at the end of the source.
 pub fn narrow_handler<H: Highlighter>(
     alloc: Global,
 ) -> Result<GraphicalReportHandler<H>, AllocError>
@@ -67,29 +68,29 @@ pub fn narrow_handler<H: Highlighter>(
     let theme = GraphicalTheme::unicode_nocolor(alloc)?;
     Ok(
         GraphicalReportHandler::themed(theme)
-            .with_line_columns(12)
-            .with_label_lines(2)
-            .with_end_labels(),
+            .line_columns(12)
+            .label_lines(2)
+            .end_labels(true),
     )
 }
 
-/// The picture of that report.
+/// Renders that report.
 pub fn draw_sum(alloc: Global, report: &Report) -> Result<String, RenderError>
     requires { tree_of ⟦<Box<dyn Diagnostic> as Diagnostic>⟧.meaning
         ⟦<Box<dyn SourceCode> as SourceCode>⟧.source report.now ≡ sum_tree }
-    // each row of its snippet stands in the text, on a line of its own: by `holds`
+    // the text contains each row of its snippet on its own line, by `holds`
     ensures rows { IfOk result (λ text. RowsStand (string_bytes text)) }
-    // so do those of its cause that have room, below the first, under the arrow: by `levels_law`
+    // and each row of the cause that fits, under the arrow, by `levels_law`
     ensures under { IfOk result (λ text. CauseStands (string_bytes text)) }
-    // its long line is cut, the first line of the call isn't: by `cuts`
+    // the long line is cut, the first line of the call isn't, by `cuts`
     ensures cut { IfOk result (λ text. LongIsCut) }
-    // its cause is drawn as without a limit: by `fits`
+    // the cause is drawn as without a limit, by `fits`
     ensures cause { IfOk result (λ text. CauseStays) }
-    // the label at the end stands after what is shown of the long line: by `ends`
+    // the label at the end is after the shown part of the long line, by `ends`
     ensures end { IfOk result (λ text. EndStandsAfter) }
-    // the third line and the fourth one are left out, inside the call: by `folds`
+    // the third and fourth lines are left out inside the call, by `folds`
     ensures folded { IfOk result (λ text. IsLeftOut) }
-    // a row of each of these by its bytes: by `holds`, `levels_law`, and definitions, which compute
+    // one row of each by its bytes, by `holds`, `levels_law` and computation
     ensures named { IfOk result (λ text. NamesRows (string_bytes text)) }
 {
     levels_law();
@@ -99,18 +100,19 @@ pub fn draw_sum(alloc: Global, report: &Report) -> Result<String, RenderError>
     Ok(text)
 }
 
-/// Appends that picture, and says whether it did; the highlighter is one of any kind.
+/// Appends that report with a highlighter of any kind. Returns whether it did.
 pub fn add_sum<H: Highlighter>(
     out: &mut String,
     handler: &mut GraphicalReportHandler<H>,
     report: &Report,
 ) -> bool
-    // where it isn't drawn, the text is as before: by `err`
+    // if it isn't rendered, the text is as before, by `err`
     ensures none { result ≡ false → string_bytes out.new ≡ string_bytes out.old }
-    // where it is, the old text stays in front: by `ok`
+    // if it is, the old text stays in front, by `ok`
     ensures some { result ≡ true →
         (text : List ℕ) × (string_bytes out.new ≡ string_bytes out.old ++ text) }
-    // the handler keeps its settings, and leaves lines plain if it did: by `settings`, `blank`
+    // the handler keeps its settings, and still leaves lines plain if it did before, by
+    // `settings` and `blank`
     ensures settings { handler.new.settings ≡ handler.old.settings }
     ensures plain { draws_plain H.is_blank handler.new ≡ draws_plain H.is_blank handler.old }
 {
@@ -120,7 +122,7 @@ pub fn add_sum<H: Highlighter>(
     }
 }
 
-/// That picture, where memory isn't refused: its sources always read, so nothing else can be, by `refused`.
+/// Renders that report. Allocation is the only error: the sources always read, by `refused`.
 pub fn sum_or_memory(alloc: Global, report: &Report) -> Result<String, AllocError>
     requires { tree_of ⟦<Box<dyn Diagnostic> as Diagnostic>⟧.meaning
         ⟦<Box<dyn SourceCode> as SourceCode>⟧.source report.now ≡ sum_tree }
@@ -134,7 +136,7 @@ pub fn sum_or_memory(alloc: Global, report: &Report) -> Result<String, AllocErro
     }
 }
 
-/// The cause is among the printed diagnostics, since it stands at a path, and each of those stands at one.
+/// The cause is printed, because each diagnostic at a path is.
 pub fn cause_is_printed()
     ensures printed { Contains (diagnostics_of narrow sum_tree) printed_cause }
     ensures path { HasPath narrow sum_tree printed_cause }
@@ -142,8 +144,7 @@ pub fn cause_is_printed()
     paths_law();
 }
 
-/// Of no source but these two does the text hold a snippet: drawings that are the same for both diagnostics give the
-/// same text, whatever they are for others.
+/// The text has no other snippets: it depends only on how these two diagnostics are drawn.
 pub fn no_others_are_drawn()
     ensures { (drawing other : Drawing) (a : Answers) → AreDrawnAlike drawing other printed_sum →
         AreDrawnAlike drawing other printed_cause →

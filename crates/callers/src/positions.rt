@@ -1,15 +1,15 @@
-//! Where spans stand, as an editor says it.
+//! Spans as editors give positions.
 
 ghost use Rattle.std.specs.Prelude.{◌≡◌, IfOk, map};
 ghost use Rattle.miette_positions.specs.rules.Regions.{region_of};
-ghost use Rattle.miette_positions.specs.declared.place.PositionEncoding.TheVariants.{Utf16};
+ghost use Rattle.miette_positions.specs.declared.position.PositionEncoding.TheVariants.{Utf16};
 
 use miette_positions::index::PositionIndex;
-use miette_positions::place::{PositionEncoding, Region};
+use miette_positions::position::{PositionEncoding, Region};
 use miette_protocol::protocol::SourceSpan;
 use std::alloc::{AllocError, Global};
 
-/// The region of each span of a source, in UTF-16.
+/// Returns the region of each span, in UTF-16 code units.
 pub fn regions(
     alloc: Global,
     source: &[u8],

@@ -1,4 +1,4 @@
-//! A program that fails.
+//! A program that prints its error.
 
 ghost use Rattle.std.specs.Prelude.{◌≡◌};
 ghost use Rattle.std.specs.Process.{exit_status};
@@ -10,7 +10,7 @@ use miette::terminal::Streams;
 use std::env::Env;
 use std::process::ExitCode;
 
-/// Prints on standard error why a program failed, with two lines of context; the status is 1.
+/// Prints the report to standard error with two context lines. The exit code is 1.
 pub fn fail<R: Env + AllocGlobal + Streams>(rt: &R, report: &Report) -> ExitCode
     ensures { exit_status result ≡ 1 }
 {

@@ -1,14 +1,14 @@
-//! A place that a tool gives by line and column, and the lines around it.
+//! A label at a line and column, and the lines around it.
 
 ghost use Rattle.std.specs.Prelude.{◌≡◌, ◌-◌, IfOk, IfSome};
 ghost use Rattle.miette_protocol.specs.rules.Location.{IsLocation};
-ghost use Rattle.miette_source_lines.specs.rules.Lines.{line_of};
+ghost use Rattle.miette_lines.specs.rules.Lines.{line_of};
 
 use miette_protocol::protocol::{LabeledSpan, SourceSpan};
 use miette_protocol::source::SourceCode;
 use std::alloc::{AllocError, Global};
 
-/// An empty label at a line and a column, both from 1, as a compiler names them.
+/// Returns an empty label at a one-based line and column.
 pub fn label_at(
     alloc: Global,
     text: &str,
@@ -21,7 +21,8 @@ pub fn label_at(
     LabeledSpan::at(alloc, span, "here")
 }
 
-/// The first line that is shown around a span, from 0, where the span is in bounds.
+/// Returns the zero-based number of the first line that is shown around a span, if the span is in
+/// bounds.
 pub fn first_line_shown(source: &[u8], span: &SourceSpan) -> Option<usize>
     ensures { IfSome result (λ line. line ≡ line_of source.now span.now.offset - 1) }
 {

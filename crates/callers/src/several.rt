@@ -7,18 +7,18 @@ use miette::handlers::BriefReportHandler;
 use miette::print::Outputs;
 use miette::report::Report;
 use miette::reporter::{Form, Reporter};
-use miette_brief::laws::a_read_report_has_one_text;
+use miette_brief::laws::brief_report_has_one_text;
 use std::alloc::{AllocError, Global};
 
-/// A run whose reports stand in a log, in rows as compilers write them.
+/// A session that writes brief reports to a log.
 pub type Log = Reporter<BriefReportHandler, Vec<u8>, Vec<u8>>;
 
-/// A log of two reports: their rows, one after the other, and nothing else, unless the run says why
-/// one isn't there.
+/// Returns a log of two reports, which has nothing but their lines. If one can't be rendered, the
+/// session says why.
 pub fn failed_twice(alloc: Global) -> Result<Log, AllocError>
     ensures { IfOk result (λ log. log.failure ≡ None → log.outputs.writer.items ≡ both_rows) }
 {
-    a_read_report_has_one_text();
+    brief_report_has_one_text();
     let full: Report = Report::msg(alloc, "the disk is full")?;
     let host: Report = Report::msg(alloc, "no such host")?;
     let outputs = Outputs::new(Vec::new(alloc), Vec::new(alloc));

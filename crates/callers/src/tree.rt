@@ -1,8 +1,8 @@
-//! Reports over boxes, as users write them: what a message in front keeps.
+//! Reports over boxes as users write them, and what a context keeps.
 
 ghost use Rattle.std.specs.Prelude.{◌≡◌, ◌⊎◌, IfOk, IfErr, codes};
 ghost use Rattle.miette_tree.specs.rules.Diagnosis.{plain_diagnosis};
-ghost use Rattle.miette_tree.specs.rules.Tree.{head, alone, with_fix, with_snippets, wrapped_tree};
+ghost use Rattle.miette_tree.specs.rules.Tree.{head, single_report, with_fix, with_snippets, wrapped_tree};
 ghost use Rattle.miette_tree.specs.views.Owned.{owned_source};
 ghost use Rattle.miette_tree.specs.views.Report.{tree_of, out_of_memory_alone};
 
@@ -12,7 +12,7 @@ use miette_protocol::source::SourceCode;
 use miette_tree::report::{OwnedSource, Report, Result, WrapErr};
 use std::alloc::{AllocError, Global};
 
-/// A report with a text in front has the labels that it had, and the text as its message.
+/// Adds a context: the report keeps its labels, and has the text as its message.
 pub fn under(alloc: Global, report: Report, text: &str) -> Result<Report, Report>
     ensures labels { IfOk result (λ r.
         let tree = tree_of ⟦<Box<dyn Diagnostic> as Diagnostic>⟧.meaning
@@ -26,19 +26,19 @@ pub fn under(alloc: Global, report: Report, text: &str) -> Result<Report, Report
     report.wrap_err(alloc, text)
 }
 
-/// What a step gave; where it failed, its report says so.
+/// Returns a step's value, or its report with a context.
 pub fn step(alloc: Global, outcome: Result<u32>) -> Result<u32>
     ensures ok { IfOk outcome (λ value. result ≡ Ok value) }
     ensures err { IfErr outcome (λ report. IfErr result (λ r.
         let tree = tree_of ⟦<Box<dyn Diagnostic> as Diagnostic>⟧.meaning
         ⟦<Box<dyn SourceCode> as SourceCode>⟧.source in
         (tree r ≡ wrapped_tree (codes "the step failed") (tree report))
-        ⊎ (tree r ≡ alone (plain_diagnosis out_of_memory_alone)))) }
+        ⊎ (tree r ≡ single_report (plain_diagnosis out_of_memory_alone)))) }
 {
     outcome.wrap_err(alloc, "the step failed")
 }
 
-/// A report with labels over another source too, and with a fix of its own source.
+/// Returns a report with labels over a second source, and a fix of its own source.
 pub fn over_both(
     alloc: Global,
     report: Report,

@@ -1,8 +1,8 @@
-//! What a report keeps beside its diagnostic: labels over further sources, and fixes.
+//! Calls that attach labels over further sources, and fixes, to a report.
 
 use crate::fixes::{COLON, colon_fix};
-use crate::fixtures::{Label, M, Part, Written, list_of, report_with, section_of};
-use crate::rows::{Called, REFUSED, Rows, VALUE};
+use crate::fixtures::{Label, M, Part, WrittenDiagnostic, list_of, report_with, section_of};
+use crate::rows::{CallResult, REFUSED, Rows, VALUE};
 use miette::protocol::Diagnostic;
 use miette::report::{Report, ReportKind, Snippets};
 use miette::source::SourceCode;
@@ -11,14 +11,14 @@ use std::alloc::{AllocError, Global};
 
 /// The calls of this module.
 #[derive(Clone, Copy)]
-pub enum Call {
-    /// Those that make this of the report `oops!`.
+pub enum PartCall {
+    /// Adds these parts to the report `oops!`.
     Parts(&'static [Part]),
     Macro,
 }
 
-/// `oops!`, and nothing else.
-pub static OOPS: Written = Written {
+/// A report with the message `oops!`.
+pub static OOPS: WrittenDiagnostic = WrittenDiagnostic {
     message: "oops!",
     ..M
 };
@@ -29,38 +29,41 @@ const FIRST: Part = Part::Snippets(b"a\n", &[(0, 1, 0, "")]);
 /// A label on a line feed.
 const BEHIND: &[Label] = &[(1, 1, 0, "")];
 
-/// The message `m`.
+/// A fix with the message `m` and no edits.
 const NO_EDIT: Part = Part::Fix(("m", 0, 0, ""));
 
 /// `Report::with_snippets`.
-pub const WITH_SNIPPETS: Call = Call::Parts(&[FIRST]);
+pub const WITH_SNIPPETS: PartCall = PartCall::Parts(&[FIRST]);
 
 /// `Report::with_owned_snippets`.
-pub const WITH_OWNED_SNIPPETS: Call = Call::Parts(&[FIRST, Part::OwnedSnippets(b"b\n", BEHIND)]);
+pub const WITH_OWNED_SNIPPETS: PartCall = PartCall::Parts(&[
+    FIRST,
+    Part::OwnedSnippets(b"b\n", BEHIND),
+]);
 
 /// `Report::with_all_snippets`.
-pub const WITH_ALL_SNIPPETS: Call = Call::Parts(&[
+pub const WITH_ALL_SNIPPETS: PartCall = PartCall::Parts(&[
     FIRST,
     Part::AllSnippets(b"b\n", &[(2, 1, 0, "")]),
 ]);
 
 /// `Report::with_fix`.
-pub const WITH_FIX: Call = Call::Parts(&[NO_EDIT, Part::Fix(COLON)]);
+pub const WITH_FIX: PartCall = PartCall::Parts(&[NO_EDIT, Part::Fix(COLON)]);
 
 /// `Report::with_fixes`.
-pub const WITH_FIXES: Call = Call::Parts(&[NO_EDIT, Part::AllFixes(COLON)]);
+pub const WITH_FIXES: PartCall = PartCall::Parts(&[NO_EDIT, Part::AllFixes(COLON)]);
 
-/// Makes a call.
+/// Makes a call and prints its row.
 ///
 /// # Errors
-/// Where memory is refused for what it is given.
-pub fn make(alloc: Global, call: Call, row: &mut Rows) -> Called {
+/// If allocating the call's arguments fails.
+pub fn make(alloc: Global, call: PartCall, row: &mut Rows) -> CallResult {
     match call {
-        Call::Parts(parts) => match report_with(alloc, &OOPS, parts) {
+        PartCall::Parts(parts) => match report_with(alloc, &OOPS, parts) {
             Ok(report) => attached(row, &report),
             Err(AllocError) => row.refused(),
         },
-        Call::Macro => made_by_macro(row, &by_macro(alloc)?),
+        PartCall::Macro => made_by_macro(row, &by_macro(alloc)?),
     }
     Ok(())
 }
@@ -86,7 +89,7 @@ fn made_by_macro(row: &mut Rows, report: &Report) {
     }
 }
 
-/// A report's message and code, its labels over further sources, and its fixes.
+/// Prints a report's message and code, its labels over further sources, and its fixes.
 fn attached<D: Diagnostic, S: SourceCode>(row: &mut Rows, report: &Report<D, S>) {
     row.text(VALUE);
     row.text(report.message());

@@ -1,7 +1,7 @@
-//! Diagnostics.
+//! Calls of diagnostics.
 
-use crate::fixtures::{Label, M, Part, Written, diagnostic_of, labels_of};
-use crate::rows::{Called, Rows};
+use crate::fixtures::{Label, M, Part, WrittenDiagnostic, diagnostic_of, labels_of};
+use crate::rows::{CallResult, Rows};
 use miette::diagnostic::MietteDiagnostic;
 use miette::protocol::{LabeledSpan, Severity};
 use miette_tree::diagnostic;
@@ -9,7 +9,7 @@ use std::alloc::{AllocError, Global};
 
 /// The calls of this module.
 #[derive(Clone, Copy)]
-pub enum Call {
+pub enum DiagnosticCall {
     New,
     Copied,
     WithCode,
@@ -23,17 +23,19 @@ pub enum Call {
     Macro,
 }
 
-/// Makes a call.
+/// Makes a call and prints its row.
 ///
 /// # Errors
-/// Where memory is refused for what it is given.
-pub fn make(alloc: Global, call: Call, row: &mut Rows) -> Called {
+/// If allocating the call's arguments fails.
+pub fn make(alloc: Global, call: DiagnosticCall, row: &mut Rows) -> CallResult {
     match call {
-        Call::New => row.answer(MietteDiagnostic::new(alloc, "oops!")),
-        Call::Macro => row.answer(by_macro(alloc)),
-        Call::Clones => return row.clones(full_diagnostic(alloc)),
-        Call::WithLabel | Call::AndLabel => return with_label(alloc, call, row),
-        Call::WithLabelsFrom | Call::AndLabels => return with_labels(alloc, call, row),
+        DiagnosticCall::New => row.answer(MietteDiagnostic::new(alloc, "oops!")),
+        DiagnosticCall::Macro => row.answer(by_macro(alloc)),
+        DiagnosticCall::Clones => return row.clones(full_diagnostic(alloc)),
+        DiagnosticCall::WithLabel | DiagnosticCall::AndLabel => return with_label(alloc, call, row),
+        DiagnosticCall::WithLabelsFrom | DiagnosticCall::AndLabels => return with_labels(
+            alloc, call, row,
+        ),
         _ => {
             let full = given_diagnostic(alloc, row)?;
             row.answer(changed(alloc, call, full));
@@ -49,26 +51,26 @@ fn by_macro(alloc: Global) -> Result<MietteDiagnostic, AllocError> {
     )
 }
 
-/// The diagnostic that a call is given, which the row shows.
+/// Returns the diagnostic that a call starts from, and prints it.
 ///
 /// # Errors
-/// Where memory is refused.
+/// If allocation fails.
 pub fn given_diagnostic(alloc: Global, row: &mut Rows) -> Result<MietteDiagnostic, AllocError> {
     let full = full_diagnostic(alloc)?;
     row.value(&full);
     Ok(full)
 }
 
-/// What a call makes of a diagnostic.
+/// Returns the diagnostic after a call.
 fn changed(
     alloc: Global,
-    call: Call,
+    call: DiagnosticCall,
     full: MietteDiagnostic,
 ) -> Result<MietteDiagnostic, AllocError> {
     match call {
-        Call::WithCode => full.with_code(alloc, "c::d"),
-        Call::WithHelp => full.with_help(alloc, "try again"),
-        Call::WithUrl => full.with_url(alloc, "http://y"),
+        DiagnosticCall::WithCode => full.with_code(alloc, "c::d"),
+        DiagnosticCall::WithHelp => full.with_help(alloc, "try again"),
+        DiagnosticCall::WithUrl => full.with_url(alloc, "http://y"),
         _ => {
             let copy = MietteDiagnostic::copied(alloc, &full);
             drop(full);
@@ -77,29 +79,29 @@ fn changed(
     }
 }
 
-fn with_label(alloc: Global, call: Call, row: &mut Rows) -> Called {
+fn with_label(alloc: Global, call: DiagnosticCall, row: &mut Rows) -> CallResult {
     let label = LabeledSpan::at(alloc, (0, 6), "and this")?;
     let full = given_diagnostic(alloc, row)?;
     row.answer(match call {
-        Call::WithLabel => full.with_label(alloc, label),
+        DiagnosticCall::WithLabel => full.with_label(alloc, label),
         _ => full.and_label(alloc, label),
     });
     Ok(())
 }
 
-fn with_labels(alloc: Global, call: Call, row: &mut Rows) -> Called {
+fn with_labels(alloc: Global, call: DiagnosticCall, row: &mut Rows) -> CallResult {
     let labels = labels_of(alloc, two_labels(call))?;
     let full = given_diagnostic(alloc, row)?;
     row.answer(match call {
-        Call::AndLabels => full.and_labels(alloc, labels),
+        DiagnosticCall::AndLabels => full.and_labels(alloc, labels),
         _ => full.with_labels_from(alloc, labels),
     });
     Ok(())
 }
 
-fn two_labels(call: Call) -> &'static [Label] {
+fn two_labels(call: DiagnosticCall) -> &'static [Label] {
     match call {
-        Call::AndLabels => &TWO,
+        DiagnosticCall::AndLabels => &TWO,
         _ => &UNDERLINED,
     }
 }
@@ -110,14 +112,14 @@ static TWO: [Label; 2] = [(0, 6, 0, "first"), (18, 4, 0, "second")];
 /// Two labels without a text.
 static UNDERLINED: [Label; 2] = [(4, 0, 0, ""), (7, 0, 0, "")];
 
-/// Two texts below a report.
+/// Two cause texts.
 pub static CAUSES: [Part; 1] = [Part::CauseTexts(&["b", "c"])];
 
 /// A diagnostic with all parts.
-pub static FULL: Written = ALL_PARTS;
+pub static FULL: WrittenDiagnostic = ALL_PARTS;
 
-/// The same.
-pub const ALL_PARTS: Written = Written {
+/// The same as one part.
+pub const ALL_PARTS: WrittenDiagnostic = WrittenDiagnostic {
     message: "oops!",
     code: "a::b",
     url: "http://x",
@@ -127,10 +129,10 @@ pub const ALL_PARTS: Written = Written {
     ..M
 };
 
-/// A diagnostic with all parts. Its labels have no room for more.
+/// Returns a diagnostic with all parts. The capacity of its labels is exact.
 ///
 /// # Errors
-/// Where memory is refused.
+/// If allocation fails.
 pub fn full_diagnostic(alloc: Global) -> Result<MietteDiagnostic, AllocError> {
     diagnostic_of(alloc, &FULL)
 }

@@ -1,7 +1,7 @@
-//! Worked reports, by each handler: `calls report`, or `calls report NAME HANDLER` for one row.
+//! Example reports by each handler: `calls report`, or `calls report NAME HANDLER` for one row.
 
-use crate::fixtures::{Example, Made, report_over};
-use crate::rows::{Called, Done, Rows};
+use crate::fixtures::{Example, TestReport, report_over};
+use crate::rows::{CallResult, RowResult, Rows};
 use crate::stopping::{Reads, Red};
 use crate::themes::terminal;
 use crate::worked::{TABLES, table};
@@ -16,7 +16,7 @@ use std::rc::Rc;
 
 /// A handler.
 #[derive(Clone, Copy)]
-pub enum By {
+pub enum HandlerKind {
     Graphical,
     Nested,
     Highlighted,
@@ -33,31 +33,31 @@ pub enum By {
 }
 
 /// The handlers.
-pub fn all_handlers() -> &'static [(&'static str, By)] {
+pub fn all_handlers() -> &'static [(&'static str, HandlerKind)] {
     &HANDLERS
 }
 
-static HANDLERS: [(&str, By); 13] = [
-    ("graphical", By::Graphical),
-    ("nested", By::Nested),
-    ("highlighted", By::Highlighted),
-    ("chosen", By::Chosen),
-    ("wanting", By::Wanting),
-    ("nested wanting", By::NestedWanting),
-    ("chosen wanting", By::ChosenWanting),
-    ("chosen narrated", By::ChosenNarrated),
-    ("narrated", By::Narrated),
-    ("brief", By::Brief),
-    ("github", By::Github),
-    ("json", By::Json),
-    ("debug", By::Debug),
+static HANDLERS: [(&str, HandlerKind); 13] = [
+    ("graphical", HandlerKind::Graphical),
+    ("nested", HandlerKind::Nested),
+    ("highlighted", HandlerKind::Highlighted),
+    ("chosen", HandlerKind::Chosen),
+    ("wanting", HandlerKind::Wanting),
+    ("nested wanting", HandlerKind::NestedWanting),
+    ("chosen wanting", HandlerKind::ChosenWanting),
+    ("chosen narrated", HandlerKind::ChosenNarrated),
+    ("narrated", HandlerKind::Narrated),
+    ("brief", HandlerKind::Brief),
+    ("github", HandlerKind::Github),
+    ("json", HandlerKind::Json),
+    ("debug", HandlerKind::Debug),
 ];
 
-/// The rows that are asked for: those of a report, of a handler, or all. Of a source that stops the first read fails.
+/// Prints the rows of one report, of one handler, or of all. For a source that fails, the first read does.
 ///
 /// # Errors
-/// `Write` where standard output took no more.
-pub fn rows_of(alloc: Global, rows: &mut Rows, name: &str, handler: &str) -> Done {
+/// `Write` if writing to standard output fails.
+pub fn rows_of(alloc: Global, rows: &mut Rows, name: &str, handler: &str) -> RowResult {
     let reads = Reads::new(alloc)?;
     for number in 0..TABLES {
         for example in table(number) {
@@ -69,14 +69,14 @@ pub fn rows_of(alloc: Global, rows: &mut Rows, name: &str, handler: &str) -> Don
     Ok(())
 }
 
-/// The rows of a report that are asked for.
+/// Prints the rows of a report.
 fn rows_by(
     alloc: Global,
     rows: &mut Rows,
     example: &Example,
     handler: &str,
     reads: &Rc<Reads>,
-) -> Done {
+) -> RowResult {
     for by in all_handlers() {
         if is_asked(handler, by.0) {
             reads.begin(1, false);
@@ -86,19 +86,19 @@ fn rows_by(
     Ok(())
 }
 
-/// Whether a name is asked for: each one is where no word says which.
+/// Returns whether a name is asked for. An empty word asks for every name.
 fn is_asked(word: &str, name: &str) -> bool {
     word.is_empty() || word == name
 }
 
-/// The row of a report by a handler.
+/// Prints the row of a report by a handler.
 fn row_by(
     alloc: Global,
     row: &mut Rows,
     example: &Example,
-    (handler, by): (&str, By),
+    (handler, by): (&str, HandlerKind),
     reads: &Rc<Reads>,
-) -> Done {
+) -> RowResult {
     row.text(example.name);
     row.text(", ");
     row.text(handler);
@@ -106,58 +106,64 @@ fn row_by(
     row.end(called)
 }
 
-/// The text `> ` and what a handler with this number of context lines puts after it.
+/// Appends the report by a handler with this number of context lines to the text `> `.
 ///
 /// # Errors
-/// Where memory is refused for the report or the handler.
+/// If allocating the report or the handler fails.
 pub fn render_example(
     alloc: Global,
     row: &mut Rows,
     example: &Example,
-    (by, lines): (By, usize),
+    (by, lines): (HandlerKind, usize),
     reads: &Rc<Reads>,
-) -> Called {
+) -> CallResult {
     let report = report_over(alloc, &example.first, example.parts, reads)?;
     tell(alloc, row, by, &report, lines)
 }
 
-/// The same of a report that was made.
+/// The same for a report that is there already.
 ///
 /// # Errors
-/// Where memory is refused for the handler.
-pub fn tell(alloc: Global, row: &mut Rows, by: By, report: &Made, lines: usize) -> Called {
+/// If allocating the handler fails.
+pub fn tell(
+    alloc: Global,
+    row: &mut Rows,
+    by: HandlerKind,
+    report: &TestReport,
+    lines: usize,
+) -> CallResult {
     match by {
-        By::Narrated => {
+        HandlerKind::Narrated => {
             let telling = NarratableReportHandler::new().with_context_lines(lines);
             render_by(alloc, row, Ok(telling), report)
         }
-        By::Brief => render_by(alloc, row, Ok(BriefReportHandler::new()), report),
-        By::Github => {
+        HandlerKind::Brief => render_by(alloc, row, Ok(BriefReportHandler::new()), report),
+        HandlerKind::Github => {
             let telling = BriefReportHandler::new().with_form(Form::Github);
             render_by(alloc, row, Ok(telling), report)
         }
-        By::Json => render_by(alloc, row, Ok(JSONReportHandler::new()), report),
-        By::Debug => render_by(alloc, row, Ok(DebugReportHandler::new()), report),
-        By::Graphical => render_by(alloc, row, plain_drawing(alloc, lines), report),
-        By::Chosen | By::ChosenWanting | By::ChosenNarrated => {
+        HandlerKind::Json => render_by(alloc, row, Ok(JSONReportHandler::new()), report),
+        HandlerKind::Debug => render_by(alloc, row, Ok(DebugReportHandler::new()), report),
+        HandlerKind::Graphical => render_by(alloc, row, plain_drawing(alloc, lines), report),
+        HandlerKind::Chosen | HandlerKind::ChosenWanting | HandlerKind::ChosenNarrated => {
             render_by(alloc, row, chosen(alloc, by, lines), report)
         }
         _ => render_by(alloc, row, drawing(alloc, by, lines), report),
     }
 }
 
-/// All lines in red, or one, after which memory is refused.
-fn red_of(by: By) -> Red {
+/// Returns a highlighter for all lines, or for one line before allocation fails.
+fn red_of(by: HandlerKind) -> Red {
     match by {
-        By::Wanting | By::NestedWanting | By::ChosenWanting => Red(2),
+        HandlerKind::Wanting | HandlerKind::NestedWanting | HandlerKind::ChosenWanting => Red(2),
         _ => Red(usize::MAX),
     }
 }
 
-/// A picture in colours, whose source lines no highlighter styles.
+/// Returns a graphical handler with colors and without a highlighter.
 ///
 /// # Errors
-/// Where memory is refused.
+/// If allocation fails.
 pub fn plain_drawing(
     alloc: Global,
     lines: usize,
@@ -167,36 +173,43 @@ pub fn plain_drawing(
     Ok(drawing.with_width(40).with_context_lines(lines))
 }
 
-fn drawing(alloc: Global, by: By, lines: usize) -> Result<GraphicalReportHandler<Red>, AllocError> {
+fn drawing(
+    alloc: Global,
+    by: HandlerKind,
+    lines: usize,
+) -> Result<GraphicalReportHandler<Red>, AllocError> {
     Ok(
         plain_drawing(alloc, lines)?
             .with_width(30)
-            .with_show_related_as_nested(matches!(by, By::Nested | By::NestedWanting))
+            .with_show_related_as_nested(matches!(
+                by,
+                HandlerKind::Nested | HandlerKind::NestedWanting
+            ))
             .with_syntax_highlighting(red_of(by)),
     )
 }
 
-fn chosen(alloc: Global, by: By, lines: usize) -> Result<MietteHandler<Red>, AllocError> {
+fn chosen(alloc: Global, by: HandlerKind, lines: usize) -> Result<MietteHandler<Red>, AllocError> {
     let terminal = terminal(alloc)?;
     let options: MietteHandlerOpts<Red> = MietteHandlerOpts::default();
     options
         .width(30)
-        .force_narrated(matches!(by, By::ChosenNarrated))
+        .force_narrated(matches!(by, HandlerKind::ChosenNarrated))
         .context_lines(lines)
         .with_syntax_highlighting(red_of(by))
         .build(alloc, &terminal)
 }
 
-/// The text `> ` and what a handler puts after it.
+/// Appends the output of a handler to the text `> `.
 ///
 /// # Errors
-/// Where memory was refused for the handler, or is for the text.
+/// If allocating the handler or the text fails.
 pub fn render_by<H: ReportHandler + Drop>(
     alloc: Global,
     row: &mut Rows,
     handler: Result<H, AllocError>,
-    report: &Made,
-) -> Called {
+    report: &TestReport,
+) -> CallResult {
     let mut handler = handler?;
     let mut text = String::from_str(alloc, "> ")?;
     row.value(&text);

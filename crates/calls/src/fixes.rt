@@ -1,13 +1,13 @@
-//! Fixes: edits of a source, and the text after them.
+//! Calls of fixes and edits.
 
-use crate::fixtures::{Mended, fix_of, list_of};
-use crate::rows::{Called, Rows};
+use crate::fixtures::{WrittenFix, fix_of, list_of};
+use crate::rows::{CallResult, Rows};
 use miette_fixes::fix::{Edit, Fix, apply_all};
 use std::alloc::{AllocError, Global};
 
 /// The calls of this module.
 #[derive(Clone, Copy)]
-pub enum Call {
+pub enum FixCall {
     Delete,
     EditClones,
     New,
@@ -17,26 +17,26 @@ pub enum Call {
     ApplyAll,
 }
 
-/// Makes a call.
+/// Makes a call and prints its row.
 ///
 /// # Errors
-/// Where memory is refused for what it is given.
-pub fn make(alloc: Global, call: Call, row: &mut Rows) -> Called {
+/// If allocating the call's arguments fails.
+pub fn make(alloc: Global, call: FixCall, row: &mut Rows) -> CallResult {
     match call {
-        Call::Delete => row.value(&Edit::delete(alloc, (0, 1))),
-        Call::EditClones => return row.clones(colon(alloc)),
-        Call::New => row.answer(Fix::new(alloc, "m")),
-        Call::WithEdit => row.answer(colon_fix(alloc)),
-        Call::WithEditsFrom => row.answer(with_edits(alloc)),
-        Call::Apply | Call::ApplyAll => applied(alloc, call, row, &with_edits(alloc)?),
+        FixCall::Delete => row.value(&Edit::delete(alloc, (0, 1))),
+        FixCall::EditClones => return row.clones(colon(alloc)),
+        FixCall::New => row.answer(Fix::new(alloc, "m")),
+        FixCall::WithEdit => row.answer(colon_fix(alloc)),
+        FixCall::WithEditsFrom => row.answer(with_edits(alloc)),
+        FixCall::Apply | FixCall::ApplyAll => applied(alloc, call, row, &with_edits(alloc)?),
     }
     Ok(())
 }
 
-/// What a call makes of a source.
-fn applied(alloc: Global, call: Call, row: &mut Rows, fix: &Fix) {
+/// Prints the text after a fix.
+fn applied(alloc: Global, call: FixCall, row: &mut Rows, fix: &Fix) {
     match call {
-        Call::ApplyAll => row.answer(apply_all(alloc, b"if x", &[fix])),
+        FixCall::ApplyAll => row.answer(apply_all(alloc, b"if x", &[fix])),
         _ => match fix.apply(alloc, b"if x") {
             Ok(text) => row.value(&text),
             Err(_) => row.refused(),
@@ -48,18 +48,18 @@ fn colon(alloc: Global) -> Result<Edit, AllocError> {
     Ok(Edit::insert(4, String::from_str(alloc, ":")?))
 }
 
-/// The message `m`, with a colon inserted.
-pub const COLON: Mended = ("m", 4, 0, ":");
+/// The message `m`, and an edit that inserts a colon.
+pub const COLON: WrittenFix = ("m", 4, 0, ":");
 
-/// The same, made.
+/// Returns that fix.
 ///
 /// # Errors
-/// Where memory is refused.
+/// If allocation fails.
 pub fn colon_fix(alloc: Global) -> Result<Fix, AllocError> {
     fix_of(alloc, &COLON)
 }
 
-/// With a colon after it, and without the first byte.
+/// Returns a fix with two edits: it inserts a colon and deletes the first byte.
 fn with_edits(alloc: Global) -> Result<Fix, AllocError> {
     let edits = list_of(alloc, Ok(Edit::delete(alloc, (0, 1))))?;
     colon_fix(alloc)?.with_edits_from(alloc, edits)

@@ -1,6 +1,6 @@
-//! Reports as they are written down, over sources that are owned or that stop.
+//! Reports as constants, over owned sources or sources that fail.
 
-use crate::stopping::{Reads, Stopping};
+use crate::stopping::{FailingSource, Reads};
 use miette::diagnostic::MietteDiagnostic;
 use miette::protocol::{LabeledSpan, Severity};
 use miette::report::{OwnedSource, Report, Snippets};
@@ -9,26 +9,26 @@ use miette_fixes::fix::{Edit, Fix};
 use std::alloc::{AllocError, Global};
 use std::rc::Rc;
 
-/// A report over plain diagnostics and sources that may stop.
-pub type Made = Report<MietteDiagnostic, Stopping>;
+/// A report with a plain diagnostic, over a source that may fail.
+pub type TestReport = Report<MietteDiagnostic, FailingSource>;
 
-/// A label: offset, length, its own number of context lines (0 where it has none), text (none where it is empty).
+/// A label: offset, length, number of context lines (0 for the default), text (empty for none).
 pub type Label = (usize, usize, usize, &'static str);
 
-/// What a report's labels lie over.
+/// The source of a report.
 #[derive(Clone, Copy)]
 pub enum Source {
     /// No source.
     Missing,
-    /// Bytes that the report owns, after their name (none where it is empty).
+    /// Bytes that the report owns, after their name (empty for none).
     Owned(&'static str, &'static [u8]),
     /// Bytes of which a read may fail.
-    Stopping(&'static [u8]),
+    FailingSource(&'static [u8]),
 }
 
-/// A diagnostic and its source. A text that is empty isn't there.
+/// A diagnostic and its source. An empty text counts as none.
 #[derive(Clone, Copy)]
-pub struct Written {
+pub struct WrittenDiagnostic {
     /// The message.
     pub message: &'static str,
     /// The code.
@@ -37,7 +37,7 @@ pub struct Written {
     pub url: &'static str,
     /// The help text.
     pub help: &'static str,
-    /// How grave it is.
+    /// The severity.
     pub severity: Option<Severity>,
     /// The labels.
     pub labels: &'static [Label],
@@ -45,8 +45,8 @@ pub struct Written {
     pub source: Source,
 }
 
-/// The message `m`, and nothing else.
-pub const M: Written = Written {
+/// The message `m`.
+pub const M: WrittenDiagnostic = WrittenDiagnostic {
     message: "m",
     code: "",
     url: "",
@@ -56,63 +56,67 @@ pub const M: Written = Written {
     source: Source::Missing,
 };
 
-/// A fix: its message, the offset and the length of what is replaced, and the text that takes its place. It has no edit
-/// where nothing is replaced by nothing.
-pub type Mended = (&'static str, usize, usize, &'static str);
+/// A fix: its message, the offset and length of the replaced text, and the replacement. If both texts are empty, the
+/// fix has no edit.
+pub type WrittenFix = (&'static str, usize, usize, &'static str);
 
-/// What is made of a report.
+/// A step in building a report.
 #[derive(Clone, Copy)]
 pub enum Part {
-    /// It gets labels over further bytes of which a read may fail.
+    /// Adds labels over a further source that may fail.
     Snippets(&'static [u8], &'static [Label]),
-    /// It gets labels over further bytes that it owns.
+    /// Adds labels over a further owned source.
     OwnedSnippets(&'static [u8], &'static [Label]),
-    /// The same, in place of all that it had over further sources.
+    /// The same, replacing all labels over further sources.
     AllSnippets(&'static [u8], &'static [Label]),
-    /// It gets a fix.
-    Fix(Mended),
-    /// It gets a fix in place of all that it had.
-    AllFixes(Mended),
-    /// It gets texts as its causes.
+    /// Adds a fix.
+    Fix(WrittenFix),
+    /// Replaces all fixes by one.
+    AllFixes(WrittenFix),
+    /// Adds cause texts.
     CauseTexts(&'static [&'static str]),
-    /// It gets related reports.
-    Related(&'static [Written]),
-    /// It becomes the cause of a report.
-    CauseOf(Written),
-    /// It becomes the related report of another one.
-    RelatedTo(Written),
+    /// Adds related reports.
+    Related(&'static [WrittenDiagnostic]),
+    /// Makes the report the cause of another one.
+    CauseOf(WrittenDiagnostic),
+    /// Makes the report a related report of another one.
+    RelatedTo(WrittenDiagnostic),
 }
 
-/// A report that is written down.
+/// A report as a constant.
 #[derive(Clone, Copy)]
 pub struct Example {
-    /// What its rows call it.
+    /// The name in its rows.
     pub name: &'static str,
-    /// What it begins as.
-    pub first: Written,
-    /// What is made of it, one after another.
+    /// The diagnostic and source.
+    pub first: WrittenDiagnostic,
+    /// The steps, in order.
     pub parts: &'static [Part],
 }
 
-/// The report that is written, over sources that don't stop.
+/// Builds a report over sources that don't fail.
 ///
 /// # Errors
-/// Where memory is refused.
-pub fn report_with(alloc: Global, first: &Written, parts: &[Part]) -> Result<Made, AllocError> {
+/// If allocation fails.
+pub fn report_with(
+    alloc: Global,
+    first: &WrittenDiagnostic,
+    parts: &[Part],
+) -> Result<TestReport, AllocError> {
     let reads = Reads::new(alloc)?;
     report_over(alloc, first, parts, &reads)
 }
 
-/// The report that is written, over sources that stop at these reads.
+/// Builds a report over sources that fail at these reads.
 ///
 /// # Errors
-/// Where memory is refused.
+/// If allocation fails.
 pub fn report_over(
     alloc: Global,
-    first: &Written,
+    first: &WrittenDiagnostic,
     parts: &[Part],
     reads: &Rc<Reads>,
-) -> Result<Made, AllocError> {
+) -> Result<TestReport, AllocError> {
     let mut report = report_of(alloc, first, reads)?;
     for part in parts {
         report = with_part(alloc, report, part, reads)?;
@@ -120,28 +124,32 @@ pub fn report_over(
     Ok(report)
 }
 
-/// The report of a diagnostic.
-fn report_of(alloc: Global, written: &Written, reads: &Rc<Reads>) -> Result<Made, AllocError> {
+/// Returns the report of a diagnostic.
+fn report_of(
+    alloc: Global,
+    written: &WrittenDiagnostic,
+    reads: &Rc<Reads>,
+) -> Result<TestReport, AllocError> {
     let report = Report::built(diagnostic_of(alloc, written)?);
     match written.source {
         Source::Missing => Ok(report),
         Source::Owned(name, bytes) => Ok(report.with_owned_source(source_of(alloc, name, bytes)?)),
-        Source::Stopping(bytes) => {
-            Ok(report.with_source_code(Stopping::over(alloc, bytes, reads)?))
+        Source::FailingSource(bytes) => {
+            Ok(report.with_source_code(FailingSource::over(alloc, bytes, reads)?))
         }
     }
 }
 
-/// What is made of a report.
+/// Applies a step to a report.
 fn with_part(
     alloc: Global,
-    report: Made,
+    report: TestReport,
     part: &Part,
     reads: &Rc<Reads>,
-) -> Result<Made, AllocError> {
+) -> Result<TestReport, AllocError> {
     match part {
         Part::Snippets(bytes, labels) => {
-            let source = Stopping::over(alloc, bytes, reads)?;
+            let source = FailingSource::over(alloc, bytes, reads)?;
             report.with_snippets(alloc, source, labels_of(alloc, labels)?)
         }
         Part::OwnedSnippets(bytes, labels) => {
@@ -172,7 +180,7 @@ fn with_part(
     }
 }
 
-/// Appends what was made to a list.
+/// Appends a value, if it was made.
 fn push_made<T: Drop>(list: &mut Vec<T>, made: Result<T, AllocError>) -> Result<(), AllocError> {
     match list.push(made?) {
         Ok(()) => Ok(()),
@@ -180,20 +188,20 @@ fn push_made<T: Drop>(list: &mut Vec<T>, made: Result<T, AllocError>) -> Result<
     }
 }
 
-/// A list of what was made.
+/// Returns a list with the value, if it was made.
 ///
 /// # Errors
-/// Where memory was refused for it, or is for the list.
+/// If making the value failed, or allocation fails.
 pub fn list_of<T: Drop>(alloc: Global, made: Result<T, AllocError>) -> Result<Vec<T>, AllocError> {
     let mut list = Vec::new(alloc);
     push_made(&mut list, made)?;
     Ok(list)
 }
 
-/// Texts as a list that owns them.
+/// Returns a list of owned texts.
 ///
 /// # Errors
-/// Where memory is refused.
+/// If allocation fails.
 pub fn texts_of(alloc: Global, texts: &[&str]) -> Result<Vec<String>, AllocError> {
     let mut list = Vec::new(alloc);
     for text in texts {
@@ -204,9 +212,9 @@ pub fn texts_of(alloc: Global, texts: &[&str]) -> Result<Vec<String>, AllocError
 
 fn reports_of(
     alloc: Global,
-    others: &[Written],
+    others: &[WrittenDiagnostic],
     reads: &Rc<Reads>,
-) -> Result<Vec<Made>, AllocError> {
+) -> Result<Vec<TestReport>, AllocError> {
     let mut list = Vec::new(alloc);
     for written in others {
         push_made(&mut list, report_of(alloc, written, reads))?;
@@ -214,10 +222,10 @@ fn reports_of(
     Ok(list)
 }
 
-/// Labels over bytes that are owned.
+/// Returns labels over an owned source.
 ///
 /// # Errors
-/// Where memory is refused.
+/// If allocation fails.
 pub fn section_of<S: SourceCode>(
     alloc: Global,
     bytes: &[u8],
@@ -227,11 +235,11 @@ pub fn section_of<S: SourceCode>(
     Ok(Snippets::over_owned(source_of(alloc, "", bytes)?, labels))
 }
 
-/// The fix that is written.
+/// Returns the fix.
 ///
 /// # Errors
-/// Where memory is refused.
-pub fn fix_of(alloc: Global, mended: &Mended) -> Result<Fix, AllocError> {
+/// If allocation fails.
+pub fn fix_of(alloc: Global, mended: &WrittenFix) -> Result<Fix, AllocError> {
     let (message, offset, length, text) = *mended;
     let fix = Fix::new(alloc, message)?;
     if length == 0 && text.is_empty() {
@@ -241,11 +249,14 @@ pub fn fix_of(alloc: Global, mended: &Mended) -> Result<Fix, AllocError> {
     fix.with_edit(Edit::replace((offset, length), text))
 }
 
-/// The diagnostic that is written, without a source. Its labels have no room for more.
+/// Returns the diagnostic without its source. The capacity of its labels is exact.
 ///
 /// # Errors
-/// Where memory is refused.
-pub fn diagnostic_of(alloc: Global, written: &Written) -> Result<MietteDiagnostic, AllocError> {
+/// If allocation fails.
+pub fn diagnostic_of(
+    alloc: Global,
+    written: &WrittenDiagnostic,
+) -> Result<MietteDiagnostic, AllocError> {
     let message = String::from_str(alloc, written.message)?;
     let code = text_of(alloc, written.code)?;
     let help = text_of(alloc, written.help)?;
@@ -268,10 +279,10 @@ fn text_of(alloc: Global, text: &str) -> Result<Option<String>, AllocError> {
     Ok(Some(String::from_str(alloc, text)?))
 }
 
-/// Labels as they are written down, in a list that has no room for more.
+/// Returns the labels in a list with exact capacity.
 ///
 /// # Errors
-/// Where memory is refused.
+/// If allocation fails.
 pub fn labels_of(alloc: Global, labels: &[Label]) -> Result<Vec<LabeledSpan>, AllocError> {
     let mut list = Vec::with_capacity(alloc, labels.len())?;
     for label in labels {
@@ -292,10 +303,10 @@ fn label_of(
     }
 }
 
-/// An owned source; without a name where that is empty.
+/// Returns an owned source. An empty name counts as none.
 ///
 /// # Errors
-/// Where memory is refused.
+/// If allocation fails.
 pub fn source_of(alloc: Global, name: &str, bytes: &[u8]) -> Result<OwnedSource, AllocError> {
     let bytes = bytes.to_vec(alloc)?;
     if name.is_empty() {

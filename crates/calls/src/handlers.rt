@@ -1,10 +1,10 @@
-//! Handlers: what makes them, and the texts that they append.
+//! Calls of handlers.
 
 use crate::diagnostics::{ALL_PARTS, CAUSES};
-use crate::examples::{By, plain_drawing, render_by, tell};
-use crate::fixtures::{M, Made, Source, Written, report_with, source_of};
+use crate::examples::{HandlerKind, plain_drawing, render_by, tell};
+use crate::fixtures::{M, Source, TestReport, WrittenDiagnostic, report_with, source_of};
 use crate::reports::full_report;
-use crate::rows::{Called, Rows};
+use crate::rows::{CallResult, Rows};
 use crate::sources::README;
 use crate::stopping::Red;
 use crate::themes::terminal;
@@ -20,7 +20,7 @@ use std::alloc::{AllocError, Global};
 
 /// The calls of this module.
 #[derive(Clone, Copy)]
-pub enum Call {
+pub enum HandlerCall {
     NewGraphical,
     RenderGraphical,
     ReportNarrated,
@@ -34,53 +34,53 @@ pub enum Call {
     Build,
     NewChosen,
     DebugChosen,
-    Debug(By),
+    Debug(HandlerKind),
 }
 
-/// What is rendered, over two texts.
-static OVER_README: Written = Written {
+/// A report over two texts.
+static OVER_README: WrittenDiagnostic = WrittenDiagnostic {
     source: Source::Owned("bad_file.rs", README),
     ..ALL_PARTS
 };
 
-/// A message that a narrow terminal breaks.
-static WORDS: Written = Written {
+/// A message that wraps on a narrow terminal.
+static WORDS: WrittenDiagnostic = WrittenDiagnostic {
     message: "one two three four five",
     ..M
 };
 
-fn report_over_readme(alloc: Global) -> Result<Made, AllocError> {
+fn report_over_readme(alloc: Global) -> Result<TestReport, AllocError> {
     report_with(alloc, &OVER_README, &CAUSES)
 }
 
-fn report_of_words(alloc: Global) -> Result<Made, AllocError> {
+fn report_of_words(alloc: Global) -> Result<TestReport, AllocError> {
     report_with(alloc, &WORDS, &[])
 }
 
-/// Makes a call.
+/// Makes a call and prints its row.
 ///
 /// # Errors
-/// Where memory is refused for what it is given.
-pub fn make(alloc: Global, call: Call, row: &mut Rows) -> Called {
+/// If allocating the call's arguments fails.
+pub fn make(alloc: Global, call: HandlerCall, row: &mut Rows) -> CallResult {
     match call {
-        Call::NarratedClones => {
+        HandlerCall::NarratedClones => {
             let footer = String::from_str(alloc, "bye")?;
             row.clones(Ok(NarratableReportHandler::new().with_footer(footer)))
         }
-        Call::NewGraphical | Call::Build | Call::NewChosen => {
+        HandlerCall::NewGraphical | HandlerCall::Build | HandlerCall::NewChosen => {
             choose(alloc, call, row, &report_of_words(alloc)?)
         }
-        Call::Debug(_) | Call::DebugChosen => {
+        HandlerCall::Debug(_) | HandlerCall::DebugChosen => {
             debug(alloc, call, row, &report_over_readme(alloc)?)
         }
         _ => render(alloc, call, row, &report_with_source(alloc)?),
     }
 }
 
-/// The text `> ` and what `debug` puts after it.
-fn debug(alloc: Global, call: Call, row: &mut Rows, report: &Made) -> Called {
+/// Appends the output of `debug` to the text `> `.
+fn debug(alloc: Global, call: HandlerCall, row: &mut Rows, report: &TestReport) -> CallResult {
     match call {
-        Call::Debug(by) => tell(alloc, row, by, report, 1),
+        HandlerCall::Debug(by) => tell(alloc, row, by, report, 1),
         _ => render_by(alloc, row, drawing(alloc), report),
     }
 }
@@ -89,14 +89,14 @@ fn drawing(alloc: Global) -> Result<MietteHandler<Red>, AllocError> {
     Ok(MietteHandler::Graphical(plain_drawing(alloc, 1)?))
 }
 
-/// The same report, over boxes.
+/// Returns the same report over boxes.
 fn report_with_source(alloc: Global) -> Result<Report, AllocError> {
     let source = source_of(alloc, "bad_file.rs", README)?;
     Ok(full_report(alloc)?.with_owned_source(source))
 }
 
-/// The text `> ` and what a handler's own method puts after it.
-fn render(alloc: Global, call: Call, row: &mut Rows, report: &Report) -> Called {
+/// Appends the output of a handler's own method to the text `> `.
+fn render(alloc: Global, call: HandlerCall, row: &mut Rows, report: &Report) -> CallResult {
     let mut text = String::from_str(alloc, "> ")?;
     row.value(&text);
     let answer = render_to(alloc, call, report, &mut text);
@@ -104,36 +104,36 @@ fn render(alloc: Global, call: Call, row: &mut Rows, report: &Report) -> Called 
     Ok(())
 }
 
-/// What the call answers.
+/// Returns the call's result.
 fn render_to(
     alloc: Global,
-    call: Call,
+    call: HandlerCall,
     report: &Report,
     text: &mut String,
 ) -> Result<(), RenderError> {
     match call {
-        Call::RenderGraphical => {
+        HandlerCall::RenderGraphical => {
             let mut drawing = plain_drawing(alloc, 1)?;
             let answer = drawing.render_report(report, text);
             drop(drawing);
             answer
         }
-        Call::ReportNarrated => NarratableReportHandler::new().render_report(report, text),
-        Call::RenderNarrated => NarratableReportHandler::new().render(report, text),
-        Call::ReportBrief => BriefReportHandler::new().render_report(report, text),
-        Call::RenderBrief => BriefReportHandler::new().render(report, text),
-        Call::ReportJson => JSONReportHandler::new().render_report(report, text),
-        Call::Display => DebugReportHandler::new().display(report, true, text),
+        HandlerCall::ReportNarrated => NarratableReportHandler::new().render_report(report, text),
+        HandlerCall::RenderNarrated => NarratableReportHandler::new().render(report, text),
+        HandlerCall::ReportBrief => BriefReportHandler::new().render_report(report, text),
+        HandlerCall::RenderBrief => BriefReportHandler::new().render(report, text),
+        HandlerCall::ReportJson => JSONReportHandler::new().render_report(report, text),
+        HandlerCall::Display => DebugReportHandler::new().display(report, true, text),
         _ => DebugReportHandler::new().render_report(report, text),
     }
 }
 
-/// A handler that a terminal chooses, and what it makes of a report.
-fn choose(alloc: Global, call: Call, row: &mut Rows, report: &Made) -> Called {
+/// Prints the handler for a terminal, and its output for a report.
+fn choose(alloc: Global, call: HandlerCall, row: &mut Rows, report: &TestReport) -> CallResult {
     let terminal = terminal(alloc)?;
     row.value(&terminal);
     match call {
-        Call::NewGraphical => {
+        HandlerCall::NewGraphical => {
             picture(
                 alloc,
                 row,
@@ -141,7 +141,7 @@ fn choose(alloc: Global, call: Call, row: &mut Rows, report: &Made) -> Called {
                 report,
             )
         }
-        Call::NewChosen => picture(alloc, row, MietteHandler::new(alloc, &terminal), report),
+        HandlerCall::NewChosen => picture(alloc, row, MietteHandler::new(alloc, &terminal), report),
         _ => {
             let options: MietteHandlerOpts<BlankHighlighter> = MietteHandlerOpts::default();
             let built = options.width(20).build(alloc, &terminal);
@@ -151,12 +151,12 @@ fn choose(alloc: Global, call: Call, row: &mut Rows, report: &Made) -> Called {
     Ok(())
 }
 
-/// What a handler that a call gave makes of a report over no source.
+/// Prints the output of a handler for a report without a source.
 fn picture<H: ReportHandler + Drop>(
     alloc: Global,
     row: &mut Rows,
     answer: Result<H, AllocError>,
-    report: &Made,
+    report: &TestReport,
 ) {
     match answer {
         Ok(mut handler) => {

@@ -1,15 +1,15 @@
-//! Highlighters made of rules.
+//! Calls of highlighters made of rules.
 
 use crate::fixtures::list_of;
-use crate::rows::{Called, REFUSED, Rows};
+use crate::rows::{CallResult, REFUSED, Rows};
 use miette::highlight::Highlighter;
 use miette::style::{Color, Style};
-use miette_highlight::highlight::{Delimiters, Pattern, PatternHighlighter, Rule, by_char};
+use miette_highlight::highlight::{Delimiters, Pattern, PatternHighlighter, Rule, style_each_char};
 use std::alloc::{AllocError, Global};
 
 /// The calls of this module.
 #[derive(Clone, Copy)]
-pub enum Call {
+pub enum HighlighterCall {
     ByChar,
     NewDelimiters,
     DelimitersClones,
@@ -23,19 +23,19 @@ pub enum Call {
     Line,
 }
 
-/// Makes a call.
+/// Makes a call and prints its row.
 ///
 /// # Errors
-/// Where memory is refused for what it is given.
-pub fn make(alloc: Global, call: Call, row: &mut Rows) -> Called {
+/// If allocating the call's arguments fails.
+pub fn make(alloc: Global, call: HighlighterCall, row: &mut Rows) -> CallResult {
     match call {
-        Call::ByChar => row.answer(by_char(alloc, "a1", digits_in_cyan)),
-        Call::NewDelimiters => row.answer(Delimiters::new(alloc, "/*", "*/")),
-        Call::DelimitersClones => return row.clones(Delimiters::new(alloc, "/*", "*/")),
-        Call::Words => row.answer(Pattern::words(alloc, &["let", "in"])),
-        Call::PatternClones => return row.clones(Pattern::words(alloc, &["let", "in"])),
-        Call::RuleClones => return row.clones(rule(alloc)),
-        Call::Json => {
+        HighlighterCall::ByChar => row.answer(style_each_char(alloc, "a1", digits_in_cyan)),
+        HighlighterCall::NewDelimiters => row.answer(Delimiters::new(alloc, "/*", "*/")),
+        HighlighterCall::DelimitersClones => return row.clones(Delimiters::new(alloc, "/*", "*/")),
+        HighlighterCall::Words => row.answer(Pattern::words(alloc, &["let", "in"])),
+        HighlighterCall::PatternClones => return row.clones(Pattern::words(alloc, &["let", "in"])),
+        HighlighterCall::RuleClones => return row.clones(rule(alloc)),
+        HighlighterCall::Json => {
             pieces(
                 alloc,
                 row,
@@ -43,8 +43,10 @@ pub fn make(alloc: Global, call: Call, row: &mut Rows) -> Called {
                 PatternHighlighter::json(alloc),
             )
         }
-        Call::Toml => { pieces(alloc, row, "a = 'x' # c", PatternHighlighter::toml(alloc)) }
-        Call::Rust => {
+        HighlighterCall::Toml => {
+            pieces(alloc, row, "a = 'x' # c", PatternHighlighter::toml(alloc))
+        }
+        HighlighterCall::Rust => {
             pieces(
                 alloc,
                 row,
@@ -52,13 +54,13 @@ pub fn make(alloc: Global, call: Call, row: &mut Rows) -> Called {
                 PatternHighlighter::rust(alloc),
             )
         }
-        Call::Clones => return row.clones(highlighter_by_rule(alloc)),
-        Call::Line => open_comment(alloc, row, highlighter_by_rule(alloc)?),
+        HighlighterCall::Clones => return row.clones(highlighter_by_rule(alloc)),
+        HighlighterCall::Line => open_comment(alloc, row, highlighter_by_rule(alloc)?),
     }
     Ok(())
 }
 
-/// Cyan digits, and all else plain.
+/// Returns cyan for digits, and no style otherwise.
 fn digits_in_cyan(c: char) -> Style {
     if c.is_ascii_digit() {
         Style::new().color(Color::Cyan)
@@ -67,7 +69,7 @@ fn digits_in_cyan(c: char) -> Style {
     }
 }
 
-/// The pieces of a line by the highlighter that a call gave.
+/// Prints the pieces of a line by a highlighter.
 fn pieces(alloc: Global, row: &mut Rows, line: &str, made: Result<PatternHighlighter, AllocError>) {
     row.value(&line);
     match made {
@@ -76,7 +78,7 @@ fn pieces(alloc: Global, row: &mut Rows, line: &str, made: Result<PatternHighlig
     }
 }
 
-/// Comments that go on over lines, dimmed.
+/// Returns a rule that dims comments over several lines.
 fn rule(alloc: Global) -> Result<Rule, AllocError> {
     let delimiters = Delimiters::new(alloc, "/*", "*/")?.escaped_by(b'\\');
     Ok(Rule {
@@ -89,7 +91,8 @@ fn highlighter_by_rule(alloc: Global) -> Result<PatternHighlighter, AllocError> 
     Ok(PatternHighlighter::new(list_of(alloc, rule(alloc))?))
 }
 
-/// The pieces of a line that leaves a comment open, and the highlighter after it; after a refusal that is as before.
+/// Prints the pieces of a line with an open comment, and the highlighter after it. If allocation fails, the highlighter
+/// is unchanged.
 fn open_comment(alloc: Global, row: &mut Rows, mut highlighter: PatternHighlighter) {
     row.value(&highlighter);
     match highlighter.highlight_line(alloc, "a /*b") {

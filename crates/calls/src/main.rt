@@ -1,9 +1,11 @@
-//! Makes each public call that can want memory, and prints what came of it: `calls`, or `calls NAME` for one of them;
-//! `calls report`, `calls report NAME`, `calls report NAME HANDLER`: worked reports by each handler; `calls stops`:
-//! reports over sources that stop.
+//! Makes each public call that allocates, and prints its result.
 //!
-//! A row has the call's name, what it is given, and what it gave, with tabs between them. Where memory is refused it
-//! says `refused`, and after that what was handed back, or what the text holds that the call appends to.
+//! - `calls` makes all calls, `calls NAME` one of them.
+//! - `calls report`, `calls report NAME` and `calls report NAME HANDLER` print example reports by each handler.
+//! - `calls stops` prints reports over sources that fail.
+//!
+//! A row has the call's name, its arguments and its result, separated by tabs. If allocation fails, the result is
+//! `refused`, followed by what the call gives back, or by the text that it appends to.
 #![tactic(auto)]
 
 mod attached;
@@ -28,7 +30,7 @@ mod themes;
 mod worked;
 
 use crate::names::{Call, TABLES, table};
-use crate::rows::{Called, Done, Rows, Stop};
+use crate::rows::{CallResult, ExitReason, RowResult, Rows};
 use std::env;
 use std::io::Write;
 use std::process::ExitCode;
@@ -41,31 +43,31 @@ fn main(rt: HostRuntime) -> ExitCode {
     }
 }
 
-fn end(stop: Stop, mut faults: Stderr) -> ExitCode {
+fn end(stop: ExitReason, mut faults: Stderr) -> ExitCode {
     let (status, why) = match stop {
-        Stop::Memory => (1, "calls: out of memory\n"),
-        Stop::Write => (1, "calls: write fault\n"),
-        Stop::Usage => (2, "usage: calls [NAME | report [NAME [HANDLER]] | stops]\n"),
+        ExitReason::Memory => (1, "calls: out of memory\n"),
+        ExitReason::Write => (1, "calls: write fault\n"),
+        ExitReason::Usage => (2, "usage: calls [NAME | report [NAME [HANDLER]] | stops]\n"),
     };
     let _ = faults.write_all(why.as_bytes());
     ExitCode::from(status)
 }
 
-fn run(rt: &HostRuntime) -> Done {
+fn run(rt: &HostRuntime) -> RowResult {
     let words: Vec<String> = match env::args(rt) {
         Ok(words) => words.skip(1).collect(rt.alloc())?,
-        Err(_) => return Err(Stop::Memory),
+        Err(_) => return Err(ExitReason::Memory),
     };
     match words.as_slice() {
         [] => rows_of(rt, None),
         [name] => rows_of_word(rt, name.as_str()),
         [kind, name] => worked_rows(rt, kind.as_str(), name.as_str(), ""),
         [kind, name, handler] => worked_rows(rt, kind.as_str(), name.as_str(), handler.as_str()),
-        _ => Err(Stop::Usage),
+        _ => Err(ExitReason::Usage),
     }
 }
 
-fn rows_of_word(rt: &HostRuntime, name: &str) -> Done {
+fn rows_of_word(rt: &HostRuntime, name: &str) -> RowResult {
     match name {
         "report" => worked_rows(rt, name, "", ""),
         "stops" => stops::rows(rt.alloc(), &mut Rows::on(rt.stdout())),
@@ -73,16 +75,16 @@ fn rows_of_word(rt: &HostRuntime, name: &str) -> Done {
     }
 }
 
-/// The rows of worked reports.
-fn worked_rows(rt: &HostRuntime, kind: &str, name: &str, handler: &str) -> Done {
+/// Prints the rows of example reports.
+fn worked_rows(rt: &HostRuntime, kind: &str, name: &str, handler: &str) -> RowResult {
     if kind != "report" {
-        return Err(Stop::Usage);
+        return Err(ExitReason::Usage);
     }
     examples::rows_of(rt.alloc(), &mut Rows::on(rt.stdout()), name, handler)
 }
 
-/// The rows of all calls, or that of one.
-fn rows_of(rt: &HostRuntime, wanted: Option<&str>) -> Done {
+/// Prints the rows of all calls, or the row of one.
+fn rows_of(rt: &HostRuntime, wanted: Option<&str>) -> RowResult {
     let mut found = false;
     for number in 0..TABLES {
         for (name, call) in table(number) {
@@ -92,18 +94,22 @@ fn rows_of(rt: &HostRuntime, wanted: Option<&str>) -> Done {
             }
         }
     }
-    if found { Ok(()) } else { Err(Stop::Usage) }
+    if found {
+        Ok(())
+    } else {
+        Err(ExitReason::Usage)
+    }
 }
 
-/// The row of a call.
-fn row(rt: &HostRuntime, name: &str, call: Call) -> Done {
+/// Prints the row of a call.
+fn row(rt: &HostRuntime, name: &str, call: Call) -> RowResult {
     let mut row = Rows::on(rt.stdout());
     row.text(name);
     let called = make(rt, name, call, &mut row);
     row.end(called)
 }
 
-fn make(rt: &HostRuntime, name: &str, call: Call, row: &mut Rows) -> Called {
+fn make(rt: &HostRuntime, name: &str, call: Call, row: &mut Rows) -> CallResult {
     let alloc = rt.alloc();
     match call {
         Call::Label(call) => labels::make(alloc, call, row),

@@ -1,23 +1,23 @@
-//! The calls that the program makes, each by its name, in the order of their rows.
+//! The calls of the program by name, in the order of their rows.
 
 use crate::attached::{
-    Call as Part, WITH_ALL_SNIPPETS, WITH_FIX, WITH_FIXES, WITH_OWNED_SNIPPETS, WITH_SNIPPETS,
+    PartCall as Part, WITH_ALL_SNIPPETS, WITH_FIX, WITH_FIXES, WITH_OWNED_SNIPPETS, WITH_SNIPPETS,
 };
-use crate::diagnostics::Call as Diagnostic;
-use crate::examples::By;
-use crate::fixes::Call as Fix;
-use crate::handlers::Call as Handler;
-use crate::highlighters::Call as Highlighter;
-use crate::labels::Call as Label;
-use crate::outputs::Call as Output;
-use crate::printing::Call as Printing;
-use crate::reports::{Call as Report, IN_FRONT, NO_ITEM, NOTHING, SEVEN, Way};
-use crate::runs::Call as Runs;
-use crate::sources::Call as Source;
-use crate::texts::Call as Text;
-use crate::themes::Call as Theme;
+use crate::diagnostics::DiagnosticCall as Diagnostic;
+use crate::examples::HandlerKind;
+use crate::fixes::FixCall as Fix;
+use crate::handlers::HandlerCall as Handler;
+use crate::highlighters::HighlighterCall as Highlighter;
+use crate::labels::LabelCall as Label;
+use crate::outputs::OutputCall as Output;
+use crate::printing::PrintingCall as Printing;
+use crate::reports::{IN_FRONT, NO_ITEM, NOTHING, ReportCall as Report, SEVEN, WrapMethod};
+use crate::runs::RunsCall as Runs;
+use crate::sources::SourceCall as Source;
+use crate::texts::TextCall as Text;
+use crate::themes::ThemeCall as Theme;
 
-/// A call, by what it is about.
+/// A call by its module.
 #[derive(Clone, Copy)]
 pub enum Call {
     Label(Label),
@@ -35,10 +35,10 @@ pub enum Call {
     Printing(Printing),
 }
 
-/// How many tables of calls there are.
+/// The number of tables.
 pub const TABLES: usize = 12;
 
-/// A table of calls; the tables follow one another as the rows do. A long table takes the prover longer than several.
+/// Returns a table of calls. Several tables are proved faster than one long one.
 pub fn table(number: usize) -> &'static [(&'static str, Call)] {
     match number {
         0 => &DIAGNOSTICS,
@@ -164,7 +164,7 @@ static THEMES: [(&str, Call); 16] = [
 ];
 
 static HIGHLIGHTERS: [(&str, Call); 11] = [
-    ("by_char", Call::Highlighter(Highlighter::ByChar)),
+    ("style_each_char", Call::Highlighter(Highlighter::ByChar)),
     (
         "Delimiters::new",
         Call::Highlighter(Highlighter::NewDelimiters),
@@ -213,35 +213,35 @@ static REPORTS: [(&str, Call); 18] = [
     ("Report::context", Call::Report(Report::Context)),
     (
         "WrapErr::wrap_err for Option",
-        Call::Report(Report::InFrontOfNone(Way::WrapErr, NOTHING)),
+        Call::Report(Report::InFrontOfNone(WrapMethod::WrapErr, NOTHING)),
     ),
     (
         "WrapErr::context for Option",
-        Call::Report(Report::InFrontOfNone(Way::Context, NOTHING)),
+        Call::Report(Report::InFrontOfNone(WrapMethod::Context, NOTHING)),
     ),
     (
         "WrapErr::wrap_err_with for Option",
-        Call::Report(Report::InFrontOfNone(Way::WrapErrWith, NO_ITEM)),
+        Call::Report(Report::InFrontOfNone(WrapMethod::WrapErrWith, NO_ITEM)),
     ),
     (
         "WrapErr::with_context for Option",
-        Call::Report(Report::InFrontOfNone(Way::WithContext, NO_ITEM)),
+        Call::Report(Report::InFrontOfNone(WrapMethod::WithContext, NO_ITEM)),
     ),
     (
         "WrapErr::wrap_err for Result",
-        Call::Report(Report::InFrontOfErr(Way::WrapErr, IN_FRONT)),
+        Call::Report(Report::InFrontOfErr(WrapMethod::WrapErr, IN_FRONT)),
     ),
     (
         "WrapErr::context for Result",
-        Call::Report(Report::InFrontOfErr(Way::Context, IN_FRONT)),
+        Call::Report(Report::InFrontOfErr(WrapMethod::Context, IN_FRONT)),
     ),
     (
         "WrapErr::wrap_err_with for Result",
-        Call::Report(Report::InFrontOfErr(Way::WrapErrWith, SEVEN)),
+        Call::Report(Report::InFrontOfErr(WrapMethod::WrapErrWith, SEVEN)),
     ),
     (
         "WrapErr::with_context for Result",
-        Call::Report(Report::InFrontOfErr(Way::WithContext, SEVEN)),
+        Call::Report(Report::InFrontOfErr(WrapMethod::WithContext, SEVEN)),
     ),
     (
         "IntoDiagnostic::into_diagnostic for Result",
@@ -267,14 +267,14 @@ static PARTS: [(&str, Call); 6] = [
 static TEXTS: [(&str, Call); 10] = [
     ("fill", Call::Text(Text::Fill)),
     ("wrap", Call::Text(Text::Wrap)),
-    ("push_fitting", Call::Text(Text::PushFitting)),
-    ("without_leading", Call::Text(Text::WithoutLeading)),
-    ("without_trailing", Call::Text(Text::WithoutTrailing)),
+    ("push_if_fits", Call::Text(Text::PushFitting)),
+    ("trim_leading_feeds", Call::Text(Text::WithoutLeading)),
+    ("trim_trailing_feeds", Call::Text(Text::WithoutTrailing)),
     ("read", Call::Text(Text::Read)),
-    ("read_text", Call::Text(Text::ReadText)),
+    ("parse_text", Call::Text(Text::ReadText)),
     ("print", Call::Text(Text::Print)),
-    ("columns_of", Call::Text(Text::ColumnsOf)),
-    ("append_whole", Call::Text(Text::AppendWhole)),
+    ("printed_columns", Call::Text(Text::ColumnsOf)),
+    ("append_all_or_nothing", Call::Text(Text::AppendWhole)),
 ];
 
 static RUNS: [(&str, Call); 11] = [
@@ -318,7 +318,7 @@ static HANDLERS: [(&str, Call); 18] = [
     ),
     (
         "ReportHandler::debug for GraphicalReportHandler",
-        Call::Handler(Handler::Debug(By::Graphical)),
+        Call::Handler(Handler::Debug(HandlerKind::Graphical)),
     ),
     (
         "NarratableReportHandler::render_report",
@@ -334,7 +334,7 @@ static HANDLERS: [(&str, Call); 18] = [
     ),
     (
         "ReportHandler::debug for NarratableReportHandler",
-        Call::Handler(Handler::Debug(By::Narrated)),
+        Call::Handler(Handler::Debug(HandlerKind::Narrated)),
     ),
     (
         "BriefReportHandler::render_report",
@@ -346,7 +346,7 @@ static HANDLERS: [(&str, Call); 18] = [
     ),
     (
         "ReportHandler::debug for BriefReportHandler",
-        Call::Handler(Handler::Debug(By::Brief)),
+        Call::Handler(Handler::Debug(HandlerKind::Brief)),
     ),
     (
         "JSONReportHandler::render_report",
@@ -354,7 +354,7 @@ static HANDLERS: [(&str, Call); 18] = [
     ),
     (
         "ReportHandler::debug for JSONReportHandler",
-        Call::Handler(Handler::Debug(By::Json)),
+        Call::Handler(Handler::Debug(HandlerKind::Json)),
     ),
     (
         "DebugReportHandler::render_report",
@@ -362,7 +362,7 @@ static HANDLERS: [(&str, Call); 18] = [
     ),
     (
         "ReportHandler::debug for DebugReportHandler",
-        Call::Handler(Handler::Debug(By::Debug)),
+        Call::Handler(Handler::Debug(HandlerKind::Debug)),
     ),
     ("ReportHandler::display", Call::Handler(Handler::Display)),
     ("MietteHandlerOpts::build", Call::Handler(Handler::Build)),
@@ -385,10 +385,10 @@ static FIXES: [(&str, Call); 7] = [
 
 static PRINTING: [(&str, Call); 9] = [
     ("Variables::read", Call::Printing(Printing::Read)),
-    ("detect", Call::Printing(Printing::Detect)),
+    ("detect_terminal", Call::Printing(Printing::Detect)),
     ("write_report", Call::Printing(Printing::Write)),
-    ("print_to", Call::Printing(Printing::To)),
-    ("print_on", Call::Printing(Printing::On)),
+    ("print_to_writer", Call::Printing(Printing::To)),
+    ("print_with_outputs", Call::Printing(Printing::On)),
     ("print_report", Call::Printing(Printing::Print)),
     ("print_report_with", Call::Printing(Printing::PrintWith)),
     ("eprint_report", Call::Printing(Printing::Eprint)),

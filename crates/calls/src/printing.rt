@@ -1,22 +1,22 @@
-//! What a program is told of its terminal, and reports that are printed there.
+//! Calls that detect the terminal and print reports.
 
 use crate::attached::OOPS;
 use crate::diagnostics::{CAUSES, FULL};
-use crate::fixtures::{Made, report_with};
-use crate::rows::{Called, REFUSED, Rows, VALUE};
+use crate::fixtures::{TestReport, report_with};
+use crate::rows::{CallResult, REFUSED, Rows, VALUE};
 use miette::handlers::NarratableReportHandler;
 use miette::highlight::BlankHighlighter;
 use miette::options::MietteHandlerOpts;
 use miette::print::{
-    Outputs, PrintError, eprint_report, eprint_report_with, print_on, print_report,
-    print_report_with, print_to, write_report,
+    Outputs, PrintError, eprint_report, eprint_report_with, print_report, print_report_with,
+    print_to_writer, print_with_outputs, write_report,
 };
-use miette::terminal::{Stream, Variables, detect};
+use miette::terminal::{Stream, Variables, detect_terminal};
 use std::alloc::{AllocError, Global};
 
 /// The calls of this module.
 #[derive(Clone, Copy)]
-pub enum Call {
+pub enum PrintingCall {
     Read,
     Detect,
     Write,
@@ -28,15 +28,15 @@ pub enum Call {
     EprintWith,
 }
 
-/// Makes a call. What the printing ones print stands in rows of its own.
+/// Makes a call. Reports that it prints are in rows of their own.
 ///
 /// # Errors
-/// Where memory is refused for what it is given.
-pub fn make(rt: &HostRuntime, name: &str, call: Call, row: &mut Rows) -> Called {
+/// If allocating the call's arguments fails.
+pub fn make(rt: &HostRuntime, name: &str, call: PrintingCall, row: &mut Rows) -> CallResult {
     match call {
-        Call::Read => row.after(Variables::read(rt, true, true), &"read"),
-        Call::Detect => row.after(detect(rt, Stream::Stdout), &"detected"),
-        Call::Write | Call::To | Call::On => {
+        PrintingCall::Read => row.after(Variables::read(rt, true, true), &"read"),
+        PrintingCall::Detect => row.after(detect_terminal(rt, Stream::Stdout), &"detected"),
+        PrintingCall::Write | PrintingCall::To | PrintingCall::On => {
             let report = full_report(rt.alloc())?;
             return written(rt, call, row, &report);
         }
@@ -51,22 +51,22 @@ pub fn make(rt: &HostRuntime, name: &str, call: Call, row: &mut Rows) -> Called 
     Ok(())
 }
 
-/// `oops!` with all parts, over two texts.
-fn full_report(alloc: Global) -> Result<Made, AllocError> {
+/// Returns the report `oops!` with all parts, over two texts.
+fn full_report(alloc: Global) -> Result<TestReport, AllocError> {
     report_with(alloc, &FULL, &CAUSES)
 }
 
-/// `oops!`, and nothing else.
-fn short_report(alloc: Global) -> Result<Made, AllocError> {
+/// Returns a report with the message `oops!`.
+fn short_report(alloc: Global) -> Result<TestReport, AllocError> {
     report_with(alloc, &OOPS, &[])
 }
 
-/// Prints a report; how a program would end with it isn't looked at.
-fn print(rt: &HostRuntime, call: Call, report: &Made) {
+/// Prints a report and ignores the exit code.
+fn print(rt: &HostRuntime, call: PrintingCall, report: &TestReport) {
     let _ = match call {
-        Call::Print => print_report(rt, report),
-        Call::PrintWith => print_report_with(rt, in_colours(), report),
-        Call::Eprint => eprint_report(rt, report),
+        PrintingCall::Print => print_report(rt, report),
+        PrintingCall::PrintWith => print_report_with(rt, in_colours(), report),
+        PrintingCall::Eprint => eprint_report(rt, report),
         _ => eprint_report_with(rt, in_colours(), report),
     };
 }
@@ -79,7 +79,7 @@ fn in_words() -> MietteHandlerOpts<BlankHighlighter> {
     MietteHandlerOpts::default().force_narrated(true)
 }
 
-/// Writers that have room from the start for all that is printed here.
+/// Writers with enough capacity for everything that is printed here.
 type Rooms = Outputs<Vec<u8>, Vec<u8>>;
 
 fn rooms(alloc: Global) -> Result<Rooms, AllocError> {
@@ -87,19 +87,35 @@ fn rooms(alloc: Global) -> Result<Rooms, AllocError> {
     Ok(Outputs::new(writer, Vec::with_capacity(alloc, 4096)?))
 }
 
-fn written(rt: &HostRuntime, call: Call, row: &mut Rows, report: &Made) -> Called {
+fn written(
+    rt: &HostRuntime,
+    call: PrintingCall,
+    row: &mut Rows,
+    report: &TestReport,
+) -> CallResult {
     let mut rooms = rooms(rt.alloc())?;
     let answer = write(rt, call, report, &mut rooms);
     held(row, answer, rooms.writer.as_slice());
     Ok(())
 }
 
-/// What the call answers, by a narrating handler.
-fn write(rt: &HostRuntime, call: Call, report: &Made, rooms: &mut Rooms) -> Result<(), PrintError> {
+/// Returns the call's result with a narrated handler.
+fn write(
+    rt: &HostRuntime,
+    call: PrintingCall,
+    report: &TestReport,
+    rooms: &mut Rooms,
+) -> Result<(), PrintError> {
     match call {
-        Call::To => print_to(rt, Stream::Stdout, in_words(), report, &mut rooms.writer),
-        Call::On => {
-            let _ = print_on(rt, Stream::Stdout, in_words(), report, rooms);
+        PrintingCall::To => print_to_writer(
+            rt,
+            Stream::Stdout,
+            in_words(),
+            report,
+            &mut rooms.writer,
+        ),
+        PrintingCall::On => {
+            let _ = print_with_outputs(rt, Stream::Stdout, in_words(), report, rooms);
             told(rooms.faults.as_slice())
         }
         _ => {
@@ -109,7 +125,7 @@ fn write(rt: &HostRuntime, call: Call, report: &Made, rooms: &mut Rooms) -> Resu
     }
 }
 
-/// How printing ended, by what was told of faults.
+/// Returns how printing ended, from the error stream.
 fn told(faults: &[u8]) -> Result<(), PrintError> {
     match str::from_utf8(faults).unwrap_or("no text") {
         "" => Ok(()),
@@ -118,7 +134,7 @@ fn told(faults: &[u8]) -> Result<(), PrintError> {
     }
 }
 
-/// What a writer holds after a call that prints a report there.
+/// Prints the writer's contents after a call.
 fn held(row: &mut Rows, answer: Result<(), PrintError>, written: &[u8]) {
     let text = str::from_utf8(written).unwrap_or("no text");
     let before = match answer {

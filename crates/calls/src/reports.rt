@@ -1,28 +1,28 @@
-//! Reports: what makes them, and what is put in front of them and below them.
+//! Calls that make reports, and wrap them in contexts and causes.
 
 use crate::diagnostics::{full_diagnostic, given_diagnostic};
 use crate::fixtures::texts_of;
-use crate::rows::{Called, REFUSED, Rows, VALUE};
+use crate::rows::{CallResult, REFUSED, Rows, VALUE};
 use miette::error::MietteError;
 use miette::protocol::Diagnostic;
-use miette::report::{IntoDiagnostic, Report, Result, UsualBoxes, WrapErr};
+use miette::report::{DefaultBoxes, IntoDiagnostic, Report, Result, WrapErr};
 use miette::source::SourceCode;
 use miette_tree::{bail, ensure, miette};
 use std::alloc::{AllocError, Global};
 
 /// The calls of this module.
 #[derive(Clone, Copy)]
-pub enum Call {
+pub enum ReportCall {
     Copied,
     Msg,
     FromErr,
     WithDiagnosticCause,
     WrapErr,
     Context,
-    /// A call of `WrapErr` for an `Option`, with this text.
-    InFrontOfNone(Way, &'static str),
-    /// The same for a `Result`.
-    InFrontOfErr(Way, &'static str),
+    /// A call of `WrapErr` on an `Option`, with this text.
+    InFrontOfNone(WrapMethod, &'static str),
+    /// The same on a `Result`.
+    InFrontOfErr(WrapMethod, &'static str),
     IntoDiagnostic,
     Miette,
     Bail,
@@ -31,48 +31,48 @@ pub enum Call {
 
 /// A method of `WrapErr`.
 #[derive(Clone, Copy)]
-pub enum Way {
+pub enum WrapMethod {
     WrapErr,
     Context,
     WrapErrWith,
     WithContext,
 }
 
-/// The text of a value that is missing.
+/// The context of a missing value.
 pub const NOTHING: &str = "nothing is there";
 
-/// The same where it is made only then.
+/// The same, made lazily.
 pub const NO_ITEM: &str = "item 7 is missing";
 
-/// The text in front of a report.
+/// The context of a report.
 pub const IN_FRONT: &str = "in front";
 
-/// The same where it is made only then.
+/// The same, made lazily.
 pub const SEVEN: &str = "7 in front";
 
-/// Makes a call.
+/// Makes a call and prints its row.
 ///
 /// # Errors
-/// Where memory is refused for what it is given.
-pub fn make(alloc: Global, call: Call, row: &mut Rows) -> Called {
+/// If allocating the call's arguments fails.
+pub fn make(alloc: Global, call: ReportCall, row: &mut Rows) -> CallResult {
     match call {
-        Call::Copied => {
+        ReportCall::Copied => {
             let full = given_diagnostic(alloc, row)?;
             let copy = Report::copied(alloc, &full);
             drop(full);
             made(row, copy);
         }
-        Call::Msg => made(row, Report::msg(alloc, "oops!")),
-        Call::FromErr => made(row, Report::from_err(alloc, MietteError::OutOfBounds)),
-        Call::WithDiagnosticCause => return over_another(alloc, row),
-        Call::Miette => row.report_or_refusal(&by_macro(alloc)),
-        Call::Bail => failed(row, is_refused(alloc)),
-        Call::Ensure => failed(row, is_held(alloc, 7)),
-        Call::IntoDiagnostic => {
+        ReportCall::Msg => made(row, Report::msg(alloc, "oops!")),
+        ReportCall::FromErr => made(row, Report::from_err(alloc, MietteError::OutOfBounds)),
+        ReportCall::WithDiagnosticCause => return over_another(alloc, row),
+        ReportCall::Miette => row.report_or_refusal(&by_macro(alloc)),
+        ReportCall::Bail => failed(row, is_refused(alloc)),
+        ReportCall::Ensure => failed(row, is_held(alloc, 7)),
+        ReportCall::IntoDiagnostic => {
             let error: std::result::Result<u32, MietteError> = Err(MietteError::OutOfBounds);
             failed(row, error.into_diagnostic(alloc));
         }
-        Call::InFrontOfNone(way, text) => {
+        ReportCall::InFrontOfNone(way, text) => {
             failed(row, in_front(alloc, way, text, None::<u32>));
         }
         _ => return in_front_of_report(alloc, call, row),
@@ -84,42 +84,42 @@ fn by_macro(alloc: Global) -> Report {
     miette!(in alloc; code = "a::b", help = "try", "7 is too much")
 }
 
-/// A message in front of a report, or of what has failed with it.
-fn in_front_of_report(alloc: Global, call: Call, row: &mut Rows) -> Called {
+/// Wraps a report, or a failed result, in a context.
+fn in_front_of_report(alloc: Global, call: ReportCall, row: &mut Rows) -> CallResult {
     let report = full_report(alloc)?;
     row.report(VALUE, &report);
     match call {
-        Call::InFrontOfErr(way, text) => {
+        ReportCall::InFrontOfErr(way, text) => {
             let failure: Result<u32> = Err(report);
             failed(row, in_front(alloc, way, text, failure));
         }
-        Call::Context => put_before(row, report.context(alloc, IN_FRONT)),
+        ReportCall::Context => put_before(row, report.context(alloc, IN_FRONT)),
         _ => put_before(row, report.wrap_err(alloc, IN_FRONT)),
     }
     Ok(())
 }
 
-/// A text in front of what is missing or has failed.
+/// Wraps a missing value or a failed result in a context.
 fn in_front<D: Diagnostic, S: SourceCode, T: WrapErr<u32, D, S>>(
     alloc: Global,
-    way: Way,
+    way: WrapMethod,
     text: &str,
     value: T,
 ) -> Result<u32, Report<D, S>>
 where
-    Report<D, S>: UsualBoxes,
+    Report<D, S>: DefaultBoxes,
 {
     let why = || String::from_str(alloc, text);
     match way {
-        Way::WrapErr => value.wrap_err(alloc, text),
-        Way::Context => value.context(alloc, text),
-        Way::WrapErrWith => value.wrap_err_with(alloc, why),
-        Way::WithContext => value.with_context(alloc, why),
+        WrapMethod::WrapErr => value.wrap_err(alloc, text),
+        WrapMethod::Context => value.context(alloc, text),
+        WrapMethod::WrapErrWith => value.wrap_err_with(alloc, why),
+        WrapMethod::WithContext => value.with_context(alloc, why),
     }
 }
 
-/// A report over another one; where memory is refused both come back.
-fn over_another(alloc: Global, row: &mut Rows) -> Called {
+/// Makes one report the cause of another. If allocation fails, both come back.
+fn over_another(alloc: Global, row: &mut Rows) -> CallResult {
     let cause = full_report(alloc)?;
     let report = Report::new(full_diagnostic(alloc)?);
     row.report(VALUE, &report);
@@ -134,10 +134,10 @@ fn over_another(alloc: Global, row: &mut Rows) -> Called {
     Ok(())
 }
 
-/// `oops!` with all parts, over two texts.
+/// Returns the report `oops!` with all parts, over two texts.
 ///
 /// # Errors
-/// Where memory is refused.
+/// If allocation fails.
 pub fn full_report(alloc: Global) -> Result<Report, AllocError> {
     let report = Report::new(full_diagnostic(alloc)?);
     Ok(report.with_cause_texts(texts_of(alloc, &["b", "c"])?))
@@ -152,7 +152,7 @@ fn is_held(alloc: Global, number: u32) -> Result<u32> {
     Ok(number)
 }
 
-/// The report that a call gave, or that memory was refused.
+/// Prints the report, or that allocation failed.
 fn made(row: &mut Rows, answer: Result<Report, AllocError>) {
     match answer {
         Ok(report) => row.report(VALUE, &report),
@@ -160,7 +160,7 @@ fn made(row: &mut Rows, answer: Result<Report, AllocError>) {
     }
 }
 
-/// A report with a message in front, or as it came back.
+/// Prints the report with its context, or as it came back.
 fn put_before(row: &mut Rows, answer: Result<Report, Report>) {
     match answer {
         Ok(report) => row.report(VALUE, &report),
@@ -168,7 +168,7 @@ fn put_before(row: &mut Rows, answer: Result<Report, Report>) {
     }
 }
 
-/// The report of what is missing or has failed.
+/// Prints the report of a missing value or a failed result.
 fn failed(row: &mut Rows, answer: Result<u32>) {
     match answer {
         Ok(value) => row.value(&value),

@@ -1,4 +1,4 @@
-//! Rows of output: a call's name, what it is given, and what came of it, with tabs between them.
+//! Rows of output: a call's name, its arguments and its result, separated by tabs.
 
 use miette::error::RenderError;
 use miette::report::{Report, ReportKind};
@@ -9,34 +9,34 @@ use std::rt::Stdout;
 
 /// Why the program ends.
 #[derive(Clone, Copy)]
-pub enum Stop {
-    /// Memory was refused before any row.
+pub enum ExitReason {
+    /// Allocation failed before any row.
     Memory,
-    /// Standard output took no more.
+    /// Writing to standard output failed.
     Write,
-    /// The words name no call.
+    /// The arguments name no call.
     Usage,
 }
 
-impl From<AllocError> for Stop {
-    fn from(_refused: AllocError) -> Stop {
-        Stop::Memory
+impl From<AllocError> for ExitReason {
+    fn from(_refused: AllocError) -> ExitReason {
+        ExitReason::Memory
     }
 }
 
-/// What writing rows gives.
-pub type Done = Result<(), Stop>;
+/// The result of writing rows.
+pub type RowResult = Result<(), ExitReason>;
 
-/// What making a call gives: an error where memory was refused for what it is given.
-pub type Called = Result<(), AllocError>;
+/// The result of making a call. It is an error if allocating the call's arguments failed.
+pub type CallResult = Result<(), AllocError>;
 
-/// What stands in front of a value that a call is given, or gave.
+/// The prefix of an argument or result.
 pub const VALUE: &str = "\t";
 
-/// What stands in front of a value that is as before, since memory was refused.
+/// The prefix of a value that is unchanged because allocation failed.
 pub const REFUSED: &str = "\trefused: ";
 
-/// Rows on standard output. Once that takes no more, nothing else is written; the end of a row says so.
+/// Rows on standard output. After a failed write, nothing else is written, and the end of a row reports the error.
 #[derive(Drop)]
 pub struct Rows {
     out: Stdout,
@@ -44,7 +44,7 @@ pub struct Rows {
 }
 
 impl Rows {
-    /// Rows of which none is written yet.
+    /// Starts without rows.
     pub fn on(out: Stdout) -> Rows {
         Rows {
             out,
@@ -52,27 +52,27 @@ impl Rows {
         }
     }
 
-    /// A text, as it is.
+    /// Prints a text as it is.
     pub fn text(&mut self, text: &str) {
         self.is_full = self.is_full || self.out.write_all(text.as_bytes()).is_err();
     }
 
-    /// A value, after its name.
+    /// Prints a value after its name.
     pub fn part<T: Debug>(&mut self, name: &str, value: &T) {
         self.is_full = self.is_full || write!(self.out, "{name}{value:?}").is_err();
     }
 
-    /// A value that a call is given, or gave.
+    /// Prints an argument or result.
     pub fn value<T: Debug>(&mut self, value: &T) {
         self.part(VALUE, value);
     }
 
-    /// That memory was refused.
+    /// Prints that allocation failed.
     pub fn refused(&mut self) {
         self.text("\trefused");
     }
 
-    /// The value that a call gave, or that memory was refused.
+    /// Prints the result, or that allocation failed.
     pub fn answer<T: Debug + Drop>(&mut self, answer: Result<T, AllocError>) {
         match answer {
             Ok(value) => self.value(&value),
@@ -80,7 +80,7 @@ impl Rows {
         }
     }
 
-    /// What a text holds after a call that appends to it.
+    /// Prints a text after a call that appends to it.
     pub fn appended(&mut self, answer: Result<(), RenderError>, text: &String) {
         let before = match answer {
             Ok(()) => VALUE,
@@ -90,8 +90,7 @@ impl Rows {
         self.part(before, text);
     }
 
-    /// A value, where a call gave something, or that memory was refused: what a call changes in place, or a word for
-    /// what it gave.
+    /// Prints a value, or that allocation failed and the value. The value is what the call changes in place.
     pub fn after<A: Drop, T: Debug>(&mut self, answer: Result<A, AllocError>, value: &T) {
         match answer {
             Ok(_) => self.value(value),
@@ -99,11 +98,11 @@ impl Rows {
         }
     }
 
-    /// A value, where it was made, and two clones of it.
+    /// Prints a value and two clones of it.
     ///
     /// # Errors
-    /// Where memory was refused for the value.
-    pub fn clones<T: Clone + Debug + Drop>(&mut self, made: Result<T, AllocError>) -> Called {
+    /// If allocating the value failed.
+    pub fn clones<T: Clone + Debug + Drop>(&mut self, made: Result<T, AllocError>) -> CallResult {
         let value = made?;
         self.value(&value);
         self.answer(value.clone());
@@ -111,7 +110,7 @@ impl Rows {
         Ok(())
     }
 
-    /// The parts of a report, after a text.
+    /// Prints a text and the parts of a report.
     pub fn report(&mut self, before: &str, report: &Report) {
         self.part(before, report);
         self.part(", code ", &report.code());
@@ -121,7 +120,7 @@ impl Rows {
         self.part(", labels ", &report.labels());
     }
 
-    /// A report that a call gave; in front of that of refused memory stands that it was refused.
+    /// Prints a report. If it is the report of a failed allocation, prints that first.
     pub fn report_or_refusal(&mut self, report: &Report) {
         let before = match report.kind() {
             ReportKind::OutOfMemory => REFUSED,
@@ -130,17 +129,17 @@ impl Rows {
         self.report(before, report);
     }
 
-    /// Ends a row, and says where its call wasn't made.
+    /// Ends a row. If its call wasn't made, prints that.
     ///
     /// # Errors
-    /// `Write` where the output took no more.
-    pub fn end(&mut self, called: Called) -> Done {
+    /// `Write` if writing to standard output fails.
+    pub fn end(&mut self, called: CallResult) -> RowResult {
         if called.is_err() {
             self.text("\tno memory before the call");
         }
         self.text("\n");
         if self.is_full {
-            Err(Stop::Write)
+            Err(ExitReason::Write)
         } else {
             Ok(())
         }

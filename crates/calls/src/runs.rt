@@ -1,14 +1,14 @@
-//! Runs of characters and signs.
+//! Calls of runs.
 
-use crate::rows::{Called, Rows};
+use crate::rows::{CallResult, Rows};
 use miette::style::{Color, Style};
 use miette_text::runs::Runs;
-use miette_text::runs::reading::read_text;
+use miette_text::runs::reading::parse_text;
 use std::alloc::{AllocError, Global};
 
 /// The calls of this module.
 #[derive(Clone, Copy)]
-pub enum Call {
+pub enum RunsCall {
     New,
     Push,
     PushChars,
@@ -22,7 +22,7 @@ pub enum Call {
     Append,
 }
 
-/// What is pushed.
+/// The text that is pushed.
 pub static XY: [char; 2] = ['x', 'y'];
 
 /// The style that is pushed.
@@ -30,32 +30,32 @@ pub fn red() -> Style {
     Style::new().color(Color::Red)
 }
 
-/// Makes a call.
+/// Makes a call and prints its row.
 ///
 /// # Errors
-/// Where memory is refused for what it is given.
-pub fn make(alloc: Global, call: Call, row: &mut Rows) -> Called {
+/// If allocating the call's arguments fails.
+pub fn make(alloc: Global, call: RunsCall, row: &mut Rows) -> CallResult {
     let mut runs = Runs::new(alloc);
     row.value(&runs);
-    if !matches!(call, Call::New) {
+    if !matches!(call, RunsCall::New) {
         let answer = push(&mut runs, alloc, call);
         row.after(answer, &runs);
     }
     Ok(())
 }
 
-/// What the call answers; an error too where what it is given can't be made.
-fn push(runs: &mut Runs, alloc: Global, call: Call) -> Result<(), AllocError> {
+/// Returns the call's result, or an error if allocating its arguments fails.
+fn push(runs: &mut Runs, alloc: Global, call: RunsCall) -> Result<(), AllocError> {
     match call {
-        Call::Push => runs.push('x'),
-        Call::PushChars => runs.push_chars(&XY),
-        Call::PushStr => runs.push_str("xyz"),
-        Call::Begin => runs.begin(red().bold()),
-        Call::End => runs.end(),
-        Call::PushRun => runs.push_run(red(), "xyz"),
-        Call::PushRunChars => runs.push_run_chars(red().dimmed(), &XY),
-        Call::PushLink => runs.push_link("http://x"),
-        Call::PushLinkEnd => runs.push_link_end(),
-        _ => runs.append(&read_text(alloc, "\u{1b}[32mb\u{1b}[0mc")?),
+        RunsCall::Push => runs.push('x'),
+        RunsCall::PushChars => runs.push_chars(&XY),
+        RunsCall::PushStr => runs.push_str("xyz"),
+        RunsCall::Begin => runs.begin(red().bold()),
+        RunsCall::End => runs.end(),
+        RunsCall::PushRun => runs.push_run(red(), "xyz"),
+        RunsCall::PushRunChars => runs.push_run_chars(red().dimmed(), &XY),
+        RunsCall::PushLink => runs.push_link("http://x"),
+        RunsCall::PushLinkEnd => runs.push_link_end(),
+        _ => runs.append(&parse_text(alloc, "\u{1b}[32mb\u{1b}[0mc")?),
     }
 }

@@ -1,6 +1,6 @@
-//! Sources.
+//! Calls of sources.
 
-use crate::rows::{Called, Rows};
+use crate::rows::{CallResult, Rows};
 use miette::protocol::{SourceOffset, SourceSpan};
 use miette::report::OwnedSource;
 use miette::source::{IndexedSource, NamedSource, SourceCode};
@@ -8,7 +8,7 @@ use std::alloc::{AllocError, Global};
 
 /// The calls of this module.
 #[derive(Clone, Copy)]
-pub enum Call {
+pub enum SourceCall {
     Indexed,
     Named,
     NamedWithLanguage,
@@ -22,33 +22,35 @@ pub enum Call {
 /// Three lines, the last without a line feed.
 pub const README: &[u8] = b"source\n  text\n    here";
 
-/// Makes a call.
+/// Makes a call and prints its row.
 ///
 /// # Errors
-/// Where memory is refused for what it is given.
-pub fn make(alloc: Global, call: Call, row: &mut Rows) -> Called {
+/// If allocating the call's arguments fails.
+pub fn make(alloc: Global, call: SourceCall, row: &mut Rows) -> CallResult {
     let bytes = README.to_vec(alloc)?;
     match call {
-        Call::Indexed => read(row, IndexedSource::new(alloc, bytes)),
-        Call::Named => read(row, NamedSource::new(alloc, "bad_file.rs", bytes)),
-        Call::Owned => read(row, OwnedSource::new(alloc, bytes)),
-        Call::OwnedUnindexed => read(row, OwnedSource::unindexed(alloc, bytes)),
-        Call::OwnedNamed => read(
+        SourceCall::Indexed => read(row, IndexedSource::new(alloc, bytes)),
+        SourceCall::Named => read(row, NamedSource::new(alloc, "bad_file.rs", bytes)),
+        SourceCall::Owned => read(row, OwnedSource::new(alloc, bytes)),
+        SourceCall::OwnedUnindexed => read(row, OwnedSource::unindexed(alloc, bytes)),
+        SourceCall::OwnedNamed => read(
             row,
             OwnedSource::named(alloc, "bad_file.rs", Some("rust"), bytes),
         ),
-        Call::OwnedNamedUnindexed => read(
+        SourceCall::OwnedNamedUnindexed => read(
             row,
             OwnedSource::named_unindexed(alloc, "bad_file.rs", Some("rust"), bytes),
         ),
-        Call::NamedWithLanguage | Call::NamedClones => return named(alloc, call, row, bytes),
+        SourceCall::NamedWithLanguage | SourceCall::NamedClones => return named(
+            alloc, call, row, bytes,
+        ),
     }
     Ok(())
 }
 
-fn named(alloc: Global, call: Call, row: &mut Rows, bytes: Vec<u8>) -> Called {
+fn named(alloc: Global, call: SourceCall, row: &mut Rows, bytes: Vec<u8>) -> CallResult {
     let named = NamedSource::new(alloc, "bad_file.rs", bytes)?;
-    if let Call::NamedWithLanguage = call {
+    if let SourceCall::NamedWithLanguage = call {
         row.value(&named);
         read(row, named.with_language(alloc, "rust"));
         return Ok(());
@@ -60,7 +62,7 @@ fn named(alloc: Global, call: Call, row: &mut Rows, bytes: Vec<u8>) -> Called {
     Ok(())
 }
 
-/// A read of the source that a call gave, with a line of context.
+/// Prints a read of the source with one line of context.
 fn read<S: SourceCode>(row: &mut Rows, answer: Result<S, AllocError>) {
     match answer {
         Ok(source) => {

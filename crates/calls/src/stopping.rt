@@ -1,4 +1,4 @@
-//! Sources that stop, and highlighters that are refused memory.
+//! Sources whose reads fail, and highlighters whose allocations fail.
 ghost use Rattle.std.specs.Prelude.{None, false};
 
 use miette::error::MietteError;
@@ -12,21 +12,21 @@ use std::io;
 use std::io::ErrorKind;
 use std::rc::Rc;
 
-/// Which reads fail, and how many there were.
+/// Counts reads, and says which of them fail.
 #[derive(Drop)]
 pub struct Reads {
     count: Cell<usize>,
-    // which read fails, from 1; of 0 none does
+    // The read that fails, one-based, or 0 for none.
     fails_at: Cell<usize>,
-    // whether those after it fail too
+    // Whether later reads fail too.
     stays: Cell<bool>,
 }
 
 impl Reads {
-    /// Reads of which none fails.
+    /// Returns a counter without failing reads.
     ///
     /// # Errors
-    /// Where memory is refused.
+    /// If allocation fails.
     pub fn new(alloc: Global) -> Result<Rc<Reads>, AllocError> {
         Ok(Rc::new(
             alloc,
@@ -38,19 +38,19 @@ impl Reads {
         )?)
     }
 
-    /// Begins to count anew. This read fails, from 1, alone or with those after it.
+    /// Restarts the count. The read with this number fails, and later ones too if `stays` is set.
     pub fn begin(&self, fails_at: usize, stays: bool) {
         self.count.set(0);
         self.fails_at.set(fails_at);
         self.stays.set(stays);
     }
 
-    /// How many reads there were.
+    /// Returns the number of reads.
     pub fn count(&self) -> usize {
         self.count.get()
     }
 
-    /// Whether the next read fails.
+    /// Counts a read, and returns whether it fails.
     fn fails(&self) -> bool {
         let count = self.count.get().saturating_add(1);
         self.count.set(count);
@@ -59,27 +59,31 @@ impl Reads {
     }
 }
 
-/// Bytes of which a read fails, the first, the second, or a later one.
+/// A source of which some reads fail.
 #[derive(Drop)]
-pub struct Stopping {
+pub struct FailingSource {
     bytes: Vec<u8>,
-    // sources that share them are counted together
+    // Sources with the same counter are counted together.
     reads: Rc<Reads>,
 }
 
-impl Stopping {
-    /// These bytes, of which these reads fail.
+impl FailingSource {
+    /// Returns a source with these bytes and failing reads.
     ///
     /// # Errors
-    /// Where memory is refused.
-    pub fn over(alloc: Global, bytes: &[u8], reads: &Rc<Reads>) -> Result<Stopping, AllocError> {
+    /// If allocation fails.
+    pub fn over(
+        alloc: Global,
+        bytes: &[u8],
+        reads: &Rc<Reads>,
+    ) -> Result<FailingSource, AllocError> {
         let reads = reads.clone()?;
         let bytes = bytes.to_vec(alloc)?;
-        Ok(Stopping { bytes, reads })
+        Ok(FailingSource { bytes, reads })
     }
 }
 
-impl SourceCode for Stopping {
+impl SourceCode for FailingSource {
     ghost source = { λ it. record { bytes = it.bytes.items; name = None; language = None; always_reads = false } };
 
     fn read_span(
@@ -95,7 +99,7 @@ impl SourceCode for Stopping {
     }
 }
 
-/// Lines in red, up to the line whose number this is; that one is refused memory.
+/// Highlights lines in red, up to the line with this number. Allocation fails for that one.
 #[derive(Drop)]
 pub struct Red(pub usize);
 

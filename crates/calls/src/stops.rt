@@ -1,74 +1,77 @@
-//! Reports over sources that stop after each number of reads: `calls stops`.
+//! Reports over sources that fail after each number of reads: `calls stops`.
 
-use crate::examples::{By, all_handlers, render_example};
-use crate::fixtures::{Example, Label, M, Part, Source, Written};
-use crate::rows::{Done, Rows, Stop};
+use crate::examples::{HandlerKind, all_handlers, render_example};
+use crate::fixtures::{Example, Label, M, Part, Source, WrittenDiagnostic};
+use crate::rows::{ExitReason, RowResult, Rows};
 use crate::stopping::Reads;
 use std::alloc::Global;
 use std::rc::Rc;
 
-/// Whether a handler is tried: one that only styles lines, or wants memory for that, reads as the others do.
-fn is_tried(by: By) -> bool {
+/// Returns whether a handler is tried. Handlers that differ in styles only read like the others.
+fn is_tried(by: HandlerKind) -> bool {
     match by {
-        By::Highlighted | By::Wanting | By::NestedWanting | By::ChosenWanting => false,
-        By::Graphical
-        | By::Nested
-        | By::Chosen
-        | By::ChosenNarrated
-        | By::Narrated
-        | By::Brief
-        | By::Github
-        | By::Json
-        | By::Debug => true,
+        HandlerKind::Highlighted
+        | HandlerKind::Wanting
+        | HandlerKind::NestedWanting
+        | HandlerKind::ChosenWanting => false,
+        HandlerKind::Graphical
+        | HandlerKind::Nested
+        | HandlerKind::Chosen
+        | HandlerKind::ChosenNarrated
+        | HandlerKind::Narrated
+        | HandlerKind::Brief
+        | HandlerKind::Github
+        | HandlerKind::Json
+        | HandlerKind::Debug => true,
     }
 }
 
-/// How many reads are tried at most.
+/// The most reads that are tried.
 const MOST: usize = 99;
 
 const NINE: &[u8] = b"1\n2\n3\n4\n5\n6\n7\n8\n9\n";
 
-/// Nothing but its message, over nine lines.
-const PLAIN: Written = Written {
-    source: Source::Stopping(NINE),
+/// A message over nine lines.
+const PLAIN: WrittenDiagnostic = WrittenDiagnostic {
+    source: Source::FailingSource(NINE),
     ..M
 };
 
 const HERE: &[Label] = &[(8, 1, 0, "here")];
 
-const ONE: Written = Written {
+const ONE: WrittenDiagnostic = WrittenDiagnostic {
     labels: HERE,
     ..PLAIN
 };
 
-const TWO: Written = Written {
+const TWO: WrittenDiagnostic = WrittenDiagnostic {
     labels: &[(4, 1, 0, "a"), (8, 1, 0, "b")],
     ..PLAIN
 };
 
-const APART: Written = Written {
+const APART: WrittenDiagnostic = WrittenDiagnostic {
     labels: &[(0, 1, 0, "a"), (16, 1, 0, "b")],
     ..PLAIN
 };
 
-/// The same over no source.
-const APART_ALONE: Written = Written {
+/// The same without a source.
+const APART_ALONE: WrittenDiagnostic = WrittenDiagnostic {
     source: Source::Missing,
     ..APART
 };
 
-const OWN: Written = Written {
+const OWN: WrittenDiagnostic = WrittenDiagnostic {
     labels: &[(0, 1, 1, "a"), (4, 1, 2, "b"), (16, 1, 0, "c")],
     ..PLAIN
 };
 
-/// As many lines as it takes for a picture to ask their source which one a fix stands in.
-const MANY: Written = Written {
-    source: Source::Stopping(&[b'\n'; 1200]),
+/// Enough lines that a graphical report asks the source for the line of a fix.
+const MANY: WrittenDiagnostic = WrittenDiagnostic {
+    source: Source::FailingSource(&[b'\n'; 1200]),
     ..M
 };
 
-/// Reports over a source that stops, or beside or above such a one.
+/// Reports over a failing source, or with one in a cause or related report.
 fn all_reports() -> &'static [Example] {
     &REPORTS
 }
@@ -126,12 +129,12 @@ static REPORTS: [Example; 10] = [
     },
 ];
 
-/// A row for each handler, each number of context lines and each read that fails, alone or with those after it. The
-/// last row of each is that in which no read fails.
+/// Prints a row for each handler, number of context lines and failing read. Later reads succeed in one row, and fail in
+/// another. In the last row of each group no read fails.
 ///
 /// # Errors
-/// `Write` where standard output took no more.
-pub fn rows(alloc: Global, rows: &mut Rows) -> Done {
+/// `Write` if writing to standard output fails.
+pub fn rows(alloc: Global, rows: &mut Rows) -> RowResult {
     let reads = Reads::new(alloc)?;
     for report in all_reports() {
         for handler in all_handlers() {
@@ -146,8 +149,8 @@ pub fn rows(alloc: Global, rows: &mut Rows) -> Done {
     Ok(())
 }
 
-/// A report, a handler after its name, and a number of context lines.
-type Rendering<'a> = (&'a Example, (&'a str, By), usize);
+/// A report, a handler and its name, and a number of context lines.
+type Rendering<'a> = (&'a Example, (&'a str, HandlerKind), usize);
 
 fn until_none_fails(
     alloc: Global,
@@ -155,7 +158,7 @@ fn until_none_fails(
     (report, (handler, by), lines): Rendering<'_>,
     reads: &Rc<Reads>,
     stays: bool,
-) -> Done {
+) -> RowResult {
     let how = if stays { ", from" } else { ", at" };
     for fails_at in 1..MOST {
         reads.begin(fails_at, stays);
@@ -171,5 +174,5 @@ fn until_none_fails(
             return Ok(());
         }
     }
-    Err(Stop::Usage)
+    Err(ExitReason::Usage)
 }

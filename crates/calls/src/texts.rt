@@ -1,19 +1,19 @@
-//! Texts that are wrapped, read as runs, and printed.
+//! Calls that wrap, read and print texts.
 
-use crate::rows::{Called, Rows};
+use crate::rows::{CallResult, Rows};
 use miette::error::RenderError;
-use miette::wrap::{Plan, WordSeparator, WordSplitter, WrapOptions, fill, wrap};
+use miette::wrap::{WordSeparator, WordSplitter, WrapOptions, WrapPlan, fill, wrap};
 use miette_text::runs::Runs;
 use miette_text::runs::output::Output;
-use miette_text::runs::reading::{columns_of, print, read, read_text};
-use miette_text::wrap::cutting::{without_leading, without_trailing};
-use miette_text::wrap::fitting::push_fitting;
-use miette_tree::report_handler::append_whole;
+use miette_text::runs::reading::{parse_text, print, printed_columns, read};
+use miette_text::wrap::fitting::push_if_fits;
+use miette_text::wrap::trimming::{trim_leading_feeds, trim_trailing_feeds};
+use miette_tree::report_handler::append_all_or_nothing;
 use std::alloc::{AllocError, Global};
 
 /// The calls of this module.
 #[derive(Clone, Copy)]
-pub enum Call {
+pub enum TextCall {
     Fill,
     Wrap,
     PushFitting,
@@ -26,25 +26,25 @@ pub enum Call {
     AppendWhole,
 }
 
-/// A red word, a long one that is cut, and a link.
+/// A red word, a long word that is broken, and a link.
 const TEXT: &str =
     "a \u{1b}[31mred\u{1b}[0m word-and-another, abcdefghijklmnop\n\u{1b}]8;;u\u{1b}\\here\u{1b}]8;;\u{1b}\\ \u{6f22}\n";
 
-/// Makes a call.
+/// Makes a call and prints its row.
 ///
 /// # Errors
-/// Where memory is refused for what it is given.
-pub fn make(alloc: Global, call: Call, row: &mut Rows) -> Called {
+/// If allocating the call's arguments fails.
+pub fn make(alloc: Global, call: TextCall, row: &mut Rows) -> CallResult {
     match call {
-        Call::Fill | Call::AppendWhole => return appended(alloc, call, row),
-        Call::Wrap | Call::PushFitting => wrapped(alloc, call, row),
-        Call::Read => {
+        TextCall::Fill | TextCall::AppendWhole => return appended(alloc, call, row),
+        TextCall::Wrap | TextCall::PushFitting => wrapped(alloc, call, row),
+        TextCall::Read => {
             let codes: Vec<char> = TEXT.chars().collect(alloc)?;
             row.answer(read(alloc, codes));
         }
-        Call::ReadText => row.answer(read_text(alloc, TEXT)),
+        TextCall::ReadText => row.answer(parse_text(alloc, TEXT)),
         _ => {
-            let runs = read_text(alloc, "\n\u{1b}[31m\nred\u{1b}[0m\n")?;
+            let runs = parse_text(alloc, "\n\u{1b}[31m\nred\u{1b}[0m\n")?;
             row.value(&runs);
             of_runs(alloc, call, row, runs);
         }
@@ -52,12 +52,12 @@ pub fn make(alloc: Global, call: Call, row: &mut Rows) -> Called {
     Ok(())
 }
 
-fn of_runs(alloc: Global, call: Call, row: &mut Rows, runs: Runs) {
+fn of_runs(alloc: Global, call: TextCall, row: &mut Rows, runs: Runs) {
     match call {
-        Call::WithoutLeading => row.answer(without_leading(alloc, runs)),
-        Call::WithoutTrailing => row.answer(without_trailing(alloc, runs)),
-        Call::Print => row.answer(print(alloc, &runs)),
-        _ => row.answer(columns_of(alloc, &runs)),
+        TextCall::WithoutLeading => row.answer(trim_leading_feeds(alloc, runs)),
+        TextCall::WithoutTrailing => row.answer(trim_trailing_feeds(alloc, runs)),
+        TextCall::Print => row.answer(print(alloc, &runs)),
+        _ => row.answer(printed_columns(alloc, &runs)),
     }
 }
 
@@ -71,8 +71,8 @@ static OPTIONS: WrapOptions<'static> = WrapOptions {
     splitter: WordSplitter::HyphenSplitter,
 };
 
-/// The text `> `, and what the call puts after it.
-fn appended(alloc: Global, call: Call, row: &mut Rows) -> Called {
+/// Appends to the text `> `.
+fn appended(alloc: Global, call: TextCall, row: &mut Rows) -> CallResult {
     let mut text = String::from_str(alloc, "> ")?;
     row.value(&text);
     let answer = append(&mut text, call);
@@ -80,36 +80,39 @@ fn appended(alloc: Global, call: Call, row: &mut Rows) -> Called {
     Ok(())
 }
 
-/// What the call answers.
-fn append(text: &mut String, call: Call) -> Result<(), RenderError> {
+/// Returns the call's result.
+fn append(text: &mut String, call: TextCall) -> Result<(), RenderError> {
     match call {
-        Call::AppendWhole => append_whole(text, "a text that is longer than what is there"),
+        TextCall::AppendWhole => append_all_or_nothing(
+            text,
+            "a text that is longer than what is there",
+        ),
         _ => Ok(fill(TEXT, &OPTIONS, text)?),
     }
 }
 
-/// An output, and the same after the call.
-fn wrapped(alloc: Global, call: Call, row: &mut Rows) {
+/// Prints an output before and after the call.
+fn wrapped(alloc: Global, call: TextCall, row: &mut Rows) {
     let mut output = Output::for_runs(alloc);
     row.value(&output);
     let answer = push(&mut output, alloc, call);
     row.after(answer, &output);
 }
 
-/// What the call answers; an error too where what it is given can't be made.
-fn push(output: &mut Output, alloc: Global, call: Call) -> Result<(), AllocError> {
-    let first = read_text(alloc, "* ")?;
-    if let Call::PushFitting = call {
-        push_fitting(output, true, 13, &first, "word-and-\u{6f22}")?;
+/// Returns the call's result, or an error if allocating its arguments fails.
+fn push(output: &mut Output, alloc: Global, call: TextCall) -> Result<(), AllocError> {
+    let first = parse_text(alloc, "* ")?;
+    if let TextCall::PushFitting = call {
+        push_if_fits(output, true, 13, &first, "word-and-\u{6f22}")?;
         return Ok(());
     }
-    let further = read_text(alloc, "| ")?;
-    let text = read_text(alloc, TEXT)?;
-    let plan = Plan {
-        wraps: true,
+    let further = parse_text(alloc, "| ")?;
+    let text = parse_text(alloc, TEXT)?;
+    let plan = WrapPlan {
+        wrap_lines: true,
         separator: WordSeparator::AsciiSpace,
-        hyphens: true,
-        breaks: true,
+        split_hyphens: true,
+        break_words: true,
         width: 12,
         first: &first,
         further: &further,

@@ -1,13 +1,13 @@
-//! Themes and highlighters.
+//! Calls of themes and of highlighters in boxes.
 
-use crate::rows::{Called, Rows};
+use crate::rows::{CallResult, Rows};
 use miette::highlight::{BlankHighlighter, Highlighter};
 use miette::theme::{GraphicalTheme, Terminal, ThemeCharacters, ThemeStyles};
 use std::alloc::{AllocError, Global};
 
 /// The calls of this module.
 #[derive(Clone, Copy)]
-pub enum Call {
+pub enum ThemeCall {
     UnicodeCharacters,
     EmojiCharacters,
     AsciiCharacters,
@@ -26,35 +26,35 @@ pub enum Call {
     BoxedLine,
 }
 
-/// Makes a call.
+/// Makes a call and prints its row.
 ///
 /// # Errors
-/// Where memory is refused for what it is given.
-pub fn make(alloc: Global, call: Call, row: &mut Rows) -> Called {
+/// If allocating the call's arguments fails.
+pub fn make(alloc: Global, call: ThemeCall, row: &mut Rows) -> CallResult {
     match call {
-        Call::UnicodeCharacters => row.answer(ThemeCharacters::unicode(alloc)),
-        Call::EmojiCharacters => row.answer(ThemeCharacters::emoji(alloc)),
-        Call::AsciiCharacters => row.answer(ThemeCharacters::ascii(alloc)),
-        Call::CharactersClones => return row.clones(ThemeCharacters::emoji(alloc)),
-        Call::RgbStyles => row.answer(ThemeStyles::rgb(alloc)),
-        Call::AnsiStyles => row.answer(ThemeStyles::ansi(alloc)),
-        Call::NoStyles => row.answer(ThemeStyles::none(alloc)),
-        Call::StylesClones => return row.clones(ThemeStyles::rgb(alloc)),
-        Call::Ascii => row.answer(GraphicalTheme::ascii(alloc)),
-        Call::Unicode => row.answer(GraphicalTheme::unicode(alloc)),
-        Call::UnicodeWithoutColour => row.answer(GraphicalTheme::unicode_nocolor(alloc)),
-        Call::NoTheme => row.answer(GraphicalTheme::none(alloc)),
-        Call::Clones => return row.clones(GraphicalTheme::unicode(alloc)),
-        Call::ForTerminal => {
+        ThemeCall::UnicodeCharacters => row.answer(ThemeCharacters::unicode(alloc)),
+        ThemeCall::EmojiCharacters => row.answer(ThemeCharacters::emoji(alloc)),
+        ThemeCall::AsciiCharacters => row.answer(ThemeCharacters::ascii(alloc)),
+        ThemeCall::CharactersClones => return row.clones(ThemeCharacters::emoji(alloc)),
+        ThemeCall::RgbStyles => row.answer(ThemeStyles::rgb(alloc)),
+        ThemeCall::AnsiStyles => row.answer(ThemeStyles::ansi(alloc)),
+        ThemeCall::NoStyles => row.answer(ThemeStyles::none(alloc)),
+        ThemeCall::StylesClones => return row.clones(ThemeStyles::rgb(alloc)),
+        ThemeCall::Ascii => row.answer(GraphicalTheme::ascii(alloc)),
+        ThemeCall::Unicode => row.answer(GraphicalTheme::unicode(alloc)),
+        ThemeCall::UnicodeWithoutColour => row.answer(GraphicalTheme::unicode_nocolor(alloc)),
+        ThemeCall::NoTheme => row.answer(GraphicalTheme::none(alloc)),
+        ThemeCall::Clones => return row.clones(GraphicalTheme::unicode(alloc)),
+        ThemeCall::ForTerminal => {
             let terminal = terminal(alloc)?;
             row.value(&terminal);
             row.answer(GraphicalTheme::for_terminal(alloc, &terminal));
         }
-        Call::BlankLine => {
+        ThemeCall::BlankLine => {
             let mut highlighter = BlankHighlighter;
             row.answer(highlighter.highlight_line(alloc, "let x = 1;"));
         }
-        Call::BoxedLine => {
+        ThemeCall::BoxedLine => {
             let mut highlighter: Box<dyn Highlighter> = Box::new(alloc, BlankHighlighter)?;
             row.answer(highlighter.highlight_line(alloc, "let x = 1;"));
         }
@@ -62,10 +62,10 @@ pub fn make(alloc: Global, call: Call, row: &mut Rows) -> Called {
     Ok(())
 }
 
-/// Colours that its user doesn't want.
+/// Returns a terminal whose user doesn't want colors.
 ///
 /// # Errors
-/// Where memory is refused.
+/// If allocation fails.
 pub fn terminal(alloc: Global) -> Result<Terminal, AllocError> {
     Ok(Terminal {
         width: Some(40),

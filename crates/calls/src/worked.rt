@@ -1,10 +1,10 @@
-//! Worked reports, each by its name.
+//! The example reports by name.
 
-use crate::fixtures::{Example, Label, M, Mended, Part, Source, Written};
+use crate::fixtures::{Example, Label, M, Part, Source, WrittenDiagnostic, WrittenFix};
 use crate::sources::README;
 use miette::protocol::Severity;
 
-const OOPS: Written = Written {
+const OOPS: WrittenDiagnostic = WrittenDiagnostic {
     message: "oops!",
     code: "oops::my::bad",
     url: "http://x",
@@ -18,13 +18,13 @@ const LINES: &[u8] = b"a\nb\nc\nd\n";
 
 const OVER_LINES: &[Label] = &[(0, 5, 0, "x"), (2, 5, 0, "y\nand z")];
 
-const CROSSING: Written = Written {
+const CROSSING: WrittenDiagnostic = WrittenDiagnostic {
     labels: OVER_LINES,
     source: Source::Owned("", LINES),
     ..M
 };
 
-const LINKED: Written = Written {
+const LINKED: WrittenDiagnostic = WrittenDiagnostic {
     message: "in-ner text here",
     code: "c::d",
     url: "http://a-b/ c",
@@ -32,19 +32,19 @@ const LINKED: Written = Written {
     ..M
 };
 
-const WARNING: Written = Written {
+const WARNING: WrittenDiagnostic = WrittenDiagnostic {
     message: "rel",
     severity: Some(Severity::Warning),
     ..M
 };
 
-const ON_ONE_LINE: Written = Written {
+const ON_ONE_LINE: WrittenDiagnostic = WrittenDiagnostic {
     labels: &[(1, 3, 0, "a"), (2, 3, 0, "b")],
     source: Source::Owned("", b"abcdef"),
     ..M
 };
 
-const WIDE: Written = Written {
+const WIDE: WrittenDiagnostic = WrittenDiagnostic {
     labels: &[
         (4, 4, 0, "wider than 4 columns"),
         (7, 1, 0, "no final terminator"),
@@ -53,7 +53,7 @@ const WIDE: Written = Written {
     ..M
 };
 
-const TABS: Written = Written {
+const TABS: WrittenDiagnostic = WrittenDiagnostic {
     labels: &[(5, 1, 0, "blank"), (8, 1, 0, "tab")],
     source: Source::Owned("", b"x = 1 \n \ty\nend"),
     ..M
@@ -61,13 +61,13 @@ const TABS: Written = Written {
 
 const NINE_LINES: Source = Source::Owned("", b"1\n2\n3\n4\n5\n6\n7\n8\n9\n");
 
-const OWN: Written = Written {
+const OWN: WrittenDiagnostic = WrittenDiagnostic {
     labels: &[(0, 1, 1, ""), (8, 1, 0, "here"), (16, 1, 2, "")],
     source: NINE_LINES,
     ..M
 };
 
-const MANY: Written = Written {
+const MANY: WrittenDiagnostic = WrittenDiagnostic {
     labels: &[
         (0, 1, 0, "a"),
         (1, 1, 0, ""),
@@ -84,30 +84,30 @@ const MANY: Written = Written {
     ..M
 };
 
-const REFUSED: Written = Written {
+const REFUSED: WrittenDiagnostic = WrittenDiagnostic {
     labels: &[(9, 1, 0, "far off"), (0, 1, 0, "here")],
     source: Source::Owned("", b"a"),
     ..M
 };
 
-const STOPPING: Written = Written {
-    source: Source::Stopping(README),
+const STOPPING: WrittenDiagnostic = WrittenDiagnostic {
+    source: Source::FailingSource(README),
     ..OOPS
 };
 
 const TEXTS: &[&str] = &["first", "se-cond\nin two lines", "third"];
 
-/// A fix of a word.
-const LONGER: Mended = ("a longer word", 9, 4, "a text");
+/// A fix that replaces a word.
+const LONGER: WrittenFix = ("a longer word", 9, 4, "a text");
 
-/// A fix that ends after the source.
-const FAR_OFF: Mended = ("far off", 99, 1, "");
+/// A fix past the end of the source.
+const FAR_OFF: WrittenFix = ("far off", 99, 1, "");
 
-/// How many tables of reports there are.
+/// The number of tables.
 pub const TABLES: usize = 5;
 
-/// A table of reports; the tables follow one another as the rows do. Of the source that stops the first read fails. A
-/// long table takes the prover longer than several.
+/// Returns a table of reports. For a source that fails, the first read does. Several tables are proved faster than one
+/// long one.
 pub fn table(number: usize) -> &'static [Example] {
     match number {
         0 => &FIRST,

@@ -1,5 +1,6 @@
-//! Where lines may end: `breaks FILE` prints each text of a file, which NUL parts, as the places of its opportunities,
-//! in bytes, with `!` where a line must end. It names no crate of reports: its faults are rows of text.
+//! Prints where lines may end. `breaks FILE` prints one line for each NUL-terminated text of a
+//! file: the offsets of its break opportunities, in bytes, with `!` after mandatory ones. Errors
+//! are printed without a report.
 
 use miette_line_breaks::breaks::{BreakOpportunity, line_breaks};
 use std::alloc::{AllocError, Global};
@@ -9,7 +10,7 @@ use std::io::{Eprint, Print};
 use std::process::ExitCode;
 use std::{fs, io};
 
-/// Runs the example with the words after its name.
+/// Runs the example with its arguments.
 pub fn main<R: Files + Print + Eprint + AllocGlobal>(rt: &R, words: Args) -> ExitCode {
     match run(rt, words) {
         Ok(()) => ExitCode::SUCCESS,
@@ -26,7 +27,7 @@ fn run<R: Files + Print + AllocGlobal>(rt: &R, words: Args) -> io::Result<()> {
     rt.print(rows)
 }
 
-/// The text of the file that the first word names.
+/// Reads the file that the first argument names.
 fn text_of<R: Files + AllocGlobal>(rt: &R, mut words: Args) -> io::Result<String> {
     match words.next() {
         Some(name) => fs::read_to_string(rt, name.as_str()),
@@ -34,7 +35,7 @@ fn text_of<R: Files + AllocGlobal>(rt: &R, mut words: Args) -> io::Result<String
     }
 }
 
-/// A row for each text, which NUL parts.
+/// Returns one line for each NUL-terminated text.
 fn rows_of(alloc: Global, text: &str) -> Result<String, AllocError> {
     let mut rows = String::new(alloc);
     for part in text.split('\0') {
@@ -44,7 +45,7 @@ fn rows_of(alloc: Global, text: &str) -> Result<String, AllocError> {
     Ok(rows)
 }
 
-/// Appends the opportunities of a text, each after a space.
+/// Appends the break opportunities of a text, each after a space.
 fn push_places(rows: &mut String, text: &str) -> Result<(), AllocError> {
     for (at, opportunity) in line_breaks(text) {
         let mark = match opportunity {

@@ -1,4 +1,4 @@
-//! The value of a sum of products of whole numbers: `calc "2 + 3 * -4"`.
+//! Evaluates sums of products of integers: `calc "2 + 3 * -4"`.
 
 mod sums;
 
@@ -17,7 +17,7 @@ use std::env::Args;
 use std::io::Print;
 use std::process::ExitCode;
 
-/// Runs the example with the words after its name.
+/// Runs the example with its arguments.
 pub fn main<R: Host>(rt: &R, words: Args) -> ExitCode {
     match run(rt, words) {
         Ok(()) => ExitCode::SUCCESS,
@@ -34,7 +34,7 @@ fn run<R: Print + AllocGlobal>(rt: &R, words: Args) -> Result<()> {
     rt.println(value).into_diagnostic(alloc)
 }
 
-/// The value of the first word.
+/// Returns the value of the first argument.
 fn value_in(alloc: Global, mut words: Args) -> Result<i64> {
     let text = words.next().wrap_err(alloc, "usage: calc EXPRESSION")?;
     match value_of(text.as_str()) {
@@ -43,21 +43,20 @@ fn value_in(alloc: Global, mut words: Args) -> Result<i64> {
     }
 }
 
-/// The reason as a message, and a label where it lies.
+/// Returns a report with the reason as its message, and a label on the part that is wrong.
 fn report_of(alloc: Global, text: String, fault: Fault) -> Result<Report, AllocError> {
     let source = source_of(alloc, text)?;
     let label = ((fault.start, fault.length), "here");
     Ok(miette!(in alloc; label = label, "{}", fault.reason).with_owned_source(source))
 }
 
-/// The text with a line feed after it, so that a label after its last word is shown: one at the very end of a source
-/// isn't.
+/// Returns the text with a line feed after it. A label at the very end of a source isn't shown.
 fn source_of(alloc: Global, mut text: String) -> Result<OwnedSource, AllocError> {
     text.push('\n')?;
     OwnedSource::new(alloc, text.into_bytes())
 }
 
-/// Lines in one colour.
+/// Highlights all lines in cyan.
 #[derive(Drop)]
 struct Cyan;
 

@@ -1,4 +1,5 @@
-//! Checks a file of settings in TOML, and that another one gives none of them: `confcheck FILE [FILE]`.
+//! Checks a TOML file of settings: `confcheck FILE [FILE]`. The second file may not repeat a
+//! setting.
 
 mod settings;
 
@@ -17,7 +18,7 @@ use std::process::ExitCode;
 use toml::Table;
 use toml::de::Error;
 
-/// Runs the example with the words after its name.
+/// Runs the example with its arguments.
 pub fn main<R: Host>(rt: &R, words: Args) -> ExitCode {
     match run(rt, words) {
         Ok(()) => ExitCode::SUCCESS,
@@ -36,13 +37,13 @@ fn run<R: Files + Print + AllocGlobal>(rt: &R, mut words: Args) -> Result<()> {
     }
 }
 
-/// Fails with a report whose source is this file.
+/// Fails with the report over this file.
 fn fail_in(alloc: Global, report: Report, name: &str, text: String) -> Result<()> {
     let source = OwnedSource::named(alloc, name, Some("toml"), text.into_bytes())?;
     Err(report.with_owned_source(source))
 }
 
-/// The port, or what is wrong with the settings, of which another file may give none.
+/// Returns the port, or a report of what is wrong with the settings.
 fn check_with<R: Files + AllocGlobal>(rt: &R, text: &str, other: Option<String>) -> Result<i64> {
     let alloc = rt.alloc();
     if let Some(name) = other {
@@ -52,7 +53,7 @@ fn check_with<R: Files + AllocGlobal>(rt: &R, text: &str, other: Option<String>)
     check(alloc, text)
 }
 
-/// Fails where another file, with this name and text, gives one of the settings too.
+/// Fails if the other file repeats a setting.
 fn check_other(alloc: Global, text: &str, name: &str, other: String) -> Result<()> {
     match set_twice(text, other.as_str()) {
         Some((key, line, again)) => {
@@ -65,7 +66,7 @@ fn check_other(alloc: Global, text: &str, name: &str, other: String) -> Result<(
     }
 }
 
-/// The port, or what is wrong with the settings.
+/// Returns the port, or a report of what is wrong with the settings.
 fn check(alloc: Global, text: &str) -> Result<i64> {
     match toml::table_from_str(alloc, text) {
         Ok(table) => match port_of(&table) {
@@ -76,14 +77,14 @@ fn check(alloc: Global, text: &str) -> Result<i64> {
     }
 }
 
-/// A label where the parser stopped.
+/// Returns a report with a label where the parser stopped.
 fn no_toml(alloc: Global, error: &Error) -> Result<Report, AllocError> {
     let labels = label_at(alloc, error.span(), error.message())?;
     let diagnostic = MietteDiagnostic::new(alloc, "this is no TOML")?.with_labels(labels);
     Ok(Report::new(diagnostic))
 }
 
-/// A fault, and beside it a warning for each key that nothing reads.
+/// Returns the report of a bad port, with a warning for each unused key.
 fn bad_port(alloc: Global, text: &str, table: &Table) -> Result<Report, AllocError> {
     let labels = label_at(alloc, line_of(text, "port"), "from 1 to 65535")?;
     let fault = miette!(
@@ -100,7 +101,7 @@ fn bad_port(alloc: Global, text: &str, table: &Table) -> Result<Report, AllocErr
         .with_fix(alloc, port_fix(alloc, text)?)
 }
 
-/// A warning for each key that nothing reads.
+/// Returns a warning for each unused key.
 fn unread_keys(alloc: Global, text: &str, table: &Table) -> Result<Vec<Report>, AllocError> {
     let mut warnings = Vec::new(alloc);
     for key in table.keys() {
@@ -111,7 +112,7 @@ fn unread_keys(alloc: Global, text: &str, table: &Table) -> Result<Vec<Report>, 
     Ok(warnings)
 }
 
-/// A warning that nothing reads this key.
+/// Returns the warning for an unused key.
 fn unread_key(alloc: Global, text: &str, key: &str) -> Result<Report, AllocError> {
     let labels = label_at(alloc, line_of(text, key), "this key isn't known")?;
     let warning = miette!(
@@ -126,7 +127,7 @@ fn unread_key(alloc: Global, text: &str, key: &str) -> Result<Report, AllocError
     }
 }
 
-/// A port that is right: in place of the line that sets one, or in front.
+/// Returns a fix that sets a valid port: it replaces the line of the port, or inserts one.
 fn port_fix(alloc: Global, text: &str) -> Result<Fix, AllocError> {
     let edit = match line_of(text, "port") {
         Some(line) => Edit::replace(line, String::from_str(alloc, "port = 8080")?),
@@ -136,7 +137,7 @@ fn port_fix(alloc: Global, text: &str) -> Result<Fix, AllocError> {
     Ok(fix.with_applicability(Applicability::HasPlaceholders))
 }
 
-/// The known key that is nearest to this one, in its place, where there is one.
+/// Returns a fix that replaces a key by the most similar known one, if there is one.
 fn key_fix(alloc: Global, text: &str, key: &str) -> Result<Option<Fix>, AllocError> {
     let (Some(known), Some(place)) = (nearest_key(alloc, key)?, key_in(text, key)) else {
         return Ok(None);
@@ -146,7 +147,7 @@ fn key_fix(alloc: Global, text: &str, key: &str) -> Result<Option<Fix>, AllocErr
     Ok(Some(fix.with_applicability(Applicability::MaybeIncorrect)))
 }
 
-/// A label at a place, where there is one.
+/// Returns a list with a label at the given span, if there is one.
 fn label_at<P: Into<SourceSpan> + Drop>(
     alloc: Global,
     place: Option<P>,

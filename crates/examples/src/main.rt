@@ -1,5 +1,5 @@
-//! Five examples in one program, whose first word names one: `examples confcheck settings.toml`. Each takes the words
-//! after its name, and could be a program of its own.
+//! Five examples in one program. The first argument names one: `examples confcheck
+//! settings.toml`. Each example takes the arguments after its name, and could be its own program.
 #![tactic(auto)]
 
 mod breaks;
@@ -32,7 +32,7 @@ fn main(rt: HostRuntime) -> ExitCode {
     }
 }
 
-/// Tells why the words can't be used, and gives the status 2.
+/// Prints why the arguments are wrong, and returns exit code 2.
 fn fail<R: Eprint>(rt: &R, fault: io::Error) -> ExitCode {
     let _ = eprintln!(rt; "{fault}");
     ExitCode::from(2)

@@ -1,5 +1,5 @@
-//! Checks files of a small Lisp: `minilisp [--FORM] FILE..`, where `-` is standard input. The status is 0 where no file
-//! has an error, 1 where one has, 2 where the words aren't these.
+//! Checks files of a small Lisp: `minilisp [--FORM] FILE..`, where `-` is standard input. The
+//! exit code is 1 if a file has an error, 2 if the arguments are wrong, and 0 otherwise.
 
 mod syntax;
 mod words;
@@ -13,7 +13,7 @@ use std::fs::Files;
 use std::io::Input;
 use std::process::ExitCode;
 
-/// Runs the example with the words after its name.
+/// Runs the example with its arguments.
 pub fn main<R: Host>(rt: &R, words: Args) -> ExitCode {
     let done = match words_of(rt.alloc(), words) {
         Ok(words) => check_all(rt, &words),
@@ -25,7 +25,7 @@ pub fn main<R: Host>(rt: &R, words: Args) -> ExitCode {
     }
 }
 
-/// Reports what is found in each file, and then how much that is.
+/// Reports the errors of each file, then a summary.
 fn check_all<R: Host>(rt: &R, words: &Words) -> Result<ExitCode> {
     let faults = faults_in(rt, &words.names)?;
     let options = MietteHandlerOpts::new().end_labels(true);
@@ -33,7 +33,7 @@ fn check_all<R: Host>(rt: &R, words: &Words) -> Result<ExitCode> {
     Ok(run.report_all(faults.as_slice()))
 }
 
-/// What is wrong with each file, or why it can't be read.
+/// Returns the reports of all files. A file that can't be read has a report too.
 fn faults_in<R: Files + Input + AllocGlobal>(rt: &R, names: &[String]) -> Result<Vec<Report>> {
     let mut faults = Vec::new(rt.alloc());
     for name in names {
@@ -45,7 +45,7 @@ fn faults_in<R: Files + Input + AllocGlobal>(rt: &R, names: &[String]) -> Result
     Ok(faults)
 }
 
-/// Appends a report of each slip in a file.
+/// Appends a report of each error in a file.
 fn push_slips(faults: &mut Vec<Report>, alloc: Global, file: &SourceText) -> Result<()> {
     let text = file.text();
     for slip in slips_of(alloc, text)?.iter() {
@@ -56,7 +56,7 @@ fn push_slips(faults: &mut Vec<Report>, alloc: Global, file: &SourceText) -> Res
     Ok(())
 }
 
-/// The report of a slip in a text of this length.
+/// Returns the report of an error in a text of this length.
 fn report_of(alloc: Global, slip: Slip, end: usize) -> Report {
     match slip {
         Slip::Unclosed(at) => unclosed(alloc, at, end, "`(`", "a `)` is missing here"),
@@ -73,7 +73,8 @@ fn report_of(alloc: Global, slip: Slip, end: usize) -> Report {
     }
 }
 
-/// The report of what begins and doesn't end, with labels where it begins and at the end of the text.
+/// Returns the report of something that is never closed, with labels at its start and at the end
+/// of the text.
 fn unclosed(alloc: Global, at: usize, end: usize, what: &str, missing: &str) -> Report {
     let start = ((at, 1), "this is never closed");
     let end = (end, missing);

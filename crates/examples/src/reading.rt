@@ -1,13 +1,13 @@
-//! The texts of files.
+//! Reading files.
 
 use miette::prelude::{IntoDiagnostic, Result, WrapErr};
 use std::fs;
 use std::fs::Files;
 
-/// The text of a file.
+/// Reads a file.
 ///
 /// # Errors
-/// Where it can't be read, or isn't UTF-8.
+/// A report if the file can't be read or isn't UTF-8.
 pub fn text_of<R: Files + AllocGlobal>(rt: &R, name: &str) -> Result<String> {
     let alloc = rt.alloc();
     fs::read_to_string(rt, name)

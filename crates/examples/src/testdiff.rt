@@ -11,7 +11,7 @@ use std::fs::Files;
 use std::io::Print;
 use std::process::ExitCode;
 
-/// Runs the example with the words after its name.
+/// Runs the example with its arguments.
 pub fn main<R: Host>(rt: &R, words: Args) -> ExitCode {
     match run(rt, words) {
         Ok(status) => status,
@@ -25,8 +25,8 @@ fn run<R: Host>(rt: &R, words: Args) -> Result<ExitCode> {
     Ok(run.report_all(faults.as_slice()))
 }
 
-/// The form of the report, and the report of the lines that aren't the expected ones. Where there are none, that is
-/// printed.
+/// Returns the form of the reports, and a report of the lines that differ. Prints a line if none
+/// does.
 fn compare<R: Files + Print + AllocGlobal>(rt: &R, words: Args) -> Result<(Form, Vec<Report>)> {
     let alloc = rt.alloc();
     let usage = "usage: testdiff [--json] EXPECTED ACTUAL";
@@ -42,7 +42,7 @@ fn compare<R: Files + Print + AllocGlobal>(rt: &R, words: Args) -> Result<(Form,
     Ok((form, faults))
 }
 
-/// The form of the report, and the names of the two logs.
+/// Returns the form of the reports, and the names of both logs.
 fn words_of(mut words: Args) -> (Form, Option<String>, Option<String>) {
     let first = words.next();
     if first.as_deref() == Some("--json") {
@@ -52,7 +52,7 @@ fn words_of(mut words: Args) -> (Form, Option<String>, Option<String>) {
     }
 }
 
-/// A report with a label on each line of a log that isn't the expected one, where there are some.
+/// Returns a report with a label on each line that differs, if there are any.
 fn faults_in(alloc: Global, wanted: &str, actual: &str, found: String) -> Result<Vec<Report>> {
     let labels = differences(alloc, wanted, found.as_str())?;
     let count = labels.len();

@@ -1,14 +1,14 @@
 -- Sources that are texts.
 use Rattle.std.proofs.Common.{◌≡◌, ◌∙◌, ◌<◌, ℕ, List, length, refl, subst, sym, true, false}
 use Rattle.std.specs.Prelude.{IsUtf8, Option, Some, None, Result, Ok, Err, if◌then◌else◌, is_err, is_some}
-use Rattle.miette_protocol.specs.rules.Outcome.{Answers, Refuses}
+use Rattle.miette_protocol.specs.rules.Outcome.{Answers, IsReadError}
 use Rattle.miette_protocol.specs.rules.Reading.{Contents, Source, Span, contents_of}
 use Rattle.miette_protocol.specs.declared.error.MietteError.{MietteError}
 use Rattle.miette_tree.proofs.WholeReads.{fault_met, nowhere, read_whole}
-use Rattle.miette.specs.rules.Texts.{IsText}
+use Rattle.miette.specs.rules.Texts.{IsTextSource}
 
 pub text_made : (source : Source) (bytes : List ℕ) → source.bytes ≡ bytes → source.always_reads ≡ true → IsUtf8 bytes
-    → IsText source
+    → IsTextSource source
 text_made source bytes e reads text = record {
   utf8 = subst IsUtf8 (sym e) text;
   reads = reads;
@@ -28,12 +28,12 @@ pub whole : (source : Source) (contents : Contents) (bytes : List ℕ) → conte
 whole source contents bytes is at small = read_whole source nowhere contents bytes refl is at small
 
 -- its beginning can be read
-pub never_refused : (source : Source) (e : MietteError) → IsText source → Refuses source nowhere e → ⊥
+pub never_refused : (source : Source) (e : MietteError) → IsTextSource source → IsReadError source nowhere e → ⊥
 never_refused source e text refused =
     (let no : true ≡ false = sym text.reads ∙ fault_met source e refused in cc)
 
-pub always_ok : (source : Source) (span : Span) (r : Result Contents MietteError) → IsText source → span ≡ nowhere
+pub always_ok : (source : Source) (span : Span) (r : Result Contents MietteError) → IsTextSource source → span ≡ nowhere
     → Answers source span 1 most r → is_err r ≡ true → ⊥
 always_ok source span (Ok x) text begin answers h = (let no : false ≡ true = h in cc)
 always_ok source span (Err e) text begin answers h =
-    never_refused source e text (subst (λ s. Refuses source s e) begin answers)
+    never_refused source e text (subst (λ s. IsReadError source s e) begin answers)

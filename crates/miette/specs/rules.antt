@@ -1,13 +1,13 @@
--- What users rely on, in the words of docs/RULES.md.
+-- The definitions that users rely on, named as in docs/RULES.md.
 pub mod Options
 pub mod Choice
 pub mod Detection
 pub mod Printing
 pub mod Counting
 pub mod Forms
-pub mod Run
+pub mod ReporterRun
 pub mod Reported
 pub mod Inputs
 pub mod Pieces
 pub mod Texts
-pub mod Words
+pub mod Arguments

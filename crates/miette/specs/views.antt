@@ -1,4 +1,4 @@
--- What the code's values stand for.
+-- Values of the code, as the rules represent them.
 pub mod Handler
 pub mod FormHandler
 pub mod Beginning

@@ -1,4 +1,4 @@
-//! Laws of comparing and cloning small values. The functions do nothing; what they ensure is proved.
+//! Theorems about comparing and cloning small values. Each is the contract of an empty function.
 ghost use Rattle.std.specs.Prelude.{◌≡◌, ◌↔◌, IsTrue};
 
 use crate::options::RgbColors;
@@ -7,7 +7,7 @@ use crate::terminal::Stream;
 use miette_style::style::{Color, Style};
 use miette_text::wrap::{WordSeparator, WordSplitter};
 
-/// Two print errors, and two streams, are equal where they are the same, and a clone is the same.
+/// Print errors and streams are equal exactly if they are the same. A clone is the same.
 pub fn comparison_laws()
     ensures equal_print_errors { (a b : PrintError) → IsTrue (⟦<PrintError as PartialEq>⟧.eq a b) ↔ (a ≡ b) }
     ensures equal_streams { (a b : Stream) → IsTrue (⟦<Stream as PartialEq>⟧.eq a b) ↔ (a ≡ b) }
@@ -15,8 +15,8 @@ pub fn comparison_laws()
     ensures cloned_streams { (a b : Stream) → ⟦<Stream as Clone>⟧.is_clone a b → b ≡ a }
 {}
 
-/// Colours, styles, separators and splitters of words, the use of RGB colours, print errors and streams are cloned
-/// without memory: no such clone is refused.
+/// Cloning colors, styles, word separators and splitters, `RgbColors`, print errors and streams never allocates, so it
+/// never fails.
 pub fn clones_take_no_memory()
     ensures colours { (it : Color) → ⟦<Color as Clone>⟧.is_infallible it }
     ensures styles { (it : Style) → ⟦<Style as Clone>⟧.is_infallible it }

@@ -1,5 +1,5 @@
-//! Diagnostics that a program can print: spans and labels, reports with causes and sources, and handlers that make
-//! their text. This crate names what its users need from the layers below.
+//! Diagnostics that a program can print: spans and labels, reports with causes and sources, and handlers that render
+//! them. This crate re-exports what its users need from the crates below.
 #![tactic(auto)]
 
 pub mod handlers;

@@ -1,25 +1,25 @@
-//! Pieces of a text that know where they begin, for programs that go through it line by line.
+//! Pieces of a text with their offsets, for programs that read a text line by line.
 
 ghost use Rattle.std.specs.Prelude.{◌≡◌, ◌+◌, ◌-◌, ◌≤◌, ◌<◌, ◌^◌, length};
 ghost use Rattle.std.specs.List.{after_first, before_first};
 ghost use Rattle.std.specs.Str.{trim, trim_start};
-ghost use Rattle.miette.specs.rules.Pieces.{further, is_lf};
+ghost use Rattle.miette.specs.rules.Pieces.{bytes_after, is_lf};
 
 use miette_protocol::protocol::SourceSpan;
 use std::marker::Model;
 
-/// A piece of a text, and where it begins there.
+/// A piece of a text and its offset.
 #[derive(Clone, Copy)]
 pub struct Piece<'a> {
-    /// Where it begins, in bytes.
+    /// Offset of its first byte.
     pub start: usize,
-    /// What stands there.
+    /// Its text.
     pub text: &'a str,
 }
 
 impl<'a> Piece<'a> {
-    /// The lines of a text, one after another, each without its LF; a CR in front of that is part of the line. An LF at
-    /// the end of the text begins no line.
+    /// Returns the lines of a text, in order, without their LF. A CR before the LF belongs to the line. A final LF
+    /// begins no line.
     pub fn lines(text: &'a str) -> PieceLines<'a>
         ensures { result ≡ record { start = 0; text = text.now } }
     {
@@ -29,11 +29,11 @@ impl<'a> Piece<'a> {
         }
     }
 
-    /// The piece without the white space at its beginning and end.
+    /// Returns the piece without white space at both ends.
     pub fn trim(self) -> Piece<'a>
         ensures text { result.text.now ≡ trim self.entry.text.now }
         ensures start { result.start
-            ≡ further self.entry.start (length self.entry.text.now - length (trim_start self.entry.text.now)) }
+            ≡ bytes_after self.entry.start (length self.entry.text.now - length (trim_start self.entry.text.now)) }
     {
         let text = self.text.trim_start();
         let blanks = self.text.len().saturating_sub(text.len());
@@ -43,15 +43,15 @@ impl<'a> Piece<'a> {
         }
     }
 
-    /// Where it ends, in bytes, up to the largest `usize`.
+    /// Offset after its last byte, at most the largest `usize`.
     pub fn end(self) -> usize
-        ensures { result ≡ further self.entry.start (length self.entry.text.now) }
+        ensures { result ≡ bytes_after self.entry.start (length self.entry.text.now) }
     {
         self.start.saturating_add(self.text.len())
     }
 }
 
-/// Its place, for a label on it.
+/// The span of the piece, for a label.
 impl<'a> From<Piece<'a>> for SourceSpan {
     ghost use Rattle.std.specs.Prelude.{◌≡◌, length};
 
@@ -62,7 +62,7 @@ impl<'a> From<Piece<'a>> for SourceSpan {
     }
 }
 
-/// The lines that are left of a text.
+/// The remaining lines of a text.
 #[derive(Drop)]
 pub struct PieceLines<'a> {
     start: usize,
@@ -71,16 +71,16 @@ pub struct PieceLines<'a> {
 
 impl<'a> Model for PieceLines<'a> {
     ghost use Rattle.std.specs.Prelude.{◌+◌, ◌^◌, ◌<◌, length};
-    ghost use Rattle.miette.specs.rules.Pieces.{Left};
+    ghost use Rattle.miette.specs.rules.Pieces.{RemainingText};
 
-    ghost Value = { Left };
+    ghost Value = { RemainingText };
 
     ghost view = { λ it. record { start = it.start; text = it.rest.now } };
 
     ghost invariant = { λ it. it.start + length it.rest.now < 2 ^ 64 };
 }
 
-// What stands before the first LF of a text, or all of it, and what stands after that LF.
+// Splits a text at its first LF. Without an LF the rest is empty.
 fn parted(text: &str) -> (&str, &str)
     ensures line { result.0.now ≡ before_first is_lf text.now }
     ensures rest { result.1.now ≡ after_first is_lf text.now }
@@ -97,11 +97,11 @@ fn parted(text: &str) -> (&str, &str)
 impl<'a> Iterator for PieceLines<'a> {
     ghost use Rattle.std.specs.Prelude.{length};
     ghost use Rattle.std.specs.Iterator.{at_most};
-    ghost use Rattle.miette.specs.rules.Pieces.{GivesLine};
+    ghost use Rattle.miette.specs.rules.Pieces.{GivesPieceLine};
 
     type Item = Piece<'a>;
 
-    ghost next_gives = { GivesLine };
+    ghost next_gives = { GivesPieceLine };
 
     ghost remaining = { λ left. at_most (length left.text) };
 

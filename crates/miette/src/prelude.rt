@@ -5,12 +5,12 @@ pub use crate::handlers::{
 };
 pub use crate::host::Host;
 pub use crate::input::{input_name, read_text};
-pub use crate::options::{MietteHandlerOpts, Terminal};
+pub use crate::options::{MietteHandlerOpts, SetLayout, Terminal};
 pub use crate::pieces::Piece;
 pub use crate::print::{
     eprint_report, eprint_report_with, fail_with, print_report, print_report_with,
 };
-pub use crate::reporter::{Form, Reporter, RunWords};
+pub use crate::reporter::{Form, ReportArguments, Reporter};
 pub use crate::source_text::SourceText;
 pub use crate::terminal::{Stream, Streams};
 pub use miette_fixes::fix::{Applicability, Edit, Fix};

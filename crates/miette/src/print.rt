@@ -1,4 +1,4 @@
-//! Reports on standard output and standard error, and the status that a program ends with.
+//! Prints reports to standard output and standard error, and returns exit codes.
 
 ghost use Rattle.std.specs.Prelude.{◌≡◌, ◌⊎◌, [], IfOk, OnOk, OnErr};
 ghost use Rattle.std.specs.Io.KnownBytes.{Appends};
@@ -12,7 +12,7 @@ ghost use Rattle.miette.specs.views.Handler.{GivesByCalls};
 
 use crate::handlers::ReportHandler;
 use crate::options::MietteHandlerOpts;
-use crate::terminal::{Lookup, Stream, Streams, detect};
+use crate::terminal::{Lookup, Stream, Streams, detect_terminal};
 use miette_highlight::highlight::{BlankHighlighter, Highlighter};
 use miette_protocol::error::RenderError;
 use miette_protocol::protocol::Diagnostic;
@@ -26,15 +26,15 @@ use std::{fmt, io};
 /// Why a report wasn't printed.
 #[derive(Clone, Copy, Debug, PartialEq, Eq)]
 pub enum PrintError {
-    /// Memory was refused.
+    /// Allocation failed.
     Memory,
-    /// A read of a source was refused, for which the text has no row.
+    /// A source refused a read, and the output has no text for that.
     Refused,
-    /// The writer did not take all.
+    /// The writer didn't take all bytes.
     Write,
 }
 
-/// Prints which of the three it is.
+/// Prints which of the three errors it is.
 impl fmt::Display for PrintError {
     ghost use Rattle.std.specs.Prelude.{Some};
     ghost use Rattle.miette.specs.rules.Printing.{print_text};
@@ -49,7 +49,7 @@ impl fmt::Display for PrintError {
 impl PrintError {
     ghost use Rattle.miette.specs.rules.Printing.{print_text};
 
-    /// What it prints. Takes no memory.
+    /// Returns the text of the error, without allocating.
     pub fn text(&self) -> &'static str
         ensures { result.now ≡ print_text self.now }
     {
@@ -82,17 +82,17 @@ impl From<RenderError> for PrintError {
     }
 }
 
-/// Where a report is printed, and what is told where that fails.
+/// The writer for a report, and the writer for the reason if that fails.
 #[derive(Drop)]
 pub struct Outputs<W, F> {
-    /// Takes the report.
+    /// Receives the report.
     pub writer: W,
-    /// Takes the row that says why it was not printed.
+    /// Receives a line with the reason if the report was not printed.
     pub faults: F,
 }
 
 impl<W, F> Outputs<W, F> {
-    /// These two.
+    /// Creates the pair.
     pub fn new(writer: W, faults: F) -> Self
         ensures writer { result.writer ≡ writer }
         ensures faults { result.faults ≡ faults }
@@ -101,8 +101,8 @@ impl<W, F> Outputs<W, F> {
     }
 }
 
-/// Prints a report on standard error, as its terminal has it, and gives the status 1, with which `main` ends a program
-/// that failed. Where that fails, standard error is told why, as by `print_on`.
+/// Prints a report to standard error, styled for its terminal, and returns exit code 1 for `main`. If that fails, it
+/// prints the reason to standard error like `print_with_outputs`.
 pub fn eprint_report<R: Lookup + AllocGlobal + Streams, D: Diagnostic, S: SourceCode>(
     rt: &R,
     report: &Report<D, S>,
@@ -112,7 +112,7 @@ pub fn eprint_report<R: Lookup + AllocGlobal + Streams, D: Diagnostic, S: Source
     eprint_report_with(rt, plain(), report)
 }
 
-/// As `eprint_report`, on standard output.
+/// Like `eprint_report`, but prints to standard output.
 pub fn print_report<R: Lookup + AllocGlobal + Streams, D: Diagnostic, S: SourceCode>(
     rt: &R,
     report: &Report<D, S>,
@@ -122,7 +122,7 @@ pub fn print_report<R: Lookup + AllocGlobal + Streams, D: Diagnostic, S: SourceC
     print_report_with(rt, plain(), report)
 }
 
-/// As `eprint_report`, and gives this status, as for words that can't be used.
+/// Like `eprint_report`, but returns the given exit code, for example for wrong arguments.
 pub fn fail_with<R: Lookup + AllocGlobal + Streams, D: Diagnostic, S: SourceCode>(
     rt: &R,
     status: u8,
@@ -134,7 +134,7 @@ pub fn fail_with<R: Lookup + AllocGlobal + Streams, D: Diagnostic, S: SourceCode
     ExitCode::from(status)
 }
 
-/// As `eprint_report`, by the handler that these options choose.
+/// Like `eprint_report`, with the handler that these options choose.
 pub fn eprint_report_with<
     R: Lookup + AllocGlobal + Streams,
     H: Highlighter,
@@ -144,10 +144,10 @@ pub fn eprint_report_with<
     ensures { exit_status result ≡ 1 }
 {
     let mut outputs = Outputs::new(rt.faults(), rt.faults());
-    failed(print_on(rt, Stream::Stderr, options, report, &mut outputs))
+    failed(print_with_outputs(rt, Stream::Stderr, options, report, &mut outputs))
 }
 
-/// As `print_report`, by the handler that these options choose.
+/// Like `print_report`, with the handler that these options choose.
 pub fn print_report_with<
     R: Lookup + AllocGlobal + Streams,
     H: Highlighter,
@@ -157,15 +157,16 @@ pub fn print_report_with<
     ensures { exit_status result ≡ 1 }
 {
     let mut outputs = Outputs::new(rt.output(), rt.faults());
-    failed(print_on(rt, Stream::Stdout, options, report, &mut outputs))
+    failed(print_with_outputs(rt, Stream::Stdout, options, report, &mut outputs))
 }
 
-/// Prints a report on a writer, by the handler that the options choose for the terminal of the stream: the status 0.
-/// Where that fails, `faults` is told why, by a row, `a report could not be printed: write fault`: the status 1.
+/// Prints a report to a writer, with the handler that the options choose for the stream's terminal, and returns exit
+/// code 0. If that fails, it prints the reason to `faults` on one line, such as
+/// `a report could not be printed: write fault`, and returns exit code 1.
 ///
 /// # Errors
-/// That of `faults`, where it was told and did not take the row.
-pub fn print_on<
+/// The error of `faults`, if it didn't take that line.
+pub fn print_with_outputs<
     R: Lookup + AllocGlobal + Streams,
     H: Highlighter,
     D: Diagnostic,
@@ -191,21 +192,21 @@ pub fn print_on<
         × (why ≡ PrintError.Refused → MayRefuse (IsToldBy (R.variable_may_be rt.now) (R.terminal_may_be rt.now))
         options stream (tree_of D.meaning S.source report.now))) }
 {
-    match print_to(rt, stream, options, report, &mut outputs.writer) {
+    match print_to_writer(rt, stream, options, report, &mut outputs.writer) {
         Ok(()) => Ok(ExitCode::SUCCESS),
         Err(why) => {
-            tell(why, &mut outputs.faults)?;
+            explain_failure(why, &mut outputs.faults)?;
             Ok(ExitCode::FAILURE)
         }
     }
 }
 
-/// Writes a report, by the handler that the options choose for the terminal of the stream.
+/// Writes a report with the handler that the options choose for the stream's terminal.
 ///
 /// # Errors
-/// `Memory`; `Refused` as that handler says: nothing was written then. `Write` where the writer failed, which may have
-/// taken a beginning of the text.
-pub fn print_to<
+/// `Memory` if allocation fails, and `Refused` as described for the handler. In both cases nothing was written. `Write`
+/// if the writer failed; it may have taken a beginning of the text.
+pub fn print_to_writer<
     R: Lookup + AllocGlobal + Streams,
     H: Highlighter,
     D: Diagnostic,
@@ -218,7 +219,7 @@ pub fn print_to<
     report: &Report<D, S>,
     writer: &mut W,
 ) -> Result<(), PrintError>
-    // One text of a handler that the options choose, by calls on its highlighter, was written, and nothing else.
+    // Exactly one text of a handler that the options choose, with the calls on its highlighter, was written.
     ensures ok { OnOk result (WritesOne (IsPrinted (IsToldBy (R.variable_may_be rt.now) (R.terminal_may_be rt.now))
         (GivesByCalls H.is_blank H.may_follow) options stream (tree_of D.meaning S.source report.now))
         (W.contents writer.old) (W.contents writer.new)) }
@@ -227,16 +228,16 @@ pub fn print_to<
         (tree_of D.meaning S.source report.now) }
     ensures untouched { OnErr result ((result ≡ Err PrintError.Write) ⊎ (writer.new ≡ writer.old)) }
 {
-    let terminal = detect(rt, stream)?;
+    let terminal = detect_terminal(rt, stream)?;
     let mut handler = options.build(rt.alloc(), &terminal)?;
     write_report(rt.alloc(), &mut handler, report, writer)
 }
 
-/// Writes the text that a handler gives of a report, and nothing else; the handler's settings stay.
+/// Writes the text that a handler renders for a report. The handler's settings don't change.
 ///
 /// # Errors
-/// `Memory` where memory is refused, and `Refused` as the handler says: nothing was written then. `Write` where the
-/// writer failed, which may have taken a beginning of the text.
+/// `Memory` if allocation fails, and `Refused` as described for the handler. In both cases nothing was written. `Write`
+/// if the writer failed; it may have taken a beginning of the text.
 pub fn write_report<T: ReportHandler, D: Diagnostic, S: SourceCode, W: Write>(
     alloc: Global,
     handler: &mut T,
@@ -260,21 +261,21 @@ pub fn write_report<T: ReportHandler, D: Diagnostic, S: SourceCode, W: Write>(
     }
 }
 
-// Nothing is asked for.
+// Default options.
 fn plain() -> MietteHandlerOpts<BlankHighlighter>
     ensures { result ≡ no_options }
 {
     MietteHandlerOpts::default()
 }
 
-// The row that says why a report was not printed.
-pub(crate) fn tell<F: Write>(why: PrintError, faults: &mut F) -> io::Result<()>
+// Writes a line with the reason why a report was not printed.
+pub(crate) fn explain_failure<F: Write>(why: PrintError, faults: &mut F) -> io::Result<()>
     ensures { OnOk result (Appends (F.contents faults.old) (F.contents faults.new) (unprinted_row why)) }
 {
     writeln!(faults, "a report could not be printed: {why}")
 }
 
-// The status of a program that failed, whether its report was printed or not.
+// The exit code of a program that failed, whether or not its report was printed.
 fn failed(_printed: io::Result<ExitCode>) -> ExitCode
     ensures { exit_status result ≡ 1 }
 {

@@ -1,15 +1,15 @@
-//! Reports of a run: a program writes them one after another in one form, and its status says whether one was an error.
+//! Prints the reports of a session one after another in one form. The exit code says whether one was an error.
 
 mod all;
+mod arguments;
 mod counts;
 mod form;
 mod handler;
 mod run;
 mod start;
-mod words;
 
+pub use crate::reporter::arguments::ReportArguments;
 pub use crate::reporter::counts::Counts;
 pub use crate::reporter::form::Form;
 pub use crate::reporter::handler::FormHandler;
 pub use crate::reporter::run::Reporter;
-pub use crate::reporter::words::RunWords;

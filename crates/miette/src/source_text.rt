@@ -1,4 +1,4 @@
-//! Texts that a program reads, and reports over them share as their source.
+//! Texts that a program reads, shared as the source of its reports.
 
 ghost use Rattle.std.specs.Prelude.{◌≡◌, IsUtf8, IfOk, IfErr, Some, string_bytes};
 ghost use Rattle.std.specs.Option.{option_copied};
@@ -6,19 +6,19 @@ ghost use Rattle.miette_protocol.specs.rules.Reading.{named_source, plain_source
 ghost use Rattle.miette_tree.specs.views.Owned.{owned_source};
 ghost use Rattle.miette_tree.specs.views.Report.{tree_of};
 ghost use Rattle.miette.specs.rules.Inputs.{GivesNoText, shown_name};
-ghost use Rattle.miette.specs.rules.Texts.{IsText};
+ghost use Rattle.miette.specs.rules.Texts.{IsTextSource};
 
 use crate::input::{input_name, read_text};
 use miette_protocol::protocol::{Diagnostic, SourceOffset, SourceSpan};
 use miette_protocol::source::SourceCode;
-use miette_tree::report::{OwnedSource, Report, UsualBoxes};
+use miette_tree::report::{DefaultBoxes, OwnedSource, Report};
 use std::alloc::{AllocError, Global};
 use std::fs::Files;
 use std::io::Input;
 use std::marker::Model;
 use std::str;
 
-/// A text that lies in memory once, as the source of all reports over it.
+/// A text in memory, shared by all reports over it.
 #[derive(Drop)]
 pub struct SourceText {
     source: OwnedSource,
@@ -27,28 +27,27 @@ pub struct SourceText {
 impl Model for SourceText {
     ghost use Rattle.miette_protocol.specs.rules.Reading.{Source};
     ghost use Rattle.miette_tree.specs.views.Owned.{owned_source};
-    ghost use Rattle.miette.specs.rules.Texts.{IsText};
+    ghost use Rattle.miette.specs.rules.Texts.{IsTextSource};
 
     ghost Value = { Source };
 
     ghost view = { λ it. owned_source it.source };
 
-    ghost invariant = { λ it. IsText (owned_source it.source) };
+    ghost invariant = { λ it. IsTextSource (owned_source it.source) };
 }
 
 impl SourceText {
-    /// The input that a word names, a file, or standard input with `-`, and the language that a highlighter takes it
-    /// for.
+    /// Reads a file, or standard input for `-`. A highlighter takes the text for this language.
     ///
     /// # Errors
-    /// As of `read_text`: a report that says why it isn't read, or isn't text.
+    /// Those of `read_text`: a report that says why the input can't be read, or isn't text.
     pub fn read<R: Files + Input + AllocGlobal, D: Diagnostic, S: SourceCode>(
         rt: &R,
         word: &str,
         language: Option<&str>,
     ) -> Result<SourceText, Report<D, S>>
     where
-        Report<D, S>: UsualBoxes,
+        Report<D, S>: DefaultBoxes,
         ensures name { IfOk result (λ it. it.name ≡ Some (shown_name word.now)) }
         ensures language { IfOk result (λ it. it.language ≡ option_copied language.entry) }
         ensures err { IfErr result (λ r. GivesNoText (shown_name word.now) (tree_of D.meaning S.source r)) }
@@ -58,10 +57,10 @@ impl SourceText {
         Ok(named)
     }
 
-    /// A text of this name, and of a language where one is given.
+    /// Creates a source from a text, with a name and optionally a language.
     ///
     /// # Errors
-    /// Where no memory is found for the index of its lines, and for the name; the text is then dropped.
+    /// `AllocError` if allocation for the index of lines or the name fails; the text is dropped.
     pub fn named(
         alloc: Global,
         name: &str,
@@ -75,15 +74,15 @@ impl SourceText {
         Ok(SourceText { source })
     }
 
-    /// The text. Each call goes through it once more to see that it is UTF-8.
+    /// Returns the text. Each call checks again that it is UTF-8.
     pub fn text(&self) -> &str
         ensures { result.now ≡ self.now.bytes }
     {
         text_in(&self.source)
     }
 
-    /// The same text once more, as the source of a report (`with_owned_source`) or of labels over it in reports over
-    /// others (`Snippets::over_owned`). It takes no memory: `AllocError` comes only where there are too many to count.
+    /// Returns another handle of the same text, for `with_owned_source` of a report or `Snippets::over_owned`. It
+    /// doesn't allocate: `AllocError` only means that there are too many handles to count.
     pub fn source(&self) -> Result<OwnedSource, AllocError>
         ensures { IfOk result (λ it. owned_source it ≡ self.now) }
     {
@@ -91,9 +90,9 @@ impl SourceText {
     }
 }
 
-// The text that a source is.
+// The text of a source.
 fn text_in(source: &OwnedSource) -> &str
-    requires { IsText (owned_source source.now) }
+    requires { IsTextSource (owned_source source.now) }
     ensures { result.now ≡ (owned_source source.now).bytes }
 {
     let begin = SourceSpan::new(SourceOffset::from(0), 0);
@@ -103,7 +102,7 @@ fn text_in(source: &OwnedSource) -> &str
     }
 }
 
-// The text that bytes are.
+// Bytes as text.
 fn text_of(bytes: &[u8]) -> &str
     requires { IsUtf8 bytes.now }
     ensures { result.now ≡ bytes.now }

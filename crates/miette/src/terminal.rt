@@ -1,4 +1,4 @@
-//! What a program is told of its terminal: by variables, and by its streams.
+//! What a program knows about its terminal, from variables and streams.
 
 ghost use Rattle.std.specs.Prelude.{◌≡◌, ℕ, List, Bool, Option, IfOk, OnOk, Some, option_map, string_bytes};
 ghost use Rattle.miette_style.specs.rules.Themes.{refuses_colours};
@@ -15,7 +15,7 @@ use std::env::{Env, VarError};
 use std::io::{IsTerminal, Write};
 use std::rt::{Stderr, Stdout};
 
-/// Where a text goes.
+/// A stream that text is printed to.
 #[derive(Clone, Copy, Debug, PartialEq, Eq)]
 pub enum Stream {
     /// Standard output.
@@ -24,14 +24,14 @@ pub enum Stream {
     Stderr,
 }
 
-/// A handle that gives standard output and standard error.
+/// A handle with standard output and standard error.
 pub trait Streams {
     /// Standard output.
     type Out: Write + IsTerminal + Drop;
     /// Standard error.
     type Faults: Write + IsTerminal + Drop;
 
-    /// What may be answered of a stream: whether it goes to a terminal.
+    /// Possible answers of the system: whether a stream goes to a terminal.
     ghost terminal_may_be: { Self → Stream → Bool → Type 0 };
 
     /// Standard output.
@@ -40,12 +40,12 @@ pub trait Streams {
     /// Standard error.
     fn faults(&self) -> Self::Faults;
 
-    /// Whether this stream goes to a terminal.
+    /// Whether a stream goes to a terminal.
     fn goes_to_terminal(&self, stream: Stream) -> bool
         ensures { terminal_may_be self.now stream result };
 }
 
-/// The streams of the program. No clause says whether they go to terminals: that is the system's.
+/// The program's own streams. No clause says whether they go to terminals: the system decides.
 impl Streams for HostRuntime {
     type Out = Stdout;
 
@@ -69,20 +69,20 @@ impl Streams for HostRuntime {
     }
 }
 
-/// A handle that gives variables by their names.
+/// A handle that looks up environment variables.
 pub trait Lookup {
-    /// What may be answered of a name: the variable's text, or nothing where it isn't set.
+    /// Possible answers of the system: the text of a variable, or `None` if it isn't set.
     ghost variable_may_be: { Self → List ℕ → Option (List ℕ) → Type 0 };
 
-    /// The variable of this name, where it is set. One that isn't UTF-8 counts as not set.
+    /// Returns the variable with this name, if it is set. A variable that is not UTF-8 counts as not set.
     ///
     /// # Errors
-    /// Where no memory is found for it.
+    /// `AllocError` if allocation fails.
     fn variable(&self, name: &str) -> Result<Option<String>, AllocError>
         ensures { IfOk result (λ text. variable_may_be self.now name.now (option_map string_bytes text)) };
 }
 
-/// The variables of the program. No clause says what they are: that is the system's.
+/// The program's own variables. No clause says what they are: the system decides.
 impl<R: Env + AllocGlobal> Lookup for R {
     ghost variable_may_be = { λ _ _ _. Unit {0} };
 
@@ -95,37 +95,38 @@ impl<R: Env + AllocGlobal> Lookup for R {
     }
 }
 
-/// What is said of a terminal: variables, each where it is set, and which streams go to one.
+/// Variables that describe a terminal, each if it is set, and which streams go to one.
 #[derive(Debug, Default, Drop)]
 pub struct Variables {
-    /// `FORCE_COLOR`: `0` and `false` ask for no colours, `3` for 16 million, all else for some. It counts first.
+    /// `FORCE_COLOR`: `0` and `false` turn colors off, `3` means 16 million colors, anything else some. It takes
+    /// precedence.
     pub force_color: Option<String>,
-    /// `NO_COLOR`: all but `0` asks for no colours.
+    /// `NO_COLOR`: anything except `0` turns colors off.
     pub no_color: Option<String>,
-    /// `CLICOLOR`: `0` asks for no colours.
+    /// `CLICOLOR`: `0` turns colors off.
     pub clicolor: Option<String>,
-    /// `COLORTERM`: `truecolor` and `24bit` tell of 16 million colours.
+    /// `COLORTERM`: `truecolor` and `24bit` mean 16 million colors.
     pub colorterm: Option<String>,
-    /// `TERM`, the kind of the terminal: without one, or where it is `dumb`, there are no colours.
+    /// `TERM`, the kind of the terminal. There are no colors if it is missing or `dumb`.
     pub term: Option<String>,
-    /// `TERM_PROGRAM`, the terminal's name, by which some are known to show links.
+    /// `TERM_PROGRAM`, the name of the terminal. Some terminals are known to support links.
     pub term_program: Option<String>,
-    /// `VTE_VERSION`, which is set where links are shown, as the next two.
+    /// `VTE_VERSION`. Links are supported if it, or one of the next two, is set.
     pub vte_version: Option<String>,
     /// `KONSOLE_VERSION`.
     pub konsole_version: Option<String>,
     /// `WT_SESSION`.
     pub wt_session: Option<String>,
-    /// `LC_ALL`: a locale that ends in `UTF-8` has characters of Unicode. The first that is set counts, of this one
-    /// and the next two.
+    /// `LC_ALL`: a locale that ends in `UTF-8` supports Unicode. Of this variable and the next two, the first one that
+    /// is set counts.
     pub lc_all: Option<String>,
     /// `LC_CTYPE`.
     pub lc_ctype: Option<String>,
     /// `LANG`.
     pub lang: Option<String>,
-    /// `COLUMNS`: the width, from 1.
+    /// `COLUMNS`: the width, at least 1.
     pub columns: Option<String>,
-    /// `NO_GRAPHICS`: `0` asks for pictures, all else for none.
+    /// `NO_GRAPHICS`: `0` asks for graphical reports, anything else for narrated ones.
     pub no_graphics: Option<String>,
     /// Whether standard output goes to a terminal.
     pub stdout_terminal: bool,
@@ -133,11 +134,11 @@ pub struct Variables {
     pub stderr_terminal: bool,
 }
 
-/// What is known of the terminal that a text for this stream goes to.
+/// Returns what is known about the terminal that this stream goes to.
 ///
 /// # Errors
-/// Where no memory is found for the variables.
-pub fn detect<R: Lookup + Streams>(rt: &R, stream: Stream) -> Result<Terminal, AllocError>
+/// `AllocError` if allocation for the variables fails.
+pub fn detect_terminal<R: Lookup + Streams>(rt: &R, stream: Stream) -> Result<Terminal, AllocError>
     ensures { IfOk result (λ it. (v : _) × IsToldBy (R.variable_may_be rt.now) (R.terminal_may_be rt.now) v
         × IsDetected v stream it) }
 {
@@ -147,11 +148,11 @@ pub fn detect<R: Lookup + Streams>(rt: &R, stream: Stream) -> Result<Terminal, A
 }
 
 impl Variables {
-    /// Each variable as it is looked up by its name, with what is known of the two streams. The program's own are those
-    /// of its `HostRuntime`.
+    /// Looks up each variable by its name. A program passes its `HostRuntime`, and whether its two streams go to
+    /// terminals.
     ///
     /// # Errors
-    /// Where no memory is found for them.
+    /// `AllocError` if allocation fails.
     pub fn read<L: Lookup>(
         lookup: &L,
         stdout_terminal: bool,
@@ -189,7 +190,7 @@ impl Variables {
         fill(lookup, "NO_GRAPHICS", &mut self.no_graphics)
     }
 
-    /// What they say of the terminal that a text for this stream goes to. Takes no memory.
+    /// Returns the terminal that the variables describe, for output to this stream. It doesn't allocate.
     pub fn terminal(self, stream: Stream) -> Terminal
         ensures { IsDetected self stream result }
     {
@@ -290,7 +291,7 @@ impl Variables {
     }
 }
 
-// What is looked up by this name goes into its slot.
+// Stores the variable with this name in a slot.
 fn fill<L: Lookup>(lookup: &L, name: &str, slot: &mut Option<String>) -> Result<(), AllocError>
     ensures { OnOk result (L.variable_may_be lookup.now name.now (option_map string_bytes slot.new)) }
 {
@@ -307,7 +308,7 @@ fn is_set_to(variable: &Option<String>, wanted: &str) -> bool
     }
 }
 
-// The colours that are asked for, where this is the text of `FORCE_COLOR`.
+// The colors that a value of `FORCE_COLOR` asks for.
 fn forced_colours(text: &str) -> Option<bool>
     ensures { result ≡ forced_colours text.now }
 {
@@ -365,7 +366,7 @@ fn is_linking_kind(kind: &Option<String>) -> bool
         || is_set_to(kind, "xterm-ghostty")
 }
 
-// The width that a text of digits alone writes, from 1.
+// The width that a text of digits states, at least 1.
 fn width_of(text: &str) -> Option<usize>
     ensures { IsWidth (Some text.now) result }
 {

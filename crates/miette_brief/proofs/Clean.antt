@@ -13,14 +13,15 @@ use Rattle.std.proofs.lemmas.Str.{encode_ascii, NoCharPasses-nil, NoCharPasses-a
 use Rattle.miette_protocol.specs.declared.protocol.Severity.{Severity}
 use Rattle.miette_protocol.specs.declared.protocol.Severity.TheVariants.{Advice, Warning, Error}
 use Rattle.miette_tree.specs.rules.DiagnosticParts.{severity_text}
-use Rattle.miette_basics.proofs.Cases.{by_cases}
-use Rattle.miette_brief.specs.declared.fix_its.Position.{Position}
+use Rattle.miette_lines.proofs.Cases.{by_cases}
+use Rattle.miette_brief.specs.declared.fix_its.LineColumn.{LineColumn}
 use Rattle.miette_brief.specs.rules.FixIts.{FixIt, octal, escaped_byte, escaped, in_quotes, position_text, range_text}
 use Rattle.miette_brief.specs.rules.FixIts.{fix_it_text}
-use Rattle.miette_brief.specs.rules.Rows.{Kind, finding, note, cause, help, fix, failure, ToldRow, ReportRow, told}
+use Rattle.miette_brief.specs.rules.Rows.{RowKind, finding, note, cause, help, fix, failure, TextRow, ReportRow, told}
 use Rattle.miette_brief.specs.rules.Rows.{applied}
-use Rattle.miette_brief.specs.rules.Rows.{gap, shown_for, spaced_text, one_row, position_after_colon, place_text}
-use Rattle.miette_brief.specs.rules.Rows.{code_text, kind_text, told_text, row_text}
+use Rattle.miette_brief.specs.rules.Rows.{gap, shown_for, spaced_text, one_line_text, position_after_colon}
+use Rattle.miette_brief.specs.rules.Rows.{location_text}
+use Rattle.miette_brief.specs.rules.Rows.{code_text, kind_text, text_row_text, row_text}
 
 -- ---- no control character
 
@@ -35,7 +36,7 @@ none_spaced b (c ∷ cs) =
     (λ t. rw t (none_in_gap b (spaced_text true cs) (none_spaced true cs)))
     (λ f. rw f (f, none_spaced false cs))
 
-pub row_clean : (text : List ℕ) → NoCharPasses is_control (one_row text)
+pub row_clean : (text : List ℕ) → NoCharPasses is_control (one_line_text text)
 row_clean text = (spaced_text false (chars text), refl, none_spaced false (chars text))
 
 -- printable ASCII
@@ -94,30 +95,31 @@ both_clean : (xs ys : List ℕ) → NoCharPasses is_control xs → NoCharPasses 
     → NoCharPasses is_control (xs ++ ys)
 both_clean xs ys = NoCharPasses-append is_control xs ys
 
-position_clean : (at : Position) → NoCharPasses is_control (position_text at)
+position_clean : (at : LineColumn) → NoCharPasses is_control (position_text at)
 position_clean at =
     both_clean (decimal at.line) (codes ":" ++ decimal at.column)
     (plain_clean (decimal at.line) (decimal_plain at.line))
     (both_clean (codes ":") (decimal at.column) (plain_clean (codes ":") refl)
     (plain_clean (decimal at.column) (decimal_plain at.column)))
 
-after_clean : (position : Option Position) → NoCharPasses is_control (position_after_colon position)
+after_clean : (position : Option LineColumn) → NoCharPasses is_control (position_after_colon position)
 after_clean None = NoCharPasses-nil is_control
 after_clean (Some at) = both_clean (codes ":") (position_text at) (plain_clean (codes ":") refl) (position_clean at)
 
-place_clean : (name : Option (List ℕ)) (position : Option Position) → NoCharPasses is_control (place_text name position)
+place_clean : (name : Option (List ℕ)) (position : Option LineColumn) → NoCharPasses is_control
+    (location_text name position)
 place_clean None None = NoCharPasses-nil is_control
 place_clean None (Some at) = both_clean (position_text at) (codes ": ") (position_clean at)
     (plain_clean (codes ": ") refl)
 place_clean (Some name) position =
-    both_clean (one_row name) (position_after_colon position ++ codes ": ") (row_clean name)
+    both_clean (one_line_text name) (position_after_colon position ++ codes ": ") (row_clean name)
     (both_clean (position_after_colon position) (codes ": ") (after_clean position) (plain_clean (codes ": ") refl))
 
 code_clean : (code : Option (List ℕ)) → NoCharPasses is_control (code_text code)
 code_clean None = NoCharPasses-nil is_control
 code_clean (Some code) =
-    both_clean (codes "[") (one_row code ++ codes "]") (plain_clean (codes "[") refl)
-    (both_clean (one_row code) (codes "]") (row_clean code) (plain_clean (codes "]") refl))
+    both_clean (codes "[") (one_line_text code ++ codes "]") (plain_clean (codes "[") refl)
+    (both_clean (one_line_text code) (codes "]") (row_clean code) (plain_clean (codes "]") refl))
 
 severity_plain : (severity : Option Severity) → list_all is_plain (severity_text severity) ≡ true
 severity_plain None = refl
@@ -125,7 +127,7 @@ severity_plain (Some Error) = refl
 severity_plain (Some Warning) = refl
 severity_plain (Some Advice) = refl
 
-kind_clean : (kind : Kind) → NoCharPasses is_control (kind_text kind)
+kind_clean : (kind : RowKind) → NoCharPasses is_control (kind_text kind)
 kind_clean (finding severity code) =
     both_clean (severity_text severity) (code_text code ++ codes ": ")
     (plain_clean (severity_text severity) (severity_plain severity))
@@ -136,11 +138,11 @@ kind_clean help = plain_clean (codes "help: ") refl
 kind_clean fix = plain_clean (codes "fix: ") refl
 kind_clean failure = plain_clean (codes "note: failed to apply fix: ") refl
 
-told_clean : (row : ToldRow) → NoCharPasses is_control (told_text row)
+told_clean : (row : TextRow) → NoCharPasses is_control (text_row_text row)
 told_clean row =
-    both_clean (place_text row.place.name row.place.position) (kind_text row.kind ++ one_row row.text)
+    both_clean (location_text row.place.name row.place.position) (kind_text row.kind ++ one_line_text row.text)
     (place_clean row.place.name row.place.position)
-    (both_clean (kind_text row.kind) (one_row row.text) (kind_clean row.kind) (row_clean row.text))
+    (both_clean (kind_text row.kind) (one_line_text row.text) (kind_clean row.kind) (row_clean row.text))
 
 -- ---- the row of an edit
 
@@ -189,12 +191,12 @@ quotes_plain bs =
     two_plain (codes "\"") (escaped bs ++ codes "\"") refl
     (two_plain (escaped bs) (codes "\"") (escaped_plain bs) refl)
 
-position_plain : (at : Position) → list_all is_plain (position_text at) ≡ true
+position_plain : (at : LineColumn) → list_all is_plain (position_text at) ≡ true
 position_plain at =
     two_plain (decimal at.line) (codes ":" ++ decimal at.column) (decimal_plain at.line)
     (two_plain (codes ":") (decimal at.column) refl (decimal_plain at.column))
 
-range_plain : (start end : Position) → list_all is_plain (range_text start end) ≡ true
+range_plain : (start end : LineColumn) → list_all is_plain (range_text start end) ≡ true
 range_plain start end =
     two_plain (codes "{") (position_text start ++ (codes "-" ++ (position_text end ++ codes "}"))) refl
     (two_plain (position_text start) (codes "-" ++ (position_text end ++ codes "}")) (position_plain start)
@@ -229,7 +231,7 @@ severity_cons (Some Error) bs = record { first = _; more = _; is = refl }
 severity_cons (Some Warning) bs = record { first = _; more = _; is = refl }
 severity_cons (Some Advice) bs = record { first = _; more = _; is = refl }
 
-kind_cons : (kind : Kind) (bs : List ℕ) → IsCons (kind_text kind ++ bs)
+kind_cons : (kind : RowKind) (bs : List ℕ) → IsCons (kind_text kind ++ bs)
 kind_cons (finding severity code) bs =
     let more = severity_cons severity (code_text code ++ codes ": ") in
     record { first = more.first; more = more.more ++ bs; is = ap (λ l. l ++ bs) more.is }
@@ -243,10 +245,11 @@ never_nil : (xs ys : List ℕ) (y : ℕ) (more : List ℕ) → ys ≡ y ∷ more
 never_nil [] ys y more e h = cc
 never_nil (x ∷ xs) ys y more e h = cc
 
-told_nonempty : (row : ToldRow) → told_text row ≢ []
+told_nonempty : (row : TextRow) → text_row_text row ≢ []
 told_nonempty row =
-    let k = kind_cons row.kind (one_row row.text) in
-    never_nil (place_text row.place.name row.place.position) (kind_text row.kind ++ one_row row.text) k.first k.more
+    let k = kind_cons row.kind (one_line_text row.text) in
+    never_nil (location_text row.place.name row.place.position) (kind_text row.kind ++ one_line_text row.text) k.first
+    k.more
     k.is
 
 pub text_nonempty : (row : ReportRow) → row_text row ≢ []

@@ -5,30 +5,32 @@ use Rattle.std.specs.Prelude.{◌==◌, not}
 use Rattle.std.specs.List.{AllByRecursion, flat_map, list_all}
 use Rattle.std.proofs.lemmas.Bool.{and_parts, not-true}
 use Rattle.std.proofs.lemmas.Bool.Decides.{nat_tests}
-use Rattle.miette_basics.proofs.Cases.{by_cases}
-use Rattle.miette_positions.specs.declared.place.Region.{Region}
+use Rattle.miette_lines.proofs.Cases.{by_cases}
+use Rattle.miette_positions.specs.declared.position.Region.{Region}
 use Rattle.miette_protocol.specs.declared.protocol.Severity.{Severity}
 use Rattle.miette_protocol.specs.declared.protocol.Severity.TheVariants.{Advice, Warning, Error}
 use Rattle.miette_protocol.specs.rules.Reading.{Source}
 use Rattle.miette_tree.specs.rules.Answers.{AnswerTrees}
 use Rattle.miette_tree.specs.rules.Tree.{Tree, tree, Trees, no_trees, more_trees, effective}
-use Rattle.miette_brief.specs.declared.escapes.Part.{Part}
-use Rattle.miette_brief.specs.declared.escapes.Part.TheVariants.{Message, Property as InProperty}
+use Rattle.miette_brief.specs.declared.escapes.CommandPart.{CommandPart}
+use Rattle.miette_brief.specs.declared.escapes.CommandPart.TheVariants.{Message, Property as InProperty}
 use Rattle.miette_brief.specs.declared.form.Form.{Form}
 use Rattle.miette_brief.specs.declared.form.Form.TheVariants.{Gcc, Github}
-use Rattle.miette_brief.specs.laws.CommandBack.{AreCommands, AreRead, ReadsCommand, all_diagnostics_in, as_it_is}
+use Rattle.miette_brief.specs.laws.CommandBack.{AreCommands, AreCommandRows, ReadsCommand, all_diagnostics_in, as_it_is}
 use Rattle.miette_brief.specs.laws.CommandBack.{body_in}
 use Rattle.miette_brief.specs.laws.CommandBack.{decoded, diagnostics_in, head_in, hex_value, is_one_line}
-use Rattle.miette_brief.specs.laws.CommandBack.{pieces_of, onto_first, properties_after, property_of, said}
+use Rattle.miette_brief.specs.laws.CommandBack.{pieces_of, onto_first, properties_after, property_of, message_row_bytes}
 use Rattle.miette_brief.specs.laws.EditBack.{up_to, after_end}
 use Rattle.miette_brief.specs.laws.Parts.{text_of_rows}
-use Rattle.miette_brief.specs.rules.Commands.{Command, Property, Saying, Site, byte_text, columns_if, command_name}
+use Rattle.miette_brief.specs.rules.Commands.{Command, Property, MessageRow, FileLocation, byte_text, columns_if}
+use Rattle.miette_brief.specs.rules.Commands.{command_name}
 use Rattle.miette_brief.specs.rules.Commands.{command_text, commands_text, escaped, further_property, hex_digit}
-use Rattle.miette_brief.specs.rules.Commands.{is_escaped, percent, properties, properties_text, property_text}
-use Rattle.miette_brief.specs.rules.Commands.{region_properties, saying_text, sayings_text, site_properties}
+use Rattle.miette_brief.specs.rules.Commands.{is_percent_escaped, percent, properties, properties_text, property_text}
+use Rattle.miette_brief.specs.rules.Commands.{region_properties, message_row_text, message_rows_text, file_properties}
 use Rattle.miette_brief.specs.rules.Commands.{title_properties}
-use Rattle.miette_brief.specs.rules.Report.{Answers, BriefSettings, brief, first_answers, later_answers, ReadAnswers}
-use Rattle.miette_brief.specs.rules.Report.{related_answers, related_commands, report_commands, text_in}
+use Rattle.miette_brief.specs.rules.Report.{Answers, BriefSettings, brief, first_answers, later_answers}
+use Rattle.miette_brief.specs.rules.Report.{BriefReadAnswers}
+use Rattle.miette_brief.specs.rules.Report.{related_answers, related_commands, report_commands, brief_text_in}
 use Rattle.miette_brief.proofs.Clean.{both_pass}
 use Rattle.miette_brief.proofs.Counting.{counted_after}
 use Rattle.miette_brief.proofs.EditsBack.{after_end_past, lacks, up_past}
@@ -50,48 +52,49 @@ percent_back b rest h =
     ap₂ (λ x y. x * 16 + y) first last ∙ omega arith in
     ap (λ n. n ∷ decoded as_it_is rest) value
 
-no_percent : (part : Part) (b : ℕ) → is_escaped part b ≡ false → (b == 37) ≡ false
+no_percent : (part : CommandPart) (b : ℕ) → is_percent_escaped part b ≡ false → (b == 37) ≡ false
 no_percent Message b h = grind (arith, nat_tests)
 no_percent InProperty b h = grind (arith, nat_tests)
 
-byte_back : (part : Part) (b : ℕ) (rest : List ℕ) → decoded as_it_is (byte_text part b ++ rest)
+byte_back : (part : CommandPart) (b : ℕ) (rest : List ℕ) → decoded as_it_is (byte_text part b ++ rest)
     ≡ b ∷ decoded as_it_is rest
 byte_back part b rest =
-    by_cases {C = decoded as_it_is (byte_text part b ++ rest) ≡ b ∷ decoded as_it_is rest} (is_escaped part b)
+    by_cases {C = decoded as_it_is (byte_text part b ++ rest) ≡ b ∷ decoded as_it_is rest} (is_percent_escaped part b)
     (λ t. rw t (percent_back b rest (escaped_is_ascii part b t)))
     (λ f. rw f (rw (no_percent part b f) refl))
 
-text_back : (part : Part) (bs rest : List ℕ) → decoded as_it_is (escaped part bs ++ rest)
+text_back : (part : CommandPart) (bs rest : List ℕ) → decoded as_it_is (escaped part bs ++ rest)
     ≡ bs ++ decoded as_it_is rest
 text_back part [] rest = refl
 text_back part (b ∷ bs) rest =
     ap (decoded as_it_is) (append_assoc (byte_text part b) (escaped part bs) rest)
     ∙ byte_back part b (escaped part bs ++ rest) ∙ ap (λ l. b ∷ l) (text_back part bs rest)
 
-saying_back : (it : Saying) (rest : List ℕ) → decoded as_it_is (saying_text it ++ rest)
-    ≡ said it ++ decoded as_it_is rest
+saying_back : (it : MessageRow) (rest : List ℕ) → decoded as_it_is (message_row_text it ++ rest)
+    ≡ message_row_bytes it ++ decoded as_it_is rest
 saying_back it rest =
     ap (λ l. 10 ∷ decoded as_it_is l) (append_assoc (escaped Message it.title) (escaped Message it.text) rest)
     ∙ ap (λ l. 10 ∷ l) (text_back Message it.title (escaped Message it.text ++ rest)
     ∙ ap (λ l. it.title ++ l) (text_back Message it.text rest)
     ∙ sym (append_assoc it.title it.text (decoded as_it_is rest)))
 
-sayings_back : (its : List Saying) → decoded as_it_is (sayings_text its) ≡ flat_map said its
+sayings_back : (its : List MessageRow) → decoded as_it_is (message_rows_text its) ≡ flat_map message_row_bytes its
 sayings_back [] = refl
-sayings_back (it ∷ its) = saying_back it (sayings_text its) ∙ ap (λ l. said it ++ l) (sayings_back its)
+sayings_back (it ∷ its) = saying_back it (message_rows_text its) ∙ ap (λ l. message_row_bytes it ++ l)
+    (sayings_back its)
 
 -- ---- bytes that a text lacks
 
 -- what each of the escapes passes, and each byte that stands for itself
-record IsKept (part : Part) (q : ℕ → Bool) : Type 0 where
+record IsKept (part : CommandPart) (q : ℕ → Bool) : Type 0 where
   sign : q 37 ≡ true
   digits : (n : ℕ) → n < 16 → q (hex_digit n) ≡ true
-  others : (b : ℕ) → is_escaped part b ≡ false → q b ≡ true
+  others : (b : ℕ) → is_percent_escaped part b ≡ false → q b ≡ true
 
 both_true : (p q : Bool) → p ≡ true → q ≡ true → (p && q) ≡ true
 both_true p q h k = rw (h, k) refl
 
-module _ (part : Part) (q : ℕ → Bool) (kept : IsKept part q) where
+module _ (part : CommandPart) (q : ℕ → Bool) (kept : IsKept part q) where
   percent_kept : (b : ℕ) → b < 128 → list_all q (percent b) ≡ true
   percent_kept b h =
       both_true _ _ kept.sign (both_true _ _ (kept.digits (b / 16) (omega arith))
@@ -99,7 +102,7 @@ module _ (part : Part) (q : ℕ → Bool) (kept : IsKept part q) where
 
   byte_kept : (b : ℕ) → list_all q (byte_text part b) ≡ true
   byte_kept b =
-      by_cases {C = list_all q (byte_text part b) ≡ true} (is_escaped part b)
+      by_cases {C = list_all q (byte_text part b) ≡ true} (is_percent_escaped part b)
       (λ t. ap (list_all q) (byte_escaped part b t) ∙ percent_kept b (escaped_is_ascii part b t))
       (λ f. ap (list_all q) (byte_single part b f) ∙ both_true (q b) true (kept.others b f) refl)
 
@@ -121,7 +124,7 @@ no_comma = record {
   others = λ b h. grind (arith, nat_tests);
 }
 
-no_break : (part : Part) → IsKept part (λ b. not (b == 10) && not (b == 13))
+no_break : (part : CommandPart) → IsKept part (λ b. not (b == 10) && not (b == 13))
 no_break Message = record {
   sign = refl;
   digits = λ n h. grind (arith, nat_tests);
@@ -156,7 +159,7 @@ region_keys (Some r) = (
   ((refl, refl, refl, refl), columns_keys (r.start.line == r.end.line) r),
 )
 
-site_keys : (site : Option Site) → AreKeys (site_properties site)
+site_keys : (site : Option FileLocation) → AreKeys (file_properties site)
 site_keys None = tt
 site_keys (Some site) = ((refl, refl, refl, refl), region_keys site.region)
 
@@ -165,7 +168,7 @@ title_keys None = tt
 title_keys (Some title) = ((refl, refl, refl, refl), tt)
 
 all_keys : (c : Command) → AreKeys (properties c)
-all_keys c = keys_joined (site_properties c.site) (title_properties c.title) (site_keys c.site) (title_keys c.title)
+all_keys c = keys_joined (file_properties c.site) (title_properties c.title) (site_keys c.site) (title_keys c.title)
 
 module _ (q : ℕ → Bool) (equals : q 61 ≡ true) (comma : q 44 ≡ true) (space : q 32 ≡ true) (kept : IsKept InProperty q)
   where
@@ -289,13 +292,13 @@ after_back name (p ∷ ps) h k =
 
 -- ---- rows
 
-saying_line : (it : Saying) → is_one_line (saying_text it) ≡ true
+saying_line : (it : MessageRow) → is_one_line (message_row_text it) ≡ true
 saying_line it = both_pass (λ b. not (b == 10) && not (b == 13)) (escaped Message it.title) (escaped Message it.text)
     (text_kept Message _ (no_break Message) it.title) (text_kept Message _ (no_break Message) it.text)
 
-sayings_line : (its : List Saying) → is_one_line (sayings_text its) ≡ true
+sayings_line : (its : List MessageRow) → is_one_line (message_rows_text its) ≡ true
 sayings_line [] = refl
-sayings_line (it ∷ its) = both_pass (λ b. not (b == 10) && not (b == 13)) (saying_text it) (sayings_text its)
+sayings_line (it ∷ its) = both_pass (λ b. not (b == 10) && not (b == 13)) (message_row_text it) (message_rows_text its)
     (saying_line it) (sayings_line its)
 
 pub command_back : (c : Command) → ReadsCommand c (command_text c)
@@ -305,7 +308,7 @@ command_back c =
     let keys = all_keys c in
     let named = name_is c.severity in
     let line : ℕ → Bool = λ b. not (b == 10) && not (b == 13) in
-    let body : List ℕ = escaped Message c.message ++ sayings_text c.sayings in
+    let body : List ℕ = escaped Message c.message ++ message_rows_text c.message_rows in
     let colons : lacks 58 (name ++ properties_text ps) ≡ true =
     both_pass (λ b. not (b == 58)) name (properties_text ps) named.colon
     (properties_kept (λ b. not (b == 58)) refl refl refl no_colon ps (colons_lacking ps keys)) in
@@ -321,13 +324,13 @@ command_back c =
       name_is = ap (up_to 32) head ∙ name_back name ps named.space;
       properties_are = ap (λ l. properties_after (after_end 32 l)) head ∙ after_back name ps named.space keys;
       message_is = ap (decoded as_it_is) after_head
-          ∙ text_back Message c.message (sayings_text c.sayings)
-          ∙ ap (λ l. c.message ++ l) (sayings_back c.sayings);
+          ∙ text_back Message c.message (message_rows_text c.message_rows)
+          ∙ ap (λ l. c.message ++ l) (sayings_back c.message_rows);
       line = both_pass line name (properties_text ps ++ (58 ∷ 58 ∷ body)) named.line
           (both_pass line (properties_text ps) (58 ∷ 58 ∷ body)
           (properties_kept line refl refl refl (no_break InProperty) ps (lines_lacking ps keys))
-          (both_pass line (escaped Message c.message) (sayings_text c.sayings)
-          (text_kept Message line (no_break Message) c.message) (sayings_line c.sayings)));
+          (both_pass line (escaped Message c.message) (message_rows_text c.message_rows)
+          (text_kept Message line (no_break Message) c.message) (sayings_line c.message_rows)));
     }
 
 -- ---- reports
@@ -336,12 +339,12 @@ rows_ended : (cs : List Command) → commands_text cs ≡ text_of_rows (map comm
 rows_ended [] = refl
 rows_ended (c ∷ cs) = ap (λ l. command_text c ++ (10 ∷ l)) (rows_ended cs)
 
-rows_read : (cs : List Command) → AreRead cs (map command_text cs)
+rows_read : (cs : List Command) → AreCommandRows cs (map command_text cs)
 rows_read [] = tt
 rows_read (c ∷ cs) = (command_back c, rows_read cs)
 
 all_read : (f : Form) (chain : Bool) (t : Tree) (a : Answers) → f ≡ Github
-    → AreCommands (report_commands chain None a t) (text_in f chain None a t)
+    → AreCommands (report_commands chain None a t) (brief_text_in f chain None a t)
 all_read Gcc chain t a is = cc
 all_read Github chain t a is = record {
   rows = map command_text (report_commands chain None a t);
@@ -359,7 +362,7 @@ mutual
   commands_counted chain inherited a (tree m own c r) =
       (let h = related_counted chain (effective own inherited) (related_answers a) r in omega (arith, h))
 
-  related_counted : (chain : Bool) (inherited : Option Source) (more : AnswerTrees ReadAnswers) (ts : Trees)
+  related_counted : (chain : Bool) (inherited : Option Source) (more : AnswerTrees BriefReadAnswers) (ts : Trees)
       → length (related_commands chain inherited more ts) ≡ all_diagnostics_in ts
   related_counted chain inherited more no_trees = refl
   related_counted chain inherited more (more_trees t ts) =

@@ -9,9 +9,9 @@ use Rattle.std.proofs.lemmas.Bool.{and_parts, not-true}
 use Rattle.std.proofs.lemmas.Bool.Decides.{nat_tests}
 use Rattle.std.proofs.lemmas.Fmt.{decimal_is_IsNumeral}
 use Rattle.std.proofs.lemmas.List.Elements.{recursion_from_All}
-use Rattle.miette_basics.proofs.Cases.{by_cases}
-use Rattle.miette_brief.specs.declared.fix_its.Position.{Position}
-use Rattle.miette_brief.specs.rules.FixIts.{FixIt, octal, is_printable, escaped_byte, escaped, position_text}
+use Rattle.miette_lines.proofs.Cases.{by_cases}
+use Rattle.miette_brief.specs.declared.fix_its.LineColumn.{LineColumn}
+use Rattle.miette_brief.specs.rules.FixIts.{FixIt, octal, is_printable_ascii, escaped_byte, escaped, position_text}
 use Rattle.miette_brief.specs.rules.FixIts.{fix_it_text}
 use Rattle.miette_brief.specs.laws.ReadBack.{is_digit}
 use Rattle.miette_brief.specs.laws.EditBack.{as_it_is, text_to_quote, after_quote, up_to, after_end, position_to}
@@ -75,7 +75,8 @@ byte_back b small =
     choose b ((b == 34) || (b == 92)) (92 ∷ b ∷ []) _ (quote_back b)
     (λ plain. choose b (b == 10) (92 ∷ 110 ∷ []) _ (feed_back b)
     (λ no_feed. choose b (b == 9) (92 ∷ 116 ∷ []) _ (tab_back b)
-    (λ no_tab. choose b (is_printable b) (b ∷ []) (octal b) (λ p. itself_back b plain) (λ q. octal_back b small))))
+    (λ no_tab. choose b (is_printable_ascii b) (b ∷ []) (octal b) (λ p. itself_back b plain)
+    (λ q. octal_back b small))))
 
 -- ---- texts
 
@@ -131,19 +132,19 @@ number_back : (end : ℕ) → IsNoDigit end → (n : ℕ) (rest : List ℕ) → 
 number_back end none n rest h =
     ap (digits_value 10) (up_past end (decimal n) rest (number_lacks end none n)) ∙ (decimal_is_IsNumeral n h).1
 
-position_lacks : (end : ℕ) → IsNoDigit end → not (58 == end) ≡ true → (at : Position)
+position_lacks : (end : ℕ) → IsNoDigit end → not (58 == end) ≡ true → (at : LineColumn)
     → lacks end (position_text at) ≡ true
 position_lacks end none colon at =
     both_pass (λ b. not (b == end)) (decimal at.line) (58 ∷ decimal at.column) (number_lacks end none at.line)
     (ap₂ (λ p q. p && q) colon (number_lacks end none at.column))
 
-same_position : (l c : ℕ) (at : Position) → l ≡ at.line → c ≡ at.column → record { line = l; column = c } ≡ at
+same_position : (l c : ℕ) (at : LineColumn) → l ≡ at.line → c ≡ at.column → record { line = l; column = c } ≡ at
 same_position l c at p q = rw (p, q) refl
 
-abbrev IsSmall : Position → Type 0
+abbrev IsSmall : LineColumn → Type 0
 IsSmall at = (at.line < 2 ^ 64) × (at.column < 2 ^ 64)
 
-position_back : (end : ℕ) → IsNoDigit end → (at : Position) (rest : List ℕ) → IsSmall at
+position_back : (end : ℕ) → IsNoDigit end → (at : LineColumn) (rest : List ℕ) → IsSmall at
     → position_to end (position_text at ++ end ∷ rest) ≡ at
 position_back end none at rest small =
     let column : List ℕ = decimal at.column ++ end ∷ rest in

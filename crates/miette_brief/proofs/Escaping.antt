@@ -6,24 +6,24 @@ use Rattle.std.specs.List.{list_all}
 use Rattle.std.proofs.lemmas.Bool.{and_parts, not-true}
 use Rattle.std.proofs.lemmas.Bool.Decides.{nat_tests}
 use Rattle.miette_tree.proofs.Escapes.{Escapes}
-use Rattle.miette_brief.specs.declared.escapes.Part.{Part}
-use Rattle.miette_brief.specs.declared.escapes.Part.TheVariants.{Message, Property}
-use Rattle.miette_brief.specs.rules.Commands.{byte_text, escaped, is_escaped, percent}
+use Rattle.miette_brief.specs.declared.escapes.CommandPart.{CommandPart}
+use Rattle.miette_brief.specs.declared.escapes.CommandPart.TheVariants.{Message, Property}
+use Rattle.miette_brief.specs.rules.Commands.{byte_text, escaped, is_percent_escaped, percent}
 
-pub byte_single : (part : Part) (x : ℕ) → is_escaped part x ≡ false → byte_text part x ≡ x ∷ []
+pub byte_single : (part : CommandPart) (x : ℕ) → is_percent_escaped part x ≡ false → byte_text part x ≡ x ∷ []
 byte_single part x e = rw e refl
 
-pub byte_escaped : (part : Part) (x : ℕ) → is_escaped part x ≡ true → byte_text part x ≡ percent x
+pub byte_escaped : (part : CommandPart) (x : ℕ) → is_percent_escaped part x ≡ true → byte_text part x ≡ percent x
 byte_escaped part x e = rw e refl
 
-pub escaped_is_ascii : (part : Part) (x : ℕ) → is_escaped part x ≡ true → x < 128
+pub escaped_is_ascii : (part : CommandPart) (x : ℕ) → is_percent_escaped part x ≡ true → x < 128
 escaped_is_ascii Message x e = grind (arith, nat_tests)
 escaped_is_ascii Property x e = grind (arith, nat_tests)
 
 -- a part of a command
-abbrev pub escapes : Part → Escapes
+abbrev pub escapes : CommandPart → Escapes
 escapes part = record {
-  is_escaped = is_escaped part;
+  is_escaped = is_percent_escaped part;
   written = byte_text part;
   text = escaped part;
   none = refl;
@@ -33,10 +33,10 @@ escapes part = record {
 }
 
 -- a text of bytes that stand for themselves
-pub plain_escaped : (part : Part) (xs : List ℕ) → list_all (λ b. not (is_escaped part b)) xs ≡ true
+pub plain_escaped : (part : CommandPart) (xs : List ℕ) → list_all (λ b. not (is_percent_escaped part b)) xs ≡ true
     → escaped part xs ≡ xs
 plain_escaped part [] h = refl
 plain_escaped part (x ∷ xs) h =
-    let p = and_parts (not (is_escaped part x)) (list_all (λ b. not (is_escaped part b)) xs) h in
-    ap (λ l. l ++ escaped part xs) (byte_single part x (not-true (is_escaped part x) p.0))
+    let p = and_parts (not (is_percent_escaped part x)) (list_all (λ b. not (is_percent_escaped part b)) xs) h in
+    ap (λ l. l ++ escaped part xs) (byte_single part x (not-true (is_percent_escaped part x) p.0))
     ∙ ap (λ l. x ∷ l) (plain_escaped part xs p.1)

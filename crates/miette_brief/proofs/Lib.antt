@@ -12,10 +12,10 @@ pub mod ReadingBack
 pub mod EditsBack
 pub mod Fixing
 pub mod Escaping
-pub mod Marking
-pub mod Wholes
+pub mod PrimaryLabels
+pub mod WholeSources
 pub mod Commanding
 pub mod CommandsBack
-pub mod ToldSources
+pub mod BriefSources
 pub mod LabelOrder
 pub mod KnownPlaces

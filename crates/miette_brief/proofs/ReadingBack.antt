@@ -7,10 +7,11 @@ use Rattle.std.specs.Str.Parse.{digits_value}
 use Rattle.std.proofs.lemmas.Bool.{and_parts, not-true}
 use Rattle.std.proofs.lemmas.Bool.Decides.{nat_tests}
 use Rattle.std.proofs.lemmas.Fmt.{decimal_is_IsNumeral, decimal_nonempty}
-use Rattle.miette_brief.specs.declared.fix_its.Position.{Position}
+use Rattle.miette_brief.specs.declared.fix_its.LineColumn.{LineColumn}
 use Rattle.miette_protocol.specs.declared.protocol.Severity.TheVariants.{Advice, Warning, Error}
-use Rattle.miette_brief.specs.rules.Rows.{ToldRow, Kind, finding, note, cause, help, fix, failure, one_row, place_text}
-use Rattle.miette_brief.specs.rules.Rows.{kind_text, told_text}
+use Rattle.miette_brief.specs.rules.Rows.{TextRow, RowKind, finding, note, cause, help, fix, failure, one_line_text}
+use Rattle.miette_brief.specs.rules.Rows.{location_text}
+use Rattle.miette_brief.specs.rules.Rows.{kind_text, text_row_text}
 use Rattle.miette_brief.specs.laws.ReadBack.{has_no_colon, before_colon, after_colon, number_before, position_in}
 use Rattle.miette_brief.specs.laws.ReadBack.{ReadsBack, numbers_in, is_digit, position_first}
 use Rattle.miette_brief.proofs.Clean.{decimal_all}
@@ -56,11 +57,11 @@ position_there [] rest some h = absurd (omega arith)
 position_there (d ∷ ds) rest some h = rw (not-true (d == 32)
     (and_parts (not (d == 32)) (list_all (λ b. not (b == 32)) ds) h).0) refl
 
-same_position : (l c : ℕ) (at : Position) → l ≡ at.line → c ≡ at.column → Some (record { line = l; column = c })
+same_position : (l c : ℕ) (at : LineColumn) → l ≡ at.line → c ≡ at.column → Some (record { line = l; column = c })
     ≡ Some at
 same_position l c at p q = rw (p, q) refl
 
-position_past : (at : Position) (rest : List ℕ) → at.line < 2 ^ 64 → at.column < 2 ^ 64
+position_past : (at : LineColumn) (rest : List ℕ) → at.line < 2 ^ 64 → at.column < 2 ^ 64
     → position_in (decimal at.line ++ (58 ∷ (decimal at.column ++ (58 ∷ rest)))) ≡ Some at
 position_past at rest line column =
     let last = decimal at.column ++ (58 ∷ rest) in
@@ -73,31 +74,33 @@ position_past at rest line column =
 
 -- ---- rows
 
-back : (n after row : List ℕ) (position : Option Position) → has_no_colon n ≡ true → row ≡ n ++ (58 ∷ after)
+back : (n after row : List ℕ) (position : Option LineColumn) → has_no_colon n ≡ true → row ≡ n ++ (58 ∷ after)
     → position_in after ≡ position → ReadsBack n position row
 back n after row position free e p = record {
   name_is = ap before_colon e ∙ before_past n after free;
   position_is = ap (λ bs. position_in (after_colon bs)) e ∙ (ap position_in (after_past n after free) ∙ p);
 }
 
-pub text_back : (name rest : List ℕ) (position : Option Position) → has_no_colon (one_row name) ≡ true
+pub text_back : (name rest : List ℕ) (position : Option LineColumn) → has_no_colon (one_line_text name) ≡ true
     → IfSome position (λ at. (at.line < 2 ^ 64) × (at.column < 2 ^ 64))
-    → ReadsBack (one_row name) position (place_text (Some name) position ++ rest)
-text_back name rest None free fits = back (one_row name) (32 ∷ rest) (place_text (Some name) None ++ rest) None free
-    (shape_alone (one_row name) rest) refl
+    → ReadsBack (one_line_text name) position (location_text (Some name) position ++ rest)
+text_back name rest None free fits = back (one_line_text name) (32 ∷ rest) (location_text (Some name) None ++ rest) None
+    free
+    (shape_alone (one_line_text name) rest) refl
 text_back name rest (Some at) free fits =
     let line = decimal at.line in
     let column = decimal at.column in
-    back (one_row name) (line ++ (58 ∷ (column ++ (58 ∷ (32 ∷ rest))))) (place_text (Some name) (Some at) ++ rest)
+    back (one_line_text name) (line ++ (58 ∷ (column ++ (58 ∷ (32 ∷ rest)))))
+    (location_text (Some name) (Some at) ++ rest)
     (Some at) free
-    (shape (one_row name) line column rest) (position_past at (32 ∷ rest) fits.0 fits.1)
+    (shape (one_line_text name) line column rest) (position_past at (32 ∷ rest) fits.0 fits.1)
 
-pub place_back : (row : ToldRow) (name : List ℕ) → row.place.name ≡ Some name → has_no_colon (one_row name) ≡ true
+pub place_back : (row : TextRow) (name : List ℕ) → row.place.name ≡ Some name → has_no_colon (one_line_text name) ≡ true
     → IfSome row.place.position (λ at. (at.line < 2 ^ 64) × (at.column < 2 ^ 64))
-    → ReadsBack (one_row name) row.place.position (told_text row)
+    → ReadsBack (one_line_text name) row.place.position (text_row_text row)
 place_back row name en free fits =
-    let rest = kind_text row.kind ++ one_row row.text in
-    subst (λ n. ReadsBack (one_row name) row.place.position (place_text n row.place.position ++ rest)) (sym en)
+    let rest = kind_text row.kind ++ one_line_text row.text in
+    subst (λ n. ReadsBack (one_line_text name) row.place.position (location_text n row.place.position ++ rest)) (sym en)
     (text_back name rest row.place.position free fits)
 
 -- ---- rows without a name
@@ -113,8 +116,8 @@ first_there (d ∷ ds) rest some h = rw ((and_parts (is_digit d) (list_all is_di
 shape_first : (l c rest : List ℕ) → ((l ++ (58 ∷ c)) ++ (58 ∷ 32 ∷ [])) ++ rest ≡ l ++ (58 ∷ (c ++ (58 ∷ (32 ∷ rest))))
 shape_first l c rest = simp append_assoc
 
-first_past : (at : Position) (rest : List ℕ) → at.line < 2 ^ 64 → at.column < 2 ^ 64
-    → position_first (place_text None (Some at) ++ rest) ≡ Some at
+first_past : (at : LineColumn) (rest : List ℕ) → at.line < 2 ^ 64 → at.column < 2 ^ 64
+    → position_first (location_text None (Some at) ++ rest) ≡ Some at
 first_past at rest line column =
     let last = decimal at.column ++ (58 ∷ (32 ∷ rest)) in
     let whole = decimal at.line ++ (58 ∷ last) in
@@ -125,7 +128,7 @@ first_past at rest line column =
     ∙ number_past at.column (32 ∷ rest) column)
 
 -- no kind begins with a digit
-kind_first : (kind : Kind) (rest : List ℕ) → position_first (kind_text kind ++ rest) ≡ None
+kind_first : (kind : RowKind) (rest : List ℕ) → position_first (kind_text kind ++ rest) ≡ None
 kind_first (finding None code) rest = refl
 kind_first (finding (Some Error) code) rest = refl
 kind_first (finding (Some Warning) code) rest = refl
@@ -136,15 +139,15 @@ kind_first help rest = refl
 kind_first fix rest = refl
 kind_first failure rest = refl
 
-first_back : (position : Option Position) (kind : Kind) (text : List ℕ)
+first_back : (position : Option LineColumn) (kind : RowKind) (text : List ℕ)
     → IfSome position (λ at. (at.line < 2 ^ 64) × (at.column < 2 ^ 64))
-    → position_first (place_text None position ++ (kind_text kind ++ text)) ≡ position
+    → position_first (location_text None position ++ (kind_text kind ++ text)) ≡ position
 first_back None kind text fits = kind_first kind text
 first_back (Some at) kind text fits = first_past at (kind_text kind ++ text) fits.0 fits.1
 
-pub nameless_back : (row : ToldRow) → row.place.name ≡ None
+pub nameless_back : (row : TextRow) → row.place.name ≡ None
     → IfSome row.place.position (λ at. (at.line < 2 ^ 64) × (at.column < 2 ^ 64))
-    → position_first (told_text row) ≡ row.place.position
+    → position_first (text_row_text row) ≡ row.place.position
 nameless_back row en fits =
-    ap (λ n. position_first (place_text n row.place.position ++ (kind_text row.kind ++ one_row row.text))) en
-    ∙ first_back row.place.position row.kind (one_row row.text) fits
+    ap (λ n. position_first (location_text n row.place.position ++ (kind_text row.kind ++ one_line_text row.text))) en
+    ∙ first_back row.place.position row.kind (one_line_text row.text) fits

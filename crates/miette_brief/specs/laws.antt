@@ -1,4 +1,4 @@
--- What holds of the rules.
+-- Theorems about the rules.
 pub mod Parts
 pub mod ReadBack
 pub mod EditBack

@@ -1,11 +1,11 @@
--- What users rely on.
+-- The definitions that users rely on.
 pub mod FixIts
 pub mod Rows
-pub mod Places
+pub mod Locations
 pub mod Fixes
 pub mod Commands
-pub mod Marks
+pub mod LocatedLabels
 pub mod Github
 pub mod Report
 pub mod PossibleAnswers
-pub mod ToldSources
+pub mod BriefSources

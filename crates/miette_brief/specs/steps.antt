@@ -1,7 +1,7 @@
--- The code's own steps, which no rule names.
+-- Helper definitions of the code that no rule mentions.
 pub mod Reads
 pub mod Conversions
 pub mod AppendedParts
 pub mod CommandParts
-pub mod Marking
-pub mod Wholes
+pub mod PrimaryLabels
+pub mod WholeSources

@@ -1,23 +1,24 @@
-//! Workflow commands of GitHub, part by part.
+//! GitHub workflow commands, part by part.
 
 ghost use Rattle.std.specs.Prelude.{◌≡◌, ◌==◌, ◌++◌, codes, max, OnOk, string_bytes, option_copied, decimal};
 ghost use Rattle.std.specs.List.{flat_map};
 ghost use Rattle.std.specs.Option.{option_map};
-ghost use Rattle.miette_brief.specs.rules.Commands.{columns, command_name, further_property, line_columns};
+ghost use Rattle.miette_brief.specs.rules.Commands.{columns, command_name, further_property, one_line_columns};
 ghost use Rattle.miette_brief.specs.rules.Commands.{properties_text};
-ghost use Rattle.miette_brief.specs.rules.Commands.{region_properties, saying_text, site_properties, title_properties};
-ghost use Rattle.miette_brief.specs.steps.CommandParts.{site_of, title_text};
+ghost use Rattle.miette_brief.specs.rules.Commands.{region_properties, message_row_text, file_properties};
+ghost use Rattle.miette_brief.specs.rules.Commands.{title_properties};
+ghost use Rattle.miette_brief.specs.steps.CommandParts.{file_location_of, title_property_text};
 
-use crate::escapes::{Part, push_escaped};
-use miette_basics::numbers::push_number;
-use miette_basics::sums::sum;
-use miette_positions::place::Region;
+use crate::escapes::{CommandPart, push_escaped};
+use miette_lines::numbers::push_number;
+use miette_lines::sums::sum;
+use miette_positions::position::Region;
 use miette_protocol::protocol::Severity;
 use std::alloc::AllocError;
 
-/// A file with a name, and a part of it, if one is told.
+/// The file that a command names, and the region in it, if one is given.
 #[derive(Clone, Copy)]
-pub(crate) struct Site<'a> {
+pub(crate) struct FileLocation<'a> {
     pub(crate) file: &'a str,
     pub(crate) region: Option<Region>,
 }
@@ -33,7 +34,7 @@ fn push_keyed(out: &mut String, key: &str, number: usize) -> Result<(), AllocErr
     push_number(out, number)
 }
 
-/// A number as a property, after others.
+/// Appends `,key=number`.
 fn push_numbered(out: &mut String, key: &str, number: usize) -> Result<(), AllocError>
     ensures { OnOk result (string_bytes out.new
         ≡ string_bytes out.old ++ further_property (record { key = key.now; value = decimal number })) }
@@ -41,7 +42,7 @@ fn push_numbered(out: &mut String, key: &str, number: usize) -> Result<(), Alloc
     push_keyed(out, key, number)
 }
 
-/// The greater of two numbers.
+/// Returns the greater of two numbers.
 fn greater(first: usize, second: usize) -> usize
     ensures { result ≡ max first second }
 {
@@ -51,7 +52,7 @@ fn greater(first: usize, second: usize) -> usize
 /// `,col=3,endColumn=6`
 fn push_line_columns(out: &mut String, region: Region) -> Result<(), AllocError>
     ensures { OnOk result (string_bytes out.new
-        ≡ string_bytes out.old ++ flat_map further_property (line_columns region)) }
+        ≡ string_bytes out.old ++ flat_map further_property (one_line_columns region)) }
 {
     let first = sum(region.start.column, 1)?;
     let last = greater(first, region.end.column);
@@ -66,7 +67,7 @@ fn is_on_one_line(region: Region) -> bool
     region.start.line == region.end.line
 }
 
-/// `,col=3,endColumn=6` where a region is on one line.
+/// Appends `,col=3,endColumn=6` if the region is on one line.
 fn push_columns(out: &mut String, region: Region) -> Result<(), AllocError>
     ensures { OnOk result (string_bytes out.new
         ≡ string_bytes out.old ++ flat_map further_property (columns region)) }
@@ -91,49 +92,50 @@ fn push_region(out: &mut String, region: Option<Region>) -> Result<(), AllocErro
 }
 
 /// ` file=bad_file.rs,line=2,endLine=2`
-fn push_site(out: &mut String, site: Option<Site<'_>>) -> Result<(), AllocError>
+fn push_file_location(out: &mut String, site: Option<FileLocation<'_>>) -> Result<(), AllocError>
     ensures { OnOk result (string_bytes out.new
-        ≡ string_bytes out.old ++ properties_text (site_properties (option_map site_of site.entry))) }
+        ≡ string_bytes out.old ++ properties_text (file_properties (option_map file_location_of site.entry))) }
 {
     let Some(site) = site else {
         return Ok(());
     };
     out.push_str(" file=")?;
-    push_escaped(out, Part::Property, site.file)?;
+    push_escaped(out, CommandPart::Property, site.file)?;
     push_region(out, site.region)
 }
 
-/// `,title=oops%3A%3Amy%3A%3Abad` after a file, with a space before it without one.
+/// `,title=oops%3A%3Amy%3A%3Abad`. It begins with a space instead of the comma if there is no file.
 fn push_title(
     out: &mut String,
-    site: Option<Site<'_>>,
+    site: Option<FileLocation<'_>>,
     title: Option<&str>,
 ) -> Result<(), AllocError>
     ensures { OnOk result (string_bytes out.new
-        ≡ string_bytes out.old ++ title_text (option_map site_of site.entry) (option_copied title.entry)) }
+        ≡ string_bytes out.old ++ title_property_text (option_map file_location_of site.entry)
+        (option_copied title.entry)) }
 {
     let Some(title) = title else {
         return Ok(());
     };
     out.push_str(if site.is_some() { ",title=" } else { " title=" })?;
-    push_escaped(out, Part::Property, title)
+    push_escaped(out, CommandPart::Property, title)
 }
 
-/// All properties.
+/// Appends all properties of a command.
 fn push_properties(
     out: &mut String,
-    site: Option<Site<'_>>,
+    site: Option<FileLocation<'_>>,
     title: Option<&str>,
 ) -> Result<(), AllocError>
     ensures { OnOk result (string_bytes out.new
-        ≡ string_bytes out.old ++ properties_text (site_properties (option_map site_of site.entry)
+        ≡ string_bytes out.old ++ properties_text (file_properties (option_map file_location_of site.entry)
         ++ title_properties (option_copied title.entry))) }
 {
-    push_site(out, site)?;
+    push_file_location(out, site)?;
     push_title(out, site, title)
 }
 
-/// The name of a command.
+/// The command for a severity. It is `error` without one.
 fn command_name(severity: Option<Severity>) -> &'static str
     ensures { result.now ≡ command_name severity }
 {
@@ -148,12 +150,12 @@ fn command_name(severity: Option<Severity>) -> &'static str
 pub(crate) fn push_head(
     out: &mut String,
     severity: Option<Severity>,
-    site: Option<Site<'_>>,
+    site: Option<FileLocation<'_>>,
     title: Option<&str>,
 ) -> Result<(), AllocError>
     ensures { OnOk result (string_bytes out.new ≡ string_bytes out.old
         ++ (codes "::" ++ (command_name severity
-        ++ (properties_text (site_properties (option_map site_of site.entry)
+        ++ (properties_text (file_properties (option_map file_location_of site.entry)
         ++ title_properties (option_copied title.entry)) ++ codes "::")))) }
 {
     out.push_str("::")?;
@@ -163,11 +165,11 @@ pub(crate) fn push_head(
 }
 
 /// `%0Ahelp: try it`
-pub(crate) fn push_saying(out: &mut String, title: &str, text: &str) -> Result<(), AllocError>
+pub(crate) fn push_message_row(out: &mut String, title: &str, text: &str) -> Result<(), AllocError>
     ensures { OnOk result (string_bytes out.new
-        ≡ string_bytes out.old ++ saying_text (record { title = title.now; text = text.now })) }
+        ≡ string_bytes out.old ++ message_row_text (record { title = title.now; text = text.now })) }
 {
     out.push_str("%0A")?;
-    push_escaped(out, Part::Message, title)?;
-    push_escaped(out, Part::Message, text)
+    push_escaped(out, CommandPart::Message, title)?;
+    push_escaped(out, CommandPart::Message, text)
 }

@@ -1,42 +1,45 @@
-//! Texts as they stand in a workflow command.
+//! Escapes of workflow commands.
 
 ghost use Rattle.std.specs.Prelude.{◌≡◌, ◌<◌, ◌++◌, OnOk, position, string_bytes};
-ghost use Rattle.miette_brief.specs.rules.Commands.{escaped, hex_digit, is_escaped, is_escaped_everywhere, percent};
+ghost use Rattle.miette_brief.specs.rules.Commands.{escaped, hex_digit, is_percent_escaped, is_escaped_everywhere};
+ghost use Rattle.miette_brief.specs.rules.Commands.{percent};
 
 use std::alloc::AllocError;
 
-/// Where a text stands: in the message of a command, or in one of its properties.
+/// The part of a command that a text belongs to.
 #[derive(Clone, Copy)]
-pub(crate) enum Part {
+pub(crate) enum CommandPart {
     Message,
     Property,
 }
 
-/// Whether a byte can't stand for itself in any part.
+/// Whether a byte is escaped in every part.
 fn is_escaped_everywhere(byte: u8) -> bool
     ensures { result ≡ is_escaped_everywhere byte }
 {
     byte == b'%' || (byte == b'\r' || byte == b'\n')
 }
 
-/// Whether a byte can't stand for itself in this part.
-fn is_escaped(part: Part, byte: u8) -> bool
-    ensures { result ≡ is_escaped part byte }
+/// Whether a byte is escaped in this part.
+fn is_percent_escaped(part: CommandPart, byte: u8) -> bool
+    ensures { result ≡ is_percent_escaped part byte }
 {
     match part {
-        Part::Message => is_escaped_everywhere(byte),
-        Part::Property => is_escaped_everywhere(byte) || (byte == b':' || byte == b','),
+        CommandPart::Message => is_escaped_everywhere(byte),
+        CommandPart::Property => is_escaped_everywhere(byte) || (byte == b':' || byte == b','),
     }
 }
 
-/// Where the first byte stands that can't stand for itself.
-fn first_escape(part: Part, text: &str) -> Option<usize>
-    ensures { result ≡ position (is_escaped part) text.now }
+/// Index of the first byte that is escaped.
+fn first_escape(part: CommandPart, text: &str) -> Option<usize>
+    ensures { result ≡ position (is_percent_escaped part) text.now }
 {
-    text.as_bytes().iter().position(|b| is_escaped(part, *b))
+    text.as_bytes()
+        .iter()
+        .position(|b| is_percent_escaped(part, *b))
 }
 
-/// A digit in base 16, in upper case.
+/// A hexadecimal digit in upper case.
 fn hex_digit(n: u8) -> char
     requires { n < 16 }
     ensures digit { result ≡ hex_digit n }
@@ -58,8 +61,12 @@ fn push_percent(out: &mut String, byte: u8) -> Result<(), AllocError>
     out.push(hex_digit(byte % 16))
 }
 
-/// Appends a text with its escapes: what needs none is copied at once.
-pub(crate) fn push_escaped(out: &mut String, part: Part, text: &str) -> Result<(), AllocError>
+/// Appends a text with its escapes. Runs of bytes without escapes are copied at once.
+pub(crate) fn push_escaped(
+    out: &mut String,
+    part: CommandPart,
+    text: &str,
+) -> Result<(), AllocError>
     ensures { OnOk result (string_bytes out.new ≡ string_bytes out.old ++ escaped part text.now) }
 {
     let mut rest = text;

@@ -1,30 +1,30 @@
-//! The row of an edit, as GCC and clang print it for `-fdiagnostics-parseable-fixits`.
+//! Edits as GCC and clang print them for `-fdiagnostics-parseable-fixits`.
 
 ghost use Rattle.std.specs.Prelude.{◌≡◌, ◌+◌, ◌++◌, ◌<◌, [], OnOk, string_bytes, option_copied, unwrap_or};
 ghost use Rattle.miette_brief.specs.rules.FixIts.{octal, escaped_byte, escaped, in_quotes, position_text};
 ghost use Rattle.miette_brief.specs.rules.FixIts.{range_text, fix_it_text};
 ghost use Rattle.miette_brief.specs.steps.Conversions.{fix_it_of};
 
-use miette_basics::numbers::push_number;
+use miette_lines::numbers::push_number;
 use std::alloc::AllocError;
 
-/// A line and a column, both counted from 1, the column in bytes.
+/// A line and a column, both counted from 1. Columns are bytes.
 #[derive(Clone, Copy)]
-pub(crate) struct Position {
+pub(crate) struct LineColumn {
     pub(crate) line: usize,
     pub(crate) column: usize,
 }
 
-/// An edit: the name of its source, where it begins and where it ends there, and its text.
+/// An edit: the name of its source, its range, and its replacement text.
 #[derive(Clone, Copy)]
 pub(crate) struct FixIt<'a> {
     pub(crate) name: Option<&'a str>,
-    pub(crate) start: Position,
-    pub(crate) end: Position,
+    pub(crate) start: LineColumn,
+    pub(crate) end: LineColumn,
     pub(crate) text: &'a str,
 }
 
-/// A digit in base 8.
+/// An octal digit.
 fn octal_digit(n: u8) -> char
     requires { n < 8 }
     ensures digit { result ≡ 48 + n }
@@ -43,7 +43,7 @@ fn push_octal(out: &mut String, byte: u8) -> Result<(), AllocError>
     out.push(octal_digit(byte % 8))
 }
 
-/// Appends a byte after a backslash, as itself, or as digits.
+/// Appends a byte: escaped with a backslash, as itself, or as three octal digits.
 fn push_byte(out: &mut String, byte: u8) -> Result<(), AllocError>
     ensures { OnOk result (string_bytes out.new ≡ string_bytes out.old ++ escaped_byte byte) }
 {
@@ -57,7 +57,7 @@ fn push_byte(out: &mut String, byte: u8) -> Result<(), AllocError>
     }
 }
 
-/// Appends a text byte by byte.
+/// Appends a text with its escapes.
 fn push_escaped(out: &mut String, text: &str) -> Result<(), AllocError>
     ensures { OnOk result (string_bytes out.new ≡ string_bytes out.old ++ escaped text.now) }
 {
@@ -77,7 +77,7 @@ fn push_in_quotes(out: &mut String, text: &str) -> Result<(), AllocError>
 }
 
 /// `2:3`
-pub(crate) fn push_position(out: &mut String, at: Position) -> Result<(), AllocError>
+pub(crate) fn push_position(out: &mut String, at: LineColumn) -> Result<(), AllocError>
     ensures { OnOk result (string_bytes out.new ≡ string_bytes out.old ++ position_text at) }
 {
     push_number(out, at.line)?;
@@ -86,7 +86,7 @@ pub(crate) fn push_position(out: &mut String, at: Position) -> Result<(), AllocE
 }
 
 /// `{2:5-2:5}`
-fn push_range(out: &mut String, start: Position, end: Position) -> Result<(), AllocError>
+fn push_range(out: &mut String, start: LineColumn, end: LineColumn) -> Result<(), AllocError>
     ensures { OnOk result (string_bytes out.new ≡ string_bytes out.old ++ range_text start end) }
 {
     out.push_str("{")?;
@@ -96,7 +96,7 @@ fn push_range(out: &mut String, start: Position, end: Position) -> Result<(), Al
     out.push_str("}")
 }
 
-/// `"f.py"`, nothing in the quotes without a name.
+/// `"f.py"`, or empty quotes without a name.
 fn push_name(out: &mut String, name: Option<&str>) -> Result<(), AllocError>
     ensures { OnOk result (string_bytes out.new
         ≡ string_bytes out.old ++ in_quotes (unwrap_or (option_copied name.entry) [])) }

@@ -5,83 +5,85 @@ ghost use Rattle.std.specs.Prelude.{option_copied};
 ghost use Rattle.std.specs.List.{list_any};
 ghost use Rattle.miette_fixes.specs.rules.Edits.{ends_after};
 ghost use Rattle.miette_fixes.specs.views.Ordered.{edits_of};
-ghost use Rattle.miette_tree.specs.views.Owned.{source_shown};
-ghost use Rattle.miette_brief.specs.rules.Fixes.{position_of as position_in, byte_of as byte_in, edit_row, fix_row};
-ghost use Rattle.miette_brief.specs.rules.Fixes.{failed_rows, rows_in, applied_rows, fix_rows, fixes_rows, read};
-ghost use Rattle.miette_brief.specs.rules.Rows.{rows_text};
-ghost use Rattle.miette_brief.specs.steps.AppendedParts.{AppendsFixes};
-ghost use Rattle.miette_brief.specs.steps.Conversions.{place_of, fixed_over};
+ghost use Rattle.miette_tree.specs.views.Owned.{opt_ref_source};
+ghost use Rattle.miette_brief.specs.rules.Fixes.{line_column_at as position_in, byte_line_column_at as byte_in};
+ghost use Rattle.miette_brief.specs.rules.Fixes.{fix_it_row, fix_row};
+ghost use Rattle.miette_brief.specs.rules.Fixes.{failed_rows, rows_in, applied_fix_rows, brief_fix_rows};
+ghost use Rattle.miette_brief.specs.rules.Fixes.{brief_fixes_rows, read};
+ghost use Rattle.miette_brief.specs.rules.Rows.{brief_rows_text};
+ghost use Rattle.miette_brief.specs.steps.AppendedParts.{AppendsBriefFixes};
+ghost use Rattle.miette_brief.specs.steps.Conversions.{brief_location_of, brief_origin_of};
 
-use crate::fix_its::{FixIt, Position, push_fix_it};
-use crate::rows::{Kind, Place, push_row};
-use miette_basics::sums::sum;
-use miette_fixes::apply::checked;
+use crate::fix_its::{FixIt, LineColumn, push_fix_it};
+use crate::rows::{BriefLocation, RowKind, push_row};
+use miette_fixes::apply::check_edits;
 use miette_fixes::fix::{Edit, Fix, FixError};
+use miette_lines::find::{FindLines, column_from};
+use miette_lines::sums::sum;
 use miette_protocol::protocol::{SourceOffset, SourceSpan};
 use miette_protocol::source::{IndexedSource, SourceCode};
-use miette_source_lines::find::{FindLines, column_from};
 use miette_tree::report::SourceRef;
 use std::alloc::AllocError;
 
-/// A source that was read for fixes: its name, and its bytes, whose lines are found.
+/// A source that was read for fixes: its name, and an index of its lines.
 #[derive(Clone, Copy)]
 pub(crate) struct FixText<'a> {
     pub(crate) name: Option<&'a str>,
     pub(crate) lines: &'a IndexedSource,
 }
 
-/// What fixes are told over: no source, one that could not be read, or one that was.
+/// The source that fixes apply to: none, one that could not be read, or one that was read.
 #[derive(Clone, Copy)]
-pub(crate) enum FixSource<'a> {
+pub(crate) enum BriefFixSource<'a> {
     Nowhere,
     Unread,
     Read(FixText<'a>),
 }
 
-/// Where an offset lies in a source, its column in bytes of text.
-fn position_of(source: &IndexedSource, at: usize) -> Result<Position, AllocError>
+/// Position of an offset. Its column counts bytes of text.
+fn line_column_at(source: &IndexedSource, at: usize) -> Result<LineColumn, AllocError>
     requires { at ≤ length source.now }
     ensures { IfOk result (λ position. position ≡ position_in source.now at) }
 {
     let (start, number) = source.start_before(at, 0);
     let line = sum(number, 1)?;
     let column = sum(column_from(source.bytes(), start, at), 1)?;
-    Ok(Position { line, column })
+    Ok(LineColumn { line, column })
 }
 
-/// Where an offset lies in a source, its column in bytes of text and terminators.
-fn byte_of(source: &IndexedSource, at: usize) -> Result<Position, AllocError>
+/// Position of an offset. Its column counts bytes of text and of the terminator.
+fn byte_line_column_at(source: &IndexedSource, at: usize) -> Result<LineColumn, AllocError>
     requires { at ≤ length source.now }
     ensures { IfOk result (λ position. position ≡ byte_in source.now at) }
 {
     let (start, number) = source.start_before(at, 0);
     let line = sum(number, 1)?;
     let column = sum(at.saturating_sub(start), 1)?;
-    Ok(Position { line, column })
+    Ok(LineColumn { line, column })
 }
 
-/// The row of an edit that doesn't end after the source's end.
+/// Appends the line of an edit. The edit may not end after the source's end.
 fn push_edit(out: &mut String, text: FixText<'_>, edit: &Edit) -> Result<(), AllocError>
     requires { ends_after (length text.lines.now) edit.now ≡ false }
     ensures { OnOk result (string_bytes out.new ≡ string_bytes out.old
-        ++ rows_text (edit_row (option_copied text.entry.name) text.entry.lines.now edit.now ∷ [])) }
+        ++ brief_rows_text (fix_it_row (option_copied text.entry.name) text.entry.lines.now edit.now ∷ [])) }
 {
     let end = sum(edit.offset(), edit.len())?;
     let row = FixIt {
         name: text.name,
-        start: byte_of(text.lines, edit.offset())?,
-        end: byte_of(text.lines, end)?,
+        start: byte_line_column_at(text.lines, edit.offset())?,
+        end: byte_line_column_at(text.lines, end)?,
         text: edit.text(),
     };
     push_fix_it(out, row)?;
     out.push_str("\n")
 }
 
-/// The rows of edits in their order, none of which ends after the source's end.
+/// Appends a line for each edit, in order. No edit may end after the source's end.
 fn push_edits(out: &mut String, text: FixText<'_>, edits: &[&Edit]) -> Result<(), AllocError>
     requires { list_any (ends_after (length text.lines.now)) (edits_of edits.now) ≡ false }
     ensures { OnOk result (string_bytes out.new ≡ string_bytes out.old
-        ++ rows_text (map (edit_row (option_copied text.entry.name) text.entry.lines.now) (edits_of edits.now))) }
+        ++ brief_rows_text (map (fix_it_row (option_copied text.entry.name) text.entry.lines.now) (edits_of edits.now))) }
 {
     for edit in edits {
         push_edit(out, text, edit)?;
@@ -90,62 +92,64 @@ fn push_edits(out: &mut String, text: FixText<'_>, edits: &[&Edit]) -> Result<()
 }
 
 /// `bad_file.rs:2:3: fix: a colon is missing`
-fn push_message(out: &mut String, at: Place<'_>, message: &str) -> Result<(), AllocError>
+fn push_message(out: &mut String, at: BriefLocation<'_>, message: &str) -> Result<(), AllocError>
     ensures { OnOk result (string_bytes out.new
-        ≡ string_bytes out.old ++ rows_text (fix_row (place_of at.entry) message.now ∷ [])) }
+        ≡ string_bytes out.old ++ brief_rows_text (fix_row (brief_location_of at.entry) message.now ∷ [])) }
 {
-    push_row(out, at, Kind::Fix, message)
+    push_row(out, at, RowKind::Fix, message)
 }
 
-/// A fix that can't be applied, and why.
+/// Appends a fix that can't be applied, and the reason.
 fn push_failed(
     out: &mut String,
-    at: Place<'_>,
+    at: BriefLocation<'_>,
     message: &str,
     reason: &str,
 ) -> Result<(), AllocError>
     ensures { OnOk result (string_bytes out.new
-        ≡ string_bytes out.old ++ rows_text (failed_rows (place_of at.entry) message.now reason.now)) }
+        ≡ string_bytes out.old ++ brief_rows_text (failed_rows (brief_location_of at.entry) message.now reason.now)) }
 {
     push_message(out, at, message)?;
-    push_row(out, at, Kind::Failure, reason)
+    push_row(out, at, RowKind::Failure, reason)
 }
 
-/// A fix of edits in their order, none of which ends after the source's end: it lies at the first of them.
+/// Appends a fix with its edits, in order, at the position of the first edit. No edit may end after the source's end.
 fn push_applied(
     out: &mut String,
-    at: Place<'_>,
+    at: BriefLocation<'_>,
     text: FixText<'_>,
     message: &str,
     edits: &[&Edit],
 ) -> Result<(), AllocError>
     requires { list_any (ends_after (length text.lines.now)) (edits_of edits.now) ≡ false }
     ensures { OnOk result (string_bytes out.new ≡ string_bytes out.old
-        ++ rows_text (applied_rows (place_of at.entry) (option_copied text.entry.name) text.entry.lines.now
+        ++ brief_rows_text (applied_fix_rows (brief_location_of at.entry) (option_copied text.entry.name)
+        text.entry.lines.now
         message.now (edits_of edits.now))) }
 {
     let Some(first) = edits.first() else {
         return push_message(out, at, message);
     };
-    let place = Place {
+    let place = BriefLocation {
         name: text.name,
-        position: Some(position_of(text.lines, first.offset())?),
+        position: Some(line_column_at(text.lines, first.offset())?),
     };
     push_message(out, place, message)?;
     push_edits(out, text, edits)
 }
 
-/// A fix over a source that was read, which may be refused.
+/// Appends a fix of a source that was read. It may turn out that the edits can't be applied.
 fn push_read(
     out: &mut String,
-    at: Place<'_>,
+    at: BriefLocation<'_>,
     text: FixText<'_>,
     fix: &Fix,
 ) -> Result<(), AllocError>
     ensures { OnOk result (string_bytes out.new ≡ string_bytes out.old
-        ++ rows_text (rows_in (place_of at.entry) (option_copied text.entry.name) text.entry.lines.now fix.now)) }
+        ++ brief_rows_text (rows_in (brief_location_of at.entry) (option_copied text.entry.name) text.entry.lines.now
+        fix.now)) }
 {
-    match checked(*out.allocator(), text.lines.bytes().len(), fix.edits()) {
+    match check_edits(*out.allocator(), text.lines.bytes().len(), fix.edits()) {
         Ok(list) => push_applied(out, at, text, fix.message(), &list),
         Err(FixError::OutOfBounds) => push_failed(out, at, fix.message(), "OutOfBounds"),
         Err(FixError::Overlap) => push_failed(out, at, fix.message(), "Overlap"),
@@ -153,35 +157,37 @@ fn push_read(
     }
 }
 
-/// A fix of a diagnostic at a place.
+/// Appends a fix of a diagnostic at this location.
 fn push_fix(
     out: &mut String,
-    at: Place<'_>,
-    over: FixSource<'_>,
+    at: BriefLocation<'_>,
+    over: BriefFixSource<'_>,
     fix: &Fix,
 ) -> Result<(), AllocError>
     ensures { OnOk result (string_bytes out.new
-        ≡ string_bytes out.old ++ rows_text (fix_rows (place_of at.entry) (fixed_over over.entry) fix.now)) }
+        ≡ string_bytes out.old ++ brief_rows_text (brief_fix_rows (brief_location_of at.entry)
+        (brief_origin_of over.entry) fix.now)) }
 {
     if fix.edits().is_empty() {
         return push_message(out, at, fix.message());
     }
     match over {
-        FixSource::Nowhere => push_message(out, at, fix.message()),
-        FixSource::Unread => push_failed(out, at, fix.message(), "IoError"),
-        FixSource::Read(text) => push_read(out, at, text, fix),
+        BriefFixSource::Nowhere => push_message(out, at, fix.message()),
+        BriefFixSource::Unread => push_failed(out, at, fix.message(), "IoError"),
+        BriefFixSource::Read(text) => push_read(out, at, text, fix),
     }
 }
 
-/// The fixes of a diagnostic at a place, in the order given.
+/// Appends the fixes of a diagnostic at this location, in the given order.
 fn push_each(
     out: &mut String,
-    at: Place<'_>,
-    over: FixSource<'_>,
+    at: BriefLocation<'_>,
+    over: BriefFixSource<'_>,
     fixes: &[Fix],
 ) -> Result<(), AllocError>
     ensures { OnOk result (string_bytes out.new
-        ≡ string_bytes out.old ++ rows_text (fixes_rows (place_of at.entry) (fixed_over over.entry) fixes.now)) }
+        ≡ string_bytes out.old ++ brief_rows_text (brief_fixes_rows (brief_location_of at.entry)
+        (brief_origin_of over.entry) fixes.now)) }
 {
     for fix in fixes {
         push_fix(out, at, over, fix)?;
@@ -189,16 +195,17 @@ fn push_each(
     Ok(())
 }
 
-/// The fixes over these bytes of a source with this name, or without one.
+/// Appends the fixes of a source with this name and these bytes.
 fn push_over(
     out: &mut String,
-    at: Place<'_>,
+    at: BriefLocation<'_>,
     name: Option<&str>,
     bytes: &[u8],
     fixes: &[Fix],
 ) -> Result<(), AllocError>
     ensures { OnOk result (string_bytes out.new ≡ string_bytes out.old
-        ++ rows_text (fixes_rows (place_of at.entry) (read (option_copied name.entry) bytes.now) fixes.now)) }
+        ++ brief_rows_text (brief_fixes_rows (brief_location_of at.entry) (read (option_copied name.entry) bytes.now)
+        fixes.now)) }
 {
     let alloc = *out.allocator();
     let lines = IndexedSource::new(alloc, bytes.to_vec(alloc)?)?;
@@ -206,28 +213,28 @@ fn push_over(
         name,
         lines: &lines,
     };
-    push_each(out, at, FixSource::Read(text), fixes)
+    push_each(out, at, BriefFixSource::Read(text), fixes)
 }
 
-/// The fixes of a diagnostic at a place over a source, which is read once for all of them, as a whole.
+/// Appends the fixes of a diagnostic at this location. The source is read once, as a whole.
 pub(crate) fn push_fixes<S: SourceCode>(
     out: &mut String,
-    at: Place<'_>,
+    at: BriefLocation<'_>,
     fixes: &[Fix],
     source: Option<SourceRef<'_, S>>,
 ) -> Result<(), AllocError>
-    ensures { OnOk result (AppendsFixes (place_of at.entry) (source_shown S.source source.entry)
+    ensures { OnOk result (AppendsBriefFixes (brief_location_of at.entry) (opt_ref_source S.source source.entry)
         fixes.now (string_bytes out.old) (string_bytes out.new)) }
 {
     if fixes.is_empty() {
         return Ok(());
     }
     let Some(source) = source else {
-        return push_each(out, at, FixSource::Nowhere, fixes);
+        return push_each(out, at, BriefFixSource::Nowhere, fixes);
     };
     let begin = SourceSpan::new(SourceOffset::from(0), 0);
     match source.read_span(&begin, 1, usize::MAX) {
         Ok(contents) => push_over(out, at, contents.name(), contents.data(), fixes),
-        Err(_) => push_each(out, at, FixSource::Unread, fixes),
+        Err(_) => push_each(out, at, BriefFixSource::Unread, fixes),
     }
 }

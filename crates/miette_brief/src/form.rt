@@ -1,10 +1,10 @@
-//! The forms of brief reports.
+//! The output formats of brief reports.
 
-/// In what form a report is told.
+/// The output format of a brief report.
 #[derive(Clone, Copy, Debug, PartialEq, Eq, Drop)]
 pub enum Form {
-    /// As GCC and clang tell it, for editors and build logs: a row for each part of a report.
+    /// The format of GCC and clang, for editors and build logs: one line for each part of a report.
     Gcc,
-    /// As workflow commands of GitHub, which shows them beside the lines of a file: a row for each diagnostic.
+    /// GitHub workflow commands, which GitHub shows beside the lines of a file: one line for each diagnostic.
     Github,
 }

@@ -1,19 +1,19 @@
-//! The brief report: one row for each part of a report, as editors and build logs read it.
+//! The brief report: one line for each part of a report, as editors and build logs read it.
 #![tactic(auto)]
 
 mod commands;
 mod escapes;
+mod file_locations;
 mod fix_its;
 mod fixes;
 pub mod form;
 mod github;
 pub mod handler;
 pub mod laws;
-mod marks;
-mod places;
+mod located_labels;
+mod locations;
+mod one_line;
+mod primary;
 mod report;
 mod rows;
-mod sites;
-mod spots;
-mod whole;
-mod words;
+mod whole_source;

@@ -21,8 +21,8 @@ use Rattle.unicode_width.specs.Width.{before, of_kind, alone, char_width, before
 use Rattle.unicode_width.specs.Width.{first_of}
 use Rattle.unicode_width.proofs.KindLemmas.{is_ligature_transparent_stepped}
 use Rattle.unicode_width.proofs.Computing.{unicode_width}
-use Rattle.miette_cells.specs.rules.Widths.{width_of}
-use Rattle.miette_columns.specs.steps.Parting.{is_joining, is_closing}
+use Rattle.miette_columns.specs.rules.Widths.{width_of}
+use Rattle.miette_columns.specs.steps.SplitPoints.{is_joining, joins_only_by_joiner}
 use Rattle.miette_columns.proofs.Excluding.{excluded, first_range}
 use Rattle.miette_columns.proofs.KindTests.{kind_test_stepped}
 use Rattle.miette_columns.proofs.Lone.{or_false, or_turn}
@@ -76,15 +76,15 @@ mild_by c kinds.Ambiguous h e = refl
 mild_by c kinds.Emoji h e = refl
 mild_by c k h e = absurd (true≢false e)
 
-high_parts : (c : ℕ) → 0xA0 < c → is_closing c ≡ true → (nat_lt 0 (width_of c) && not (is_joining c)) ≡ true
+high_parts : (c : ℕ) → 0xA0 < c → joins_only_by_joiner c ≡ true → (nat_lt 0 (width_of c) && not (is_joining c)) ≡ true
 high_parts c high h = sym (cond-false (nat_le c 0xA0) (not (c == 0x0A)) (nat_lt 0 (width_of c) && not (is_joining c))
     (lt-leb c 0xA0 high)) ∙ h
 
-pub unlisted : (c : ℕ) → 0xA0 < c → is_closing c ≡ true → is_joining c ≡ false
+pub unlisted : (c : ℕ) → 0xA0 < c → joins_only_by_joiner c ≡ true → is_joining c ≡ false
 unlisted c high h = not-true (is_joining c) (and_parts (nat_lt 0 (width_of c)) (not (is_joining c))
     (high_parts c high h)).1
 
-pub mild : (c : ℕ) → 0xA0 < c → is_closing c ≡ true → is_mild_kind (kind c) ≡ true
+pub mild : (c : ℕ) → 0xA0 < c → joins_only_by_joiner c ≡ true → is_mild_kind (kind c) ≡ true
 unfolding alone
 mild c high h =
     let wide = (and_parts (nat_lt 0 (width_of c)) (not (is_joining c)) (high_parts c high h)).0 in
@@ -344,6 +344,6 @@ joins_own afters.ZwjOrkhonI c u n h = letter_own c 0x10C32 Same None own_nothing
 joins_own afters.KhmerLetter c u n h = letter_own c 0x17D2 Less None own_nothing.khmer tt
 joins_own after c u n h = tt
 
-pub low_parts : (c : ℕ) → c ≤ 0xA0 → is_closing c ≡ true → (c == 0x0A) ≡ false
+pub low_parts : (c : ℕ) → c ≤ 0xA0 → joins_only_by_joiner c ≡ true → (c == 0x0A) ≡ false
 low_parts c low h = not-true (c == 0x0A) (sym (cond-true (nat_le c 0xA0) (not (c == 0x0A))
     (nat_lt 0 (width_of c) && not (is_joining c)) (le-leb c 0xA0 low)) ∙ h)

@@ -7,12 +7,12 @@ use Rattle.std.specs.Prelude.{IsUtf8, chars, encode_utf8, encode_utf8_all}
 use Rattle.std.proofs.lemmas.Str.{chars_from_encodes, encodes-append, encodes-chars, chars-nil}
 use Rattle.std.proofs.lemmas.Bool.{ne_eqb, le-ltb, lt-ltb}
 use Rattle.unicode_width.specs.Width.{str_width}
-use Rattle.miette_cells.specs.rules.Cells.{Character, characters}
-use Rattle.miette_cells.specs.rules.Widths.{width_of}
-use Rattle.miette_cells.proofs.Stepping.{IsFirst, made, characters_step, characters_end}
-use Rattle.miette_columns.specs.rules.Columns.{begun_text, is_boundary, widths, column}
-use Rattle.miette_columns.specs.declared.places.PartingPlace.{PartingPlace}
-use Rattle.miette_columns.specs.steps.Places.{overlap_text, twice, column_past}
+use Rattle.miette_columns.specs.rules.Cells.{Character, characters}
+use Rattle.miette_columns.specs.rules.Widths.{width_of}
+use Rattle.miette_columns.proofs.Stepping.{IsFirst, made, characters_step, characters_end}
+use Rattle.miette_columns.specs.rules.Columns.{text_up_to, is_boundary, widths, column}
+use Rattle.miette_columns.specs.declared.checkpoints.Checkpoint.{Checkpoint}
+use Rattle.miette_columns.specs.steps.Checkpoints.{overlap_text, twice, column_past}
 
 -- a character of a text: how many bytes stand before it, and how many it takes
 pub record IsNext (text : List ℕ) (bytes code size : ℕ) : Type 0 where
@@ -48,14 +48,14 @@ is_next text bytes code size h read =
 -- some characters are over, and `left` bytes of the rest are left; the characters and the sum of widths began with some
 pub record IsOver (front : List ℕ) (first : ℕ) (text : List ℕ) (bytes : ℕ) (over : List ℕ) (sum : ℕ) (rest : List ℕ)
     (left : ℕ) : Type 0 where
-  pub all : chars over ++ begun_text left (characters rest) ≡ front ++ begun_text bytes (characters text)
+  pub all : chars over ++ text_up_to left (characters rest) ≡ front ++ text_up_to bytes (characters text)
   pub boundary : is_boundary left (characters rest) ≡ is_boundary bytes (characters text)
-  pub width : sum + widths (begun_text left (characters rest)) ≡ first + widths (begun_text bytes (characters text))
+  pub width : sum + widths (text_up_to left (characters rest)) ≡ first + widths (text_up_to bytes (characters text))
 
 pub none_over : (front : List ℕ) (first : ℕ) (text : List ℕ) (bytes : ℕ) (over : List ℕ) → chars over ≡ front
     → IsOver front first text bytes over first text bytes
 none_over front first text bytes over e = record {
-  all = ap (λ o. o ++ begun_text bytes (characters text)) e;
+  all = ap (λ o. o ++ text_up_to bytes (characters text)) e;
   boundary =
       refl;
   width = refl;
@@ -84,11 +84,11 @@ two_held_text old new newer code second u v w e p q = chars_pushed new newer sec
 nonzero : (left : ℕ) → 0 < left → eqb left 0 ≡ false
 nonzero left h = ne_eqb left 0 (λ e. omega arith)
 
-pub begun_more : (left code size : ℕ) (cs : List Character) → 0 < left → begun_text left (made code size ∷ cs) ≡ code
-    ∷ begun_text (left - size) cs
+pub begun_more : (left code size : ℕ) (cs : List Character) → 0 < left → text_up_to left (made code size ∷ cs) ≡ code
+    ∷ text_up_to (left - size) cs
 begun_more left code size cs h = rw (nonzero left h) refl
 
-pub begun_zero : (cs : List Character) → begun_text 0 cs ≡ []
+pub begun_zero : (cs : List Character) → text_up_to 0 cs ≡ []
 begun_zero [] = refl
 begun_zero (c ∷ cs) = refl
 
@@ -112,49 +112,49 @@ pub one_over : (front : List ℕ) (first : ℕ) (text : List ℕ) (bytes : ℕ) 
 one_over front first text bytes over new sum wider rest after left code size h is u v e w some fits =
     let cs = characters after in
     let step = characters_step rest after code size is in
-    let more : begun_text left (characters rest) ≡ code ∷ begun_text (left - size) cs = ap (begun_text left) step
+    let more : text_up_to left (characters rest) ≡ code ∷ text_up_to (left - size) cs = ap (text_up_to left) step
     ∙ begun_more left code size cs some in
-    let sums : widths (begun_text left (characters rest)) ≡ width_of code + widths (begun_text (left - size) cs) =
+    let sums : widths (text_up_to left (characters rest)) ≡ width_of code + widths (text_up_to (left - size) cs) =
     ap widths more in
     record {
-      all = ap (λ o. o ++ begun_text (left - size) cs) (chars_pushed over new code u v e)
-          ∙ append_assoc (chars over) (code ∷ []) (begun_text (left - size) cs) ∙ ap (λ o. chars over ++ o) (sym more)
+      all = ap (λ o. o ++ text_up_to (left - size) cs) (chars_pushed over new code u v e)
+          ∙ append_assoc (chars over) (code ∷ []) (text_up_to (left - size) cs) ∙ ap (λ o. chars over ++ o) (sym more)
           ∙ h.all;
       boundary = sym (boundary_more left code size cs some fits) ∙ ap (is_boundary left) (sym step) ∙ h.boundary;
       width = omega (arith, w, sums, h.width);
     }
 
 pub at_boundary : (text : List ℕ) (bytes : ℕ) → is_boundary bytes (characters text) ≡ true
-    → column bytes (characters text) ≡ str_width false (begun_text bytes (characters text))
+    → column bytes (characters text) ≡ str_width false (text_up_to bytes (characters text))
 at_boundary text bytes e = rw e refl
 
 pub off_boundary : (text : List ℕ) (bytes : ℕ) → is_boundary bytes (characters text) ≡ false
-    → column bytes (characters text) ≡ widths (begun_text bytes (characters text))
+    → column bytes (characters text) ≡ widths (text_up_to bytes (characters text))
 off_boundary text bytes e = rw e refl
 
-pub after_boundary : (place : PartingPlace) (text : List ℕ) (bytes : ℕ) → is_boundary bytes (characters text) ≡ true →
+pub after_boundary : (place : Checkpoint) (text : List ℕ) (bytes : ℕ) → is_boundary bytes (characters text) ≡ true →
     column_past place bytes (characters text) ≡ place.column
-    + str_width false (overlap_text place.overlap ++ begun_text bytes (characters text))
+    + str_width false (overlap_text place.overlap ++ text_up_to bytes (characters text))
 after_boundary place text bytes e = rw e refl
 
-pub after_other : (place : PartingPlace) (text : List ℕ) (bytes : ℕ) → is_boundary bytes (characters text) ≡ false →
-    column_past place bytes (characters text) ≡ place.widths + widths (begun_text bytes (characters text))
+pub after_other : (place : Checkpoint) (text : List ℕ) (bytes : ℕ) → is_boundary bytes (characters text) ≡ false →
+    column_past place bytes (characters text) ≡ place.widths + widths (text_up_to bytes (characters text))
 after_other place text bytes e = rw e refl
 
-pub twice_boundary : (place : PartingPlace) (text : List ℕ) (bytes : ℕ) → is_boundary bytes (characters text) ≡ true
+pub twice_boundary : (place : Checkpoint) (text : List ℕ) (bytes : ℕ) → is_boundary bytes (characters text) ≡ true
     → twice place bytes (characters text) ≡ place.twice
 twice_boundary place text bytes e = rw e refl
 
-pub twice_other : (place : PartingPlace) (text : List ℕ) (bytes : ℕ) → is_boundary bytes (characters text) ≡ false
+pub twice_other : (place : Checkpoint) (text : List ℕ) (bytes : ℕ) → is_boundary bytes (characters text) ≡ false
     → twice place bytes (characters text) ≡ 0
 twice_other place text bytes e = rw e refl
 
 -- the column, where nothing is counted twice
-abbrev pub told_column : PartingPlace → ℕ → List Character → ℕ
+abbrev pub told_column : Checkpoint → ℕ → List Character → ℕ
 told_column place bytes cs = column_past place bytes cs - twice place bytes cs
 
-told_other : (place : PartingPlace) (text : List ℕ) (bytes result : ℕ) → is_boundary bytes (characters text) ≡ false
-    → result ≡ place.widths + widths (begun_text bytes (characters text)) → result
+told_other : (place : Checkpoint) (text : List ℕ) (bytes result : ℕ) → is_boundary bytes (characters text) ≡ false
+    → result ≡ place.widths + widths (text_up_to bytes (characters text)) → result
     ≡ told_column place bytes (characters text)
 told_other place text bytes result e r =
     let none = twice_other place text bytes e in
@@ -169,13 +169,13 @@ boundary_at_zero front first text bytes over sum rest left h zero = sym h.bounda
 
 pub all_at_zero : (front : List ℕ) (first : ℕ) (text : List ℕ) (bytes : ℕ) (over : List ℕ) (sum : ℕ) (rest : List ℕ)
     (left : ℕ) → IsOver front first text bytes over sum rest left → left ≡ 0 → chars over ≡ front
-    ++ begun_text bytes (characters text)
+    ++ text_up_to bytes (characters text)
 all_at_zero front first text bytes over sum rest left h zero =
-    let none : begun_text left (characters rest) ≡ [] = ap (λ k. begun_text k (characters rest)) zero
+    let none : text_up_to left (characters rest) ≡ [] = ap (λ k. text_up_to k (characters rest)) zero
     ∙ begun_zero (characters rest) in
     sym (append-nil (chars over)) ∙ ap (λ o. chars over ++ o) (sym none) ∙ h.all
 
-pub over_at_zero : (place : PartingPlace) (text : List ℕ) (bytes : ℕ) (over : List ℕ) (sum : ℕ) (rest : List ℕ)
+pub over_at_zero : (place : Checkpoint) (text : List ℕ) (bytes : ℕ) (over : List ℕ) (sum : ℕ) (rest : List ℕ)
     (left result : ℕ) → IsOver (overlap_text place.overlap) place.widths text bytes over sum rest left → left ≡ 0 →
     result ≡ (place.column + str_width false (chars over)) - place.twice → result
     ≡ told_column place bytes (characters text)
@@ -187,18 +187,18 @@ over_at_zero place text bytes over sum rest left result h zero r =
     let past = after_boundary place text bytes here in
     omega (arith, r, wide, more, past)
 
-pub over_past_end : (place : PartingPlace) (text : List ℕ) (bytes : ℕ) (over : List ℕ) (sum : ℕ) (rest : List ℕ)
+pub over_past_end : (place : Checkpoint) (text : List ℕ) (bytes : ℕ) (over : List ℕ) (sum : ℕ) (rest : List ℕ)
     (left : ℕ) → IsOver (overlap_text place.overlap) place.widths text bytes over sum rest left → 0 < left → rest ≡ [] →
     sum ≡ told_column place bytes (characters text)
 over_past_end place text bytes over sum rest left h some e =
     let end = characters_end rest e in
-    let none : widths (begun_text left (characters rest)) ≡ 0 = ap (λ cs. widths (begun_text left cs)) end in
+    let none : widths (text_up_to left (characters rest)) ≡ 0 = ap (λ cs. widths (text_up_to left cs)) end in
     let here : is_boundary bytes (characters text) ≡ false = sym h.boundary ∙ ap (is_boundary left) end
     ∙ nonzero left some in
-    let sums : sum ≡ place.widths + widths (begun_text bytes (characters text)) = omega (arith, none, h.width) in
+    let sums : sum ≡ place.widths + widths (text_up_to bytes (characters text)) = omega (arith, none, h.width) in
     told_other place text bytes _ here sums
 
-pub over_inside : (place : PartingPlace) (text : List ℕ) (bytes : ℕ) (over : List ℕ) (sum wider : ℕ)
+pub over_inside : (place : Checkpoint) (text : List ℕ) (bytes : ℕ) (over : List ℕ) (sum wider : ℕ)
     (rest after : List ℕ) (left code size : ℕ) → IsOver (overlap_text place.overlap) place.widths text bytes over sum
     rest left → IsFirst rest after code size →
     wider ≡ sum + width_of code → 0 < left → left < size → wider ≡ told_column place bytes (characters text)
@@ -206,11 +206,11 @@ over_inside place text bytes over sum wider rest after left code size h is w som
     let cs = characters after in
     let step = characters_step rest after code size is in
     let zero : left - size ≡ 0 = omega arith in
-    let more : begun_text left (characters rest) ≡ code ∷ [] = ap (begun_text left) step
-    ∙ begun_more left code size cs some ∙ ap (λ k. code ∷ begun_text k cs) zero ∙ ap (λ o. code ∷ o) (begun_zero cs)
+    let more : text_up_to left (characters rest) ≡ code ∷ [] = ap (text_up_to left) step
+    ∙ begun_more left code size cs some ∙ ap (λ k. code ∷ text_up_to k cs) zero ∙ ap (λ o. code ∷ o) (begun_zero cs)
     in
     let here : is_boundary bytes (characters text) ≡ false = sym h.boundary ∙ ap (is_boundary left) step
     ∙ boundary_inside left code size cs some inside in
-    let one : widths (begun_text left (characters rest)) ≡ width_of code + 0 = ap widths more in
-    let sums : wider ≡ place.widths + widths (begun_text bytes (characters text)) = omega (arith, w, one, h.width) in
+    let one : widths (text_up_to left (characters rest)) ≡ width_of code + 0 = ap widths more in
+    let sums : wider ≡ place.widths + widths (text_up_to bytes (characters text)) = omega (arith, w, one, h.width) in
     told_other place text bytes _ here sums

@@ -11,9 +11,9 @@ use Rattle.unicode_width.specs.Kind.{kind}
 use Rattle.unicode_width.specs.Width.{before, plain, of_kind, single, alone, joins, Reading, added, is_plain}
 use Rattle.unicode_width.specs.Width.{past_selectors, in_context, past_emoji, step, read_before, str_width}
 use Rattle.unicode_width.proofs.Computing.{unicode_width}
-use Rattle.miette_cells.specs.rules.Widths.{width_of}
-use Rattle.miette_basics.proofs.Cases.{by_cases}
-use Rattle.miette_columns.specs.steps.Trails.{is_faint}
+use Rattle.miette_columns.specs.rules.Widths.{width_of}
+use Rattle.miette_lines.proofs.Cases.{by_cases}
+use Rattle.miette_columns.specs.steps.ZeroWidthRuns.{is_zero_width}
 use Rattle.miette_columns.proofs.Excluding.{excluded}
 use Rattle.miette_columns.proofs.Ordinary.{IsUnselected, is_selected, selected_stepped, unselected, past_context}
 use Rattle.miette_columns.proofs.KindTests.{kind_test_stepped}
@@ -56,20 +56,20 @@ kind_light c kinds.Zero = λ e. (false, (false, (false, refl)))
 kind_light c kinds.Single = single_light c
 kind_light c k = λ e. absurd (true≢false (sym e))
 
-pub faint_high : (c : ℕ) → is_faint c ≡ true → 0xA0 < c
+pub faint_high : (c : ℕ) → is_zero_width c ≡ true → 0xA0 < c
 faint_high c h =
     elim (cases_lt 0xA0 c) [
       | inl high ↦ high
       | inr low ↦ absurd (true≢false (sym (and_parts (nat_lt 0xA0 c) (width_of c == 0) h).0 ∙ le-ltb 0xA0 c low))
     ]
 
-pub faint_width : (c : ℕ) → is_faint c ≡ true → width_of c ≡ 0
+pub faint_width : (c : ℕ) → is_zero_width c ≡ true → width_of c ≡ 0
 faint_width c h = eqb-true (width_of c) 0 (and_parts (nat_lt 0xA0 c) (width_of c == 0) h).1
 
-faint_alone : (c : ℕ) → is_faint c ≡ true → (alone false c).0 ≡ 0
+faint_alone : (c : ℕ) → is_zero_width c ≡ true → (alone false c).0 ≡ 0
 faint_alone c h = sym (width_high c (faint_high c h)) ∙ faint_width c h
 
-own_bare : (c : ℕ) → is_faint c ≡ true → IsBare (alone false c).1
+own_bare : (c : ℕ) → is_zero_width c ≡ true → IsBare (alone false c).1
 unfolding alone
 own_bare c h = kind_light c (kind c) (ap (λ n. n == 0) (faint_alone c h))
 
@@ -85,7 +85,7 @@ kind_faint c kinds.Zero e = refl
 kind_faint c kinds.Single e = refl
 kind_faint c k e = absurd (true≢false (sym e))
 
-of_faint_kind : (c : ℕ) → is_faint c ≡ true → is_faint_kind (kind c) ≡ true
+of_faint_kind : (c : ℕ) → is_zero_width c ≡ true → is_faint_kind (kind c) ≡ true
 unfolding alone
 of_faint_kind c h = kind_faint c (kind c) (ap (λ n. n == 0) (faint_alone c h))
 
@@ -149,22 +149,22 @@ unfolding step
 step_bare c t true x q high k = rw ((no_selected c k).variation) (past_bare c t false false false high k)
 step_bare c t false x q high k = past_bare c t false x q high k
 
-step_faint : (c t : ℕ) (s : State) → is_faint c ≡ true → IsBare s → step false c (t, s) ≡ (t, (alone false c).1)
+step_faint : (c t : ℕ) (s : State) → is_zero_width c ≡ true → IsBare s → step false c (t, s) ≡ (t, (alone false c).1)
 step_faint c t s h (e, (x, (q, is))) =
     ap (λ r. step false c (t, r)) is ∙ step_bare c t e x q (faint_high c h) (of_faint_kind c h)
     ∙ ap (λ n. (t + n, (alone false c).1)) (faint_alone c h) ∙ ap (λ n. (n, (alone false c).1)) (add-zero t)
 
 -- ---- so only the first one counts
 
-read_faint : (c : ℕ) (cs : List ℕ) → is_faint c ≡ true → list_all is_faint cs ≡ true
+read_faint : (c : ℕ) (cs : List ℕ) → is_zero_width c ≡ true → list_all is_zero_width cs ≡ true
     → read_before false (c ∷ cs) (0, plain) ≡ (0, (alone false c).1)
 read_faint c [] h all = step_faint c 0 plain h (false, (false, (false, refl)))
 read_faint c (d ∷ ds) h all =
-    let both = and_parts (is_faint d) (list_all is_faint ds) all in
+    let both = and_parts (is_zero_width d) (list_all is_zero_width ds) all in
     ap (step false c) (read_faint d ds both.0 both.1) ∙ step_faint c 0 (alone false d).1 h (own_bare d both.0)
 
 -- a text that ends with such a character has the columns of one that goes on with others
-pub faint_after : (xs cs : List ℕ) (c : ℕ) → is_faint c ≡ true → list_all is_faint cs ≡ true
+pub faint_after : (xs cs : List ℕ) (c : ℕ) → is_zero_width c ≡ true → list_all is_zero_width cs ≡ true
     → str_width false (xs ++ c ∷ cs) ≡ str_width false (xs ++ c ∷ [])
 unfolding str_width
 faint_after xs cs c h all =

@@ -6,7 +6,7 @@ use Rattle.std.proofs.Common.{◌∷◌, ◌++◌, length, refl, sym, ap, subst,
 use Rattle.std.proofs.Common.{append-nil, arith, inl, inr}
 use Rattle.std.specs.Prelude.{chars}
 use Rattle.std.proofs.lemmas.Bool.{true≢false, and_parts, not-true}
-use Rattle.miette_basics.proofs.Cases.{by_cases}
+use Rattle.miette_lines.proofs.Cases.{by_cases}
 use Rattle.unicode_width.specs.declared.state.After.TheVariants as afters
 use Rattle.unicode_width.specs.declared.state.State.{State}
 use Rattle.unicode_width.specs.Width.{before, plain, is_indicator}
@@ -14,8 +14,8 @@ use Rattle.unicode_width.specs.Width.{joins, Reading}
 use Rattle.unicode_width.specs.Width.{past_selectors, in_context, past_emoji, step, read_before, str_width}
 use Rattle.miette_columns.specs.declared.overlap.Overlap.{Overlap}
 use Rattle.miette_columns.specs.declared.overlap.Overlap.TheVariants.{Nothing, One, Selected}
-use Rattle.miette_columns.specs.steps.Parting.{may_part_flags}
-use Rattle.miette_columns.specs.steps.Places.{overlap_text, IsHeld}
+use Rattle.miette_columns.specs.steps.SplitPoints.{may_split_flags}
+use Rattle.miette_columns.specs.steps.Checkpoints.{overlap_text, IsHeld}
 use Rattle.miette_columns.proofs.Lone.{read_append, shifted}
 use Rattle.miette_columns.proofs.Indicators.{Waves, step_waves, after_nothing, after_one, after_more, after_joined}
 use Rattle.miette_columns.proofs.Indicators.{after_even, after_odd}
@@ -228,7 +228,7 @@ flags_pushed old new last code half later h e l =
 
 -- so it may be parted before an indicator
 pub flags_part : (text : List ℕ) (last code : ℕ) (half : Bool) → EndsInFlags text last half
-    → may_part_flags last half code ≡ true → (later : List ℕ) →
+    → may_split_flags last half code ≡ true → (later : List ℕ) →
     str_width false (chars text ++ code ∷ later) ≡ str_width false (chars text) + str_width false (code ∷ later)
 flags_part text last code half h part later =
     let both = and_parts (not half) (is_indicator last && is_indicator code) part in

@@ -4,7 +4,7 @@ use Rattle.std.proofs.Common.{◌∷◌, Option, Some, None, refl, sym, ap, subs
 use Rattle.std.proofs.Common.{arith, inl, inr}
 use Rattle.std.specs.Prelude.{if◌then◌else◌}
 use Rattle.std.proofs.lemmas.Bool.{true≢false, and_right, le-leb}
-use Rattle.miette_basics.proofs.Cases.{by_cases}
+use Rattle.miette_lines.proofs.Cases.{by_cases}
 use Rattle.ucd_table.specs.Rows.{Range, in_ranges}
 use Rattle.ucd_table.proofs.Stepped.{Stepped, of_ranges}
 use Rattle.ucd_emoji.specs.Binary.{is_emoji_variation_base}

@@ -18,7 +18,7 @@ use Rattle.unicode_width.specs.declared.state.Change.TheVariants.{Same}
 use Rattle.unicode_width.specs.Kind.{kind}
 use Rattle.unicode_width.specs.Width.{before, of_kind, alone, before_alef, is_emoji, joins, step}
 use Rattle.unicode_width.proofs.Computing.{unicode_width}
-use Rattle.miette_columns.specs.steps.Parting.{is_keeping}
+use Rattle.miette_columns.specs.steps.SplitPoints.{is_keeping}
 use Rattle.miette_columns.proofs.Excluding.{as_stepped, excluded, no_one, no_range, joins_few}
 use Rattle.miette_columns.proofs.Ordinary.{IsOrdinary, ordinary, no_kind}
 use Rattle.miette_columns.proofs.KindTests.{kind_test_stepped}

@@ -1,3 +1,6 @@
+pub mod Plaining
+pub mod Prefixes
+pub mod Stepping
 pub mod Columning
 pub mod KindTests
 pub mod Excluding

@@ -6,7 +6,7 @@ use Rattle.std.specs.Int.{is_in_range}
 use Rattle.std.specs.List.{list_all}
 use Rattle.std.proofs.lemmas.Bool.{true≢false, and_right, cases_lt, cond-true, cond-false, le-leb}
 use Rattle.std.proofs.lemmas.Bool.{lt-leb}
-use Rattle.miette_basics.proofs.Cases.{by_cases}
+use Rattle.miette_lines.proofs.Cases.{by_cases}
 use Rattle.ucd_table.specs.Rows.{Range, in_ranges}
 use Rattle.ucd_table.proofs.Stepped.{Stepped, of_ranges}
 use Rattle.ucd_emoji.specs.Binary.{is_emoji_variation_base}
@@ -21,7 +21,7 @@ use Rattle.unicode_width.specs.Width.{joins, Reading, added, if_kept, skips_mark
 use Rattle.unicode_width.specs.Width.{past_emoji, step, read_before, str_width}
 use Rattle.unicode_width.proofs.Computing.{unicode_width}
 use Rattle.unicode_width.proofs.Rules.{is_simple, str_width-append_simple}
-use Rattle.miette_columns.specs.steps.Parting.{is_lone}
+use Rattle.miette_columns.specs.steps.SplitPoints.{joins_nothing_after}
 use Rattle.miette_columns.proofs.Excluding.{as_stepped, no_one, no_range, joins_few}
 use Rattle.miette_columns.proofs.Ordinary.{IsOrdinary, ordinary, past_context, no_kind}
 use Rattle.miette_columns.proofs.KindTests.{kind_test_stepped}
@@ -42,9 +42,10 @@ pub or_turn : (a b d : Bool) → ((a || b) || d) ≡ (a || (b || d))
 or_turn true b d = refl
 or_turn false b d = refl
 
-abbrev lone_stepped : Stepped is_lone
+abbrev lone_stepped : Stepped joins_nothing_after
 unfolding in_ranges unicode_width
-lone_stepped = as_stepped is_lone (in_ranges lone_ranges) (λ c. or_false (is_lone c) ∙ simp or_turn)
+lone_stepped = as_stepped joins_nothing_after (in_ranges lone_ranges) (λ c. or_false (joins_nothing_after c)
+    ∙ simp or_turn)
     (of_ranges lone_ranges refl)
 
 abbrev is_other_kind : Kind → Bool
@@ -55,27 +56,32 @@ is_other_kind kinds.Alef = false
 is_other_kind kinds.KhmerLetter = false
 is_other_kind _ = true
 
-no_other : (c : ℕ) → is_lone c ≡ true → is_other_kind (kind c) ≡ false
+no_other : (c : ℕ) → joins_nothing_after c ≡ true → is_other_kind (kind c) ≡ false
 unfolding unicode_width kind_test_stepped
-no_other = no_kind is_lone lone_stepped is_other_kind refl refl refl
+no_other = no_kind joins_nothing_after lone_stepped is_other_kind refl refl refl
 
-no_indicator : (c : ℕ) → is_lone c ≡ true → is_in_range 0x1F1E6 0x1F1FF c ≡ false
+no_indicator : (c : ℕ) → joins_nothing_after c ≡ true → is_in_range 0x1F1E6 0x1F1FF c ≡ false
 unfolding unicode_width
-no_indicator = no_range is_lone 0x1F1E6 0x1F1FF lone_stepped (of_ranges ((0x1F1E6, 0x1F1FF) ∷ []) refl) refl
+no_indicator = no_range joins_nothing_after 0x1F1E6 0x1F1FF lone_stepped (of_ranges ((0x1F1E6, 0x1F1FF) ∷ []) refl) refl
 
-no_modifier : (c : ℕ) → is_lone c ≡ true → is_in_range 0x1F3FB 0x1F3FF c ≡ false
+no_modifier : (c : ℕ) → joins_nothing_after c ≡ true → is_in_range 0x1F3FB 0x1F3FF c ≡ false
 unfolding unicode_width
-no_modifier = no_range is_lone 0x1F3FB 0x1F3FF lone_stepped (of_ranges ((0x1F3FB, 0x1F3FF) ∷ []) refl) refl
+no_modifier = no_range joins_nothing_after 0x1F3FB 0x1F3FF lone_stepped (of_ranges ((0x1F3FB, 0x1F3FF) ∷ []) refl) refl
 
-lone_ordinary : (c : ℕ) → is_lone c ≡ true → IsOrdinary c
+lone_ordinary : (c : ℕ) → joins_nothing_after c ≡ true → IsOrdinary c
 unfolding unicode_width
-lone_ordinary = ordinary is_lone lone_stepped refl
+lone_ordinary = ordinary joins_nothing_after lone_stepped refl
 
 -- ---- its step is the same before any text
 
-past_low : (c t : ℕ) (s : State) → is_lone c ≡ true → c ≤ 0xA0 → past_emoji false c t s ≡ (t + 1, plain)
+past_low : (c t : ℕ) (s : State) → joins_nothing_after c ≡ true → c ≤ 0xA0 → past_emoji false c t s ≡ (t + 1, plain)
 unfolding past_emoji
-past_low c t s h low = rw (no_one is_lone c 0x0A refl h, no_one is_lone c 0x0D refl h, le-leb c 0xA0 low) refl
+past_low c t s h low = rw (
+  no_one joins_nothing_after c 0x0A refl h,
+  no_one joins_nothing_after c 0x0D refl h,
+  le-leb c
+      0xA0 low,
+) refl
 
 no_emoji_kind : (k : Kind) → is_other_kind k ≡ false → is_emoji k ≡ false
 no_emoji_kind kinds.Narrow e = refl
@@ -85,7 +91,7 @@ no_emoji_kind kinds.Alef e = refl
 no_emoji_kind kinds.KhmerLetter e = refl
 no_emoji_kind k e = absurd (true≢false e)
 
-no_emoji : (c : ℕ) → is_lone c ≡ true → is_emoji (kind c) ≡ false
+no_emoji : (c : ℕ) → joins_nothing_after c ≡ true → is_emoji (kind c) ≡ false
 no_emoji c h = no_emoji_kind (kind c) (no_other c h)
 
 -- it has some width of its own
@@ -97,59 +103,63 @@ own_kind c kinds.Alef e = refl
 own_kind c kinds.KhmerLetter e = refl
 own_kind c k e = absurd (true≢false e)
 
-own : (c : ℕ) → is_lone c ≡ true → ((alone false c).0 == 0) ≡ false
+own : (c : ℕ) → joins_nothing_after c ≡ true → ((alone false c).0 == 0) ≡ false
 unfolding alone
 own c h = own_kind c (kind c) (no_other c h)
 
-joins_none : (after : After) (c : ℕ) → is_lone c ≡ true → ((alone false c).0 == 0) ≡ false → joins false after c ≡ None
+joins_none : (after : After) (c : ℕ) → joins_nothing_after c ≡ true → ((alone false c).0 == 0) ≡ false
+    → joins false after c ≡ None
 unfolding joins before_alef
 joins_none after c h some = joins_few (λ _ j. j ≡ None) c (lone_ordinary c h).few (record {
   none = λ _. refl;
-  modifier = rw ((lone_ordinary c h).modified, no_one is_lone c 0x200D refl h) refl;
+  modifier = rw ((lone_ordinary c h).modified, no_one joins_nothing_after c 0x200D refl h) refl;
   indicator = rw (no_indicator c h) refl;
-  indicators = rw (no_indicator c h, no_one is_lone c 0x200D refl h) refl;
+  indicators = rw (no_indicator c h, no_one joins_nothing_after c 0x200D refl h) refl;
   emoji = rw (
-    no_one is_lone c 0x20E3 refl h,
+    no_one joins_nothing_after c 0x20E3 refl h,
     no_indicator c h,
     no_modifier c h,
-    no_one is_lone c 0xE007F refl h,
+    no_one joins_nothing_after c 0xE007F refl h,
     no_emoji c h,
   ) refl;
   joined = rw (no_indicator c h) refl;
-  even = rw (no_indicator c h, no_one is_lone c 0x200D refl h) refl;
-  odd = rw (no_indicator c h, no_one is_lone c 0x200D refl h) refl;
+  even = rw (no_indicator c h, no_one joins_nothing_after c 0x200D refl h) refl;
+  odd = rw (no_indicator c h, no_one joins_nothing_after c 0x200D refl h) refl;
   alef = rw ((lone_ordinary c h).lam, some) refl;
 }) after
 
-past_quotes : (c t : ℕ) (after : After) → is_lone c ≡ true → past_selectors false c t after ≡ added t (alone false c)
+past_quotes : (c t : ℕ) (after : After) → joins_nothing_after c ≡ true → past_selectors false c t after
+    ≡ added t (alone false c)
 unfolding past_selectors
 past_quotes c t after h =
     rw (
-      no_one is_lone c 0x200D refl h,
+      no_one joins_nothing_after c 0x200D refl h,
       (lone_ordinary c h).transparent,
       and_right (skips_marks after) false refl,
       joins_none after c h (own c h),
     ) refl
 
-in_any_context : (c t : ℕ) (s : State) → is_lone c ≡ true → in_context false c t s ≡ added t (alone false c)
+in_any_context : (c t : ℕ) (s : State) → joins_nothing_after c ≡ true → in_context false c t s ≡ added t (alone false c)
 in_any_context c t s h =
-    past_context c t s (no_one is_lone c 0xFE0F refl h) (no_one is_lone c 0xFE01 refl h)
-    (no_one is_lone c 0xFE0E refl h) (lone_ordinary c h).selected
+    past_context c t s (no_one joins_nothing_after c 0xFE0F refl h) (no_one joins_nothing_after c 0xFE01 refl h)
+    (no_one joins_nothing_after c 0xFE0E refl h) (lone_ordinary c h).selected
     ∙ past_quotes c t s.after h
 
-past_high : (c t : ℕ) (s : State) → is_lone c ≡ true → 0xA0 < c → past_emoji false c t s ≡ added t (alone false c)
+past_high : (c t : ℕ) (s : State) → joins_nothing_after c ≡ true → 0xA0 < c → past_emoji false c t s
+    ≡ added t (alone false c)
 unfolding past_emoji
 past_high c t s h high =
     by_cases {C = past_emoji false c t s ≡ added t (alone false c)} (is_plain s)
-    (λ y. rw (no_one is_lone c 0x0A refl h, no_one is_lone c 0x0D refl h, lt-leb c 0xA0 high, y) refl)
-    (λ n. rw (no_one is_lone c 0x0A refl h, no_one is_lone c 0x0D refl h, lt-leb c 0xA0 high, n)
+    (λ y. rw (no_one joins_nothing_after c 0x0A refl h, no_one joins_nothing_after c 0x0D refl h, lt-leb c 0xA0 high, y)
+    refl)
+    (λ n. rw (no_one joins_nothing_after c 0x0A refl h, no_one joins_nothing_after c 0x0D refl h, lt-leb c 0xA0 high, n)
     (in_any_context c t s h))
 
 -- its width, and what it is for the character before it
 abbrev lone_own : ℕ → ℕ × State
 lone_own c = if nat_le c 0xA0 then (1, plain) else alone false c
 
-past_all : (c t : ℕ) (s : State) → is_lone c ≡ true → past_emoji false c t s ≡ added t (lone_own c)
+past_all : (c t : ℕ) (s : State) → joins_nothing_after c ≡ true → past_emoji false c t s ≡ added t (lone_own c)
 past_all c t s h =
     elim (cases_lt 0xA0 c) [
       | inl high ↦ past_high c t s h high ∙ ap (added t) (sym (cond-false _ _ _ (lt-leb c 0xA0 high)))
@@ -161,7 +171,7 @@ chosen false v a b d r n p q = p
 chosen true false a b d r n p q = q
 chosen true true a b d r n p q = absurd (true≢false n)
 
-step_lone : (c t : ℕ) (s : State) → is_lone c ≡ true → step false c (t, s) ≡ added t (lone_own c)
+step_lone : (c t : ℕ) (s : State) → joins_nothing_after c ≡ true → step false c (t, s) ≡ added t (lone_own c)
 unfolding step
 step_lone c t s h =
     chosen s.emoji (is_emoji_variation_base c) (past_emoji false c t s)
@@ -199,7 +209,7 @@ shifted xs n =
     ∙ ap (λ r. r.0) (sym (read_append xs (spaces n) (0, plain)))
     ∙ str_width-append_simple false xs (spaces n) (simple_spaces n) ∙ ap (λ r. str_width false xs + r.0) (read_spaces n)
 
-pub adds_up : (xs ys : List ℕ) (c : ℕ) → is_lone c ≡ true → str_width false (xs ++ c ∷ ys)
+pub adds_up : (xs ys : List ℕ) (c : ℕ) → joins_nothing_after c ≡ true → str_width false (xs ++ c ∷ ys)
     ≡ str_width false (xs ++ c ∷ []) + str_width false ys
 unfolding str_width
 adds_up xs ys c h =

@@ -24,7 +24,7 @@ use Rattle.unicode_width.specs.Width.{is_tag_letter, is_tag_digit, is_tifinagh, 
 use Rattle.unicode_width.specs.Width.{before_alef, joins, first_of, joined_or, Reading, added, if_kept, skips_marks}
 use Rattle.unicode_width.specs.Width.{with_joiner, is_plain, past_selectors, in_context, past_emoji, step}
 use Rattle.unicode_width.proofs.Computing.{unicode_width}
-use Rattle.miette_columns.specs.steps.Parting.{opens}
+use Rattle.miette_columns.specs.steps.SplitPoints.{opens}
 use Rattle.miette_columns.proofs.KindTests.{kind_test_stepped}
 use Rattle.miette_columns.proofs.Lone.{or_false}
 

@@ -12,7 +12,7 @@ use Rattle.unicode_width.specs.Kind.{kind, is_ligature_transparent}
 use Rattle.unicode_width.specs.Width.{before, plain, is_line_feed, alone, joins}
 use Rattle.unicode_width.specs.Width.{joined_or, Reading, added, skips_marks, is_plain, past_selectors}
 use Rattle.unicode_width.specs.Width.{in_context, past_emoji, step}
-use Rattle.miette_columns.specs.steps.Parting.{is_joining, is_closing}
+use Rattle.miette_columns.specs.steps.SplitPoints.{is_joining, joins_only_by_joiner}
 use Rattle.miette_columns.proofs.ClosingCharacters.{is_mild_kind, mild, unlisted, no_transparent, no_indicator}
 use Rattle.miette_columns.proofs.ClosingCharacters.{no_marks}
 use Rattle.miette_columns.proofs.ClosingCharacters.{no_selector, JoinsOwn, joins_own, low_parts}
@@ -80,7 +80,8 @@ closing_apart c n h = record {
   own = λ after u. joins_own after c u n h;
 }
 
-pub step_closing : (c t : ℕ) (s : State) → IsOpen s → is_closing c ≡ true → (step false c (t, s)).1 ≡ own_state c
+pub step_closing : (c t : ℕ) (s : State) → IsOpen s → joins_only_by_joiner c ≡ true → (step false c (t, s)).1
+    ≡ own_state c
 step_closing c t s is h =
     elim (cases_lt 0xA0 c) [
       | inl high ↦ step_apart c t s high is (closing_apart c (unlisted c high h) (mild c high h))
@@ -93,7 +94,7 @@ low_indicator : (c : ℕ) → c ≤ 0xA0 → is_in_range 0x1F1E6 0x1F1FF c ≡ f
 low_indicator c low = rw (lt-leb 0x1F1E6 c (omega arith)) refl
 
 -- no such character is half a flag
-pub held_no_indicator : (c : ℕ) → is_closing c ≡ true → is_in_range 0x1F1E6 0x1F1FF c ≡ false
+pub held_no_indicator : (c : ℕ) → joins_only_by_joiner c ≡ true → is_in_range 0x1F1E6 0x1F1FF c ≡ false
 held_no_indicator c h =
     elim (cases_lt 0xA0 c) [
       | inl high ↦ no_indicator c (mild c high h)

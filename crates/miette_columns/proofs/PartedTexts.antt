@@ -17,8 +17,8 @@ use Rattle.unicode_width.specs.Width.{is_emoji, joins, joined_or, Reading}
 use Rattle.unicode_width.specs.Width.{added, if_kept, skips_marks, is_plain, past_selectors, in_context, past_emoji}
 use Rattle.unicode_width.specs.Width.{step, read_before, str_width}
 use Rattle.unicode_width.proofs.Computing.{unicode_width}
-use Rattle.miette_basics.proofs.Cases.{by_cases}
-use Rattle.miette_columns.specs.steps.Parting.{is_lone, is_joining, is_closing, may_part}
+use Rattle.miette_lines.proofs.Cases.{by_cases}
+use Rattle.miette_columns.specs.steps.SplitPoints.{joins_nothing_after, is_joining, joins_only_by_joiner, may_split}
 use Rattle.miette_columns.proofs.ClosingCharacters.{is_mild_kind, unlisted, mild, no_marks, no_transparent}
 use Rattle.miette_columns.proofs.ClosingCharacters.{no_selector}
 use Rattle.miette_columns.proofs.ClosingCharacters.{plain_own, emoji_own, JoinsOwn, joins_own, low_parts}
@@ -134,14 +134,14 @@ unfolding past_emoji
 past_low c t s low n = rw (n, le-leb c 0xA0 low) (quiet_cond ((c == 0x0D) && is_line_feed s.after) (t, plain)
     (t + 1, plain) (inl refl) (inl refl))
 
-past_all : (c t : ℕ) (s : State) → is_closing c ≡ true → IsQuiet (past_emoji false c t s).1
+past_all : (c t : ℕ) (s : State) → joins_only_by_joiner c ≡ true → IsQuiet (past_emoji false c t s).1
 past_all c t s h =
     elim (cases_lt 0xA0 c) [
       | inl high ↦ past_high c t s high (unlisted c high h) (mild c high h)
       | inr low ↦ past_low c t s low (low_parts c low h)
     ]
 
-quiet_step : (c t : ℕ) (s : State) → is_closing c ≡ true → IsQuiet (step false c (t, s)).1
+quiet_step : (c t : ℕ) (s : State) → joins_only_by_joiner c ≡ true → IsQuiet (step false c (t, s)).1
 unfolding step
 quiet_step c t s h =
     quiet_cond (not s.emoji) (past_emoji false c t s) (cond (is_emoji_variation_base c)
@@ -158,7 +158,8 @@ read_quiet : (b t : ℕ) (s : State) → (b == 0x200D) ≡ false → IsQuiet s �
 read_quiet b t s n (inl e) = ap (λ x. step false b (t, x)) e
 read_quiet b t s n (inr e) = ap (λ x. step false b (t, x)) e ∙ read_the_same b t n
 
-closed : (xs ys : List ℕ) (b d : ℕ) → is_closing d ≡ true → (b == 0x200D) ≡ false → str_width false (xs ++ b ∷ d ∷ ys)
+closed : (xs ys : List ℕ) (b d : ℕ) → joins_only_by_joiner d ≡ true → (b == 0x200D) ≡ false
+    → str_width false (xs ++ b ∷ d ∷ ys)
     ≡ str_width false (xs ++ b ∷ []) + str_width false (d ∷ ys)
 unfolding str_width
 closed xs ys b d h n =
@@ -169,13 +170,13 @@ closed xs ys b d h n =
     ∙ ap (λ x. x.0) (sym (read_append xs (b ∷ []) (r.0, plain)))
     ∙ shifted (xs ++ b ∷ []) r.0
 
-pub parted : (xs ys : List ℕ) (b d : ℕ) → may_part b d ≡ true → str_width false (xs ++ b ∷ d ∷ ys)
+pub parted : (xs ys : List ℕ) (b d : ℕ) → may_split b d ≡ true → str_width false (xs ++ b ∷ d ∷ ys)
     ≡ str_width false (xs ++ b ∷ []) + str_width false (d ∷ ys)
 parted xs ys b d h =
-    elim (or_cases (is_lone b) (is_closing d && not (b == 0x200D)) h) [
+    elim (or_cases (joins_nothing_after b) (joins_only_by_joiner d && not (b == 0x200D)) h) [
       | inl lone ↦ adds_up xs (d ∷ ys) b lone
       | inr other ↦
-          let both = and_parts (is_closing d) (not (b == 0x200D)) other in
+          let both = and_parts (joins_only_by_joiner d) (not (b == 0x200D)) other in
           closed xs ys b d both.0 (not-true (b == 0x200D) both.1)
     ]
 

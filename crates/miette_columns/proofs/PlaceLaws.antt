@@ -9,16 +9,16 @@ use Rattle.std.proofs.lemmas.Option.{none-some, same_Some}
 use Rattle.std.proofs.lemmas.Str.{IsUtf8-string_bytes}
 use Rattle.ucd_emoji.specs.Binary.{is_emoji_variation_base}
 use Rattle.unicode_width.specs.Width.{str_width}
-use Rattle.miette_cells.specs.rules.Cells.{characters}
-use Rattle.miette_cells.specs.rules.Widths.{width_of}
-use Rattle.miette_cells.proofs.Stepping.{IsFirst, characters_step}
-use Rattle.miette_basics.proofs.Cases.{by_cases}
+use Rattle.miette_columns.specs.rules.Cells.{characters}
+use Rattle.miette_columns.specs.rules.Widths.{width_of}
+use Rattle.miette_columns.proofs.Stepping.{IsFirst, characters_step}
+use Rattle.miette_lines.proofs.Cases.{by_cases}
 use Rattle.miette_columns.specs.declared.overlap.Overlap.{Overlap}
 use Rattle.miette_columns.specs.declared.overlap.Overlap.TheVariants.{Nothing}
-use Rattle.miette_columns.specs.declared.places.PartingPlace.{PartingPlace}
-use Rattle.miette_columns.specs.rules.Columns.{begun_text, is_boundary, column}
-use Rattle.miette_columns.specs.steps.Parting.{may_part, may_part_flags, opens, end_overlap, overlap_between}
-use Rattle.miette_columns.specs.steps.Places.{overlap_text, IsHeld, twice, column_past, IsPlace}
+use Rattle.miette_columns.specs.declared.checkpoints.Checkpoint.{Checkpoint}
+use Rattle.miette_columns.specs.rules.Columns.{text_up_to, is_boundary, column}
+use Rattle.miette_columns.specs.steps.SplitPoints.{may_split, may_split_flags, opens, end_overlap, overlap_between}
+use Rattle.miette_columns.specs.steps.Checkpoints.{overlap_text, IsHeld, twice, column_past, IsCheckpoint}
 use Rattle.miette_columns.proofs.Columning.{IsNext, IsRead, is_next, IsOver, none_over, one_over, begun_more}
 use Rattle.miette_columns.proofs.Columning.{begun_zero, chars_pushed}
 use Rattle.miette_columns.proofs.Columning.{at_boundary, off_boundary, after_boundary, after_other, twice_boundary}
@@ -27,8 +27,8 @@ use Rattle.miette_columns.proofs.PartedTexts.{parted, no_width}
 use Rattle.miette_columns.proofs.SettledTexts.{Settles, settled, EndsIn, end_settles}
 use Rattle.miette_columns.proofs.Flags.{EndsInFlags, flags_part}
 
-pub first_place : (text : List ℕ) (place : PartingPlace) → place.bytes ≡ 0 → place.column ≡ 0 → place.widths ≡ 0
-    → place.overlap ≡ Nothing → place.twice ≡ 0 → IsPlace text place
+pub first_place : (text : List ℕ) (place : Checkpoint) → place.bytes ≡ 0 → place.column ≡ 0 → place.widths ≡ 0
+    → place.overlap ≡ Nothing → place.twice ≡ 0 → IsCheckpoint text place
 first_place text place b c w f d = (
   omega (arith, b),
   (
@@ -43,8 +43,8 @@ first_place text place b c w f d = (
         by_cases {C = column (place.bytes + more) (characters text) + twice place more cs ≡ column_past place more cs}
         (is_boundary more cs)
         (λ y.
-        let bare : str_width false (overlap_text place.overlap ++ begun_text more cs)
-        ≡ str_width false (begun_text more cs) = ap (λ h. str_width false (overlap_text h ++ begun_text more cs)) f in
+        let bare : str_width false (overlap_text place.overlap ++ text_up_to more cs)
+        ≡ str_width false (text_up_to more cs) = ap (λ h. str_width false (overlap_text h ++ text_up_to more cs)) f in
         let wide = at_boundary start more y in
         let is_past = after_boundary place start more y in
         let none = twice_boundary place start more y in
@@ -58,7 +58,8 @@ first_place text place b c w f d = (
 )
 
 -- the column of an offset that lies after a place
-pub column_from : (text : List ℕ) (place : PartingPlace) (bytes result : ℕ) → IsPlace text place → place.bytes ≤ bytes
+pub column_from : (text : List ℕ) (place : Checkpoint) (bytes result : ℕ) → IsCheckpoint text place
+    → place.bytes ≤ bytes
     → result ≡ told_column place (bytes - place.bytes) (characters (drop place.bytes text)) →
     result ≡ column bytes (characters text)
 column_from text place bytes result is le h =
@@ -70,13 +71,13 @@ column_from text place bytes result is le h =
 -- ---- from one place to the next
 
 -- the bytes of a text from a place up to `bytes` are over
-pub record IsSince (text : List ℕ) (from : PartingPlace) (over : List ℕ) (sum bytes : ℕ) : Type 0 where
+pub record IsSince (text : List ℕ) (from : Checkpoint) (over : List ℕ) (sum bytes : ℕ) : Type 0 where
   pub after : from.bytes ≤ bytes
   pub within : bytes ≤ length text
   pub each : (more : ℕ) → IsOver (overlap_text from.overlap) from.widths (drop from.bytes text)
       ((bytes - from.bytes) + more) over sum (drop bytes text) more
 
-pub none_since : (text : List ℕ) (from : PartingPlace) (over : List ℕ) → from.bytes ≤ length text → chars over
+pub none_since : (text : List ℕ) (from : Checkpoint) (over : List ℕ) → from.bytes ≤ length text → chars over
     ≡ overlap_text from.overlap → IsSince text from over from.widths from.bytes
 none_since text from over le e =
     record {
@@ -89,7 +90,7 @@ none_since text from over le e =
           more over e);
     }
 
-pub one_since : (text : List ℕ) (from : PartingPlace) (over new : List ℕ) (sum wider bytes code size : ℕ)
+pub one_since : (text : List ℕ) (from : Checkpoint) (over new : List ℕ) (sum wider bytes code size : ℕ)
     → IsSince text from over sum bytes → IsNext text bytes code size → IsUtf8 over → IsUtf8 new
     → new ≡ over ++ encode_utf8 code → wider ≡ sum + width_of code → IsSince text from new wider (bytes + size)
 one_since text from over new sum wider bytes code size h next u v e w =
@@ -113,7 +114,7 @@ one_since text from over new sum wider bytes code size h next u v e w =
     }
 
 -- the same of the texts that a walk had before and after a character that it read
-pub since_read : {Z : Type 0} (text : List ℕ) (from : PartingPlace) (over new : String Z)
+pub since_read : {Z : Type 0} (text : List ℕ) (from : Checkpoint) (over new : String Z)
     (sum wider bytes code size : ℕ)
     → IsSince text from (string_bytes over) sum bytes → bytes < length text → IsRead text bytes code size
     → string_bytes new ≡ string_bytes over ++ encode_utf8 code → wider ≡ sum + width_of code
@@ -151,7 +152,7 @@ none_held over code h later =
     let wide = h later in
     omega (arith, wide, no_width)
 
-ends_part : (over : List ℕ) (last code : ℕ) → EndsIn over (last ∷ []) → may_part last code ≡ true
+ends_part : (over : List ℕ) (last code : ℕ) → EndsIn over (last ∷ []) → may_split last code ≡ true
     → IsPart over code Nothing
 ends_part over last code ends h =
     none_held over code (λ later.
@@ -173,26 +174,26 @@ ends_held over code first ends settles h later =
 
 parted_begun : (over : List ℕ) (first : Overlap) (code size more : ℕ) (bytes after : List ℕ)
     → IsFirst bytes after code size → IsPart over code first →
-    str_width false (chars over ++ begun_text more (characters bytes)) + str_width false (overlap_text first)
-    ≡ str_width false (chars over) + str_width false (overlap_text first ++ begun_text more (characters bytes))
+    str_width false (chars over ++ text_up_to more (characters bytes)) + str_width false (overlap_text first)
+    ≡ str_width false (chars over) + str_width false (overlap_text first ++ text_up_to more (characters bytes))
 parted_begun over first code size zero bytes after is part =
     let none = begun_zero (characters bytes) in
-    let here : str_width false (chars over ++ begun_text 0 (characters bytes)) ≡ str_width false (chars over) =
+    let here : str_width false (chars over ++ text_up_to 0 (characters bytes)) ≡ str_width false (chars over) =
     ap (λ o. str_width false (chars over ++ o)) none ∙ ap (str_width false) (append-nil (chars over)) in
-    let bare : str_width false (overlap_text first ++ begun_text 0 (characters bytes))
+    let bare : str_width false (overlap_text first ++ text_up_to 0 (characters bytes))
     ≡ str_width false (overlap_text first) = ap (λ o. str_width false (overlap_text first ++ o)) none
     ∙ ap (str_width false) (append-nil (overlap_text first)) in
     omega (arith, here, bare)
 parted_begun over first code size (suc more) bytes after is part =
-    let later = begun_text (suc more - size) (characters after) in
-    let step : begun_text (suc more) (characters bytes) ≡ code ∷ later =
-    ap (begun_text (suc more)) (characters_step bytes after code size is)
+    let later = text_up_to (suc more - size) (characters after) in
+    let step : text_up_to (suc more) (characters bytes) ≡ code ∷ later =
+    ap (text_up_to (suc more)) (characters_step bytes after code size is)
     ∙ begun_more (suc more) code size (characters after) (omega arith) in
     ap (λ o. str_width false (chars over ++ o) + str_width false (overlap_text first)) step ∙ part later
     ∙ ap (λ o. str_width false (chars over) + str_width false (overlap_text first ++ o)) (sym step)
 
 -- what is counted twice at a place is counted in the columns after it
-counted : (text : List ℕ) (from : PartingPlace) (over : List ℕ) (sum bytes : ℕ) → IsPlace text from
+counted : (text : List ℕ) (from : Checkpoint) (over : List ℕ) (sum bytes : ℕ) → IsCheckpoint text from
     → IsSince text from over sum bytes → from.twice ≤ from.column + str_width false (chars over)
 counted text from over sum bytes is h =
     let start = drop from.bytes text in
@@ -207,12 +208,13 @@ counted text from over sum bytes is h =
     omega (arith, wide, told, is_past, more)
 
 -- between characters where columns are told is a place
-pub next_place : (text : List ℕ) (from place : PartingPlace) (over after : List ℕ) (code size : ℕ) → IsPlace text from
+pub next_checkpoint : (text : List ℕ) (from place : Checkpoint) (over after : List ℕ) (code size : ℕ)
+    → IsCheckpoint text from
     → IsSince text from over place.widths place.bytes →
     IsFirst (drop place.bytes text) after code size → IsPart over code place.overlap → IsHeld place.overlap
     → place.column ≡ (from.column + str_width false (chars over)) - from.twice →
-    place.twice ≡ str_width false (overlap_text place.overlap) → IsPlace text place
-next_place text from place over after code size is h first part free c d = (
+    place.twice ≡ str_width false (overlap_text place.overlap) → IsCheckpoint text place
+next_checkpoint text from place over after code size is h first part free c d = (
   h.within,
   (
     free,
@@ -253,13 +255,13 @@ pub holds : (over : List ℕ) (before last code : ℕ) (half : Bool) (first : Ov
     → EndsByEmoji over before last → EndsInFlags over last half →
     overlap_between before last half code ≡ Some first → IsPart over code first × IsHeld first
 holds over before last code half first one two flags some =
-    let parts = may_part last code || may_part_flags last half code in
+    let parts = may_split last code || may_split_flags last half code in
     let ends = end_overlap before last in
     let other : Option Overlap = if opens code then ends else None in
     by_cases {C = IsPart over code first × IsHeld first} parts
     (λ y.
     let e : Nothing ≡ first = same_Some Nothing first (sym (cond-true parts (Some Nothing) other y) ∙ some) in
-    let part : IsPart over code Nothing = elim (or_cases (may_part last code) (may_part_flags last half code) y) [
+    let part : IsPart over code Nothing = elim (or_cases (may_split last code) (may_split_flags last half code) y) [
       | inl h ↦ ends_part over last code one h
       | inr h ↦ none_held over code (flags_part over last code half flags h)
     ] in
@@ -273,18 +275,18 @@ holds over before last code half first one two flags some =
     (λ m. absurd (none-some first (sym (cond-false (opens code) ends None m) ∙ more))))
 
 -- so the next place is one
-pub is_next_place : (text : List ℕ) (from place : PartingPlace) (over after : List ℕ)
-    (code size sum bytes before last : ℕ) (half : Bool) (front : Overlap) → IsPlace text from
+pub is_next_place : (text : List ℕ) (from place : Checkpoint) (over after : List ℕ)
+    (code size sum bytes before last : ℕ) (half : Bool) (front : Overlap) → IsCheckpoint text from
     → IsSince text from over sum bytes →
     IsFirst (drop bytes text) after code size → EndsIn over (last ∷ []) → EndsByEmoji over before last
     → EndsInFlags over last half → overlap_between before last half code ≡ Some front →
     place.bytes ≡ bytes → place.widths ≡ sum → place.overlap ≡ front → place.column
     ≡ (from.column + str_width false (chars over)) - from.twice → place.twice ≡ str_width false (overlap_text front)
-    → IsPlace text place
+    → IsCheckpoint text place
 is_next_place text from place over after code size sum bytes before last half front is since first one two flags some b
     w f c d =
     let both = holds over before last code half front one two flags some in
-    next_place text from place over after code size is
+    next_checkpoint text from place over after code size is
     (subst (λ k. IsSince text from over k place.bytes) (sym w)
     (subst (λ k. IsSince text from over sum k) (sym b) since))
     (subst (λ k. IsFirst (drop k text) after code size) (sym b) first) (subst (IsPart over code) (sym f) both.0)

@@ -7,23 +7,23 @@ use Rattle.std.proofs.lemmas.Bool.{and_parts}
 use Rattle.std.proofs.lemmas.List.{length-take}
 use Rattle.unicode_width.specs.Width.{str_width}
 use Rattle.unicode_width.proofs.Rules.{str_width-printable}
-use Rattle.miette_cells.specs.rules.Cells.{characters}
-use Rattle.miette_cells.specs.rules.Widths.{width_of}
-use Rattle.miette_cells.specs.views.Printable.{is_printable}
-use Rattle.miette_cells.proofs.Plaining.{one_column, printable_character, printable_in_range, printable_taken}
-use Rattle.miette_cells.proofs.Stepping.{characters_end}
-use Rattle.miette_basics.proofs.Cases.{by_cases}
-use Rattle.miette_columns.specs.rules.Columns.{begun_text, is_boundary, widths, column}
+use Rattle.miette_columns.specs.rules.Cells.{characters}
+use Rattle.miette_columns.specs.rules.Widths.{width_of}
+use Rattle.miette_columns.specs.views.Printable.{is_printable}
+use Rattle.miette_columns.proofs.Plaining.{one_column, printable_character, printable_in_range, printable_taken}
+use Rattle.miette_columns.proofs.Stepping.{characters_end}
+use Rattle.miette_lines.proofs.Cases.{by_cases}
+use Rattle.miette_columns.specs.rules.Columns.{text_up_to, is_boundary, widths, column}
 use Rattle.miette_columns.proofs.Columning.{begun_more, begun_zero, at_boundary, off_boundary}
 
-plain_begun : (k : ℕ) (bs : List ℕ) → list_all is_printable bs ≡ true → begun_text k (characters bs) ≡ take k bs
+plain_begun : (k : ℕ) (bs : List ℕ) → list_all is_printable bs ≡ true → text_up_to k (characters bs) ≡ take k bs
 plain_begun zero bs h = begun_zero (characters bs)
-plain_begun (suc k) [] h = ap (begun_text (suc k)) (characters_end [] refl)
+plain_begun (suc k) [] h = ap (text_up_to (suc k)) (characters_end [] refl)
 plain_begun (suc k) (b ∷ bs) h =
     let parts = and_parts (is_printable b) (list_all is_printable bs) h in
     let less : suc k - 1 ≡ k = omega arith in
-    ap (begun_text (suc k)) (printable_character b bs parts.0) ∙ begun_more (suc k) b 1 (characters bs) (omega arith)
-    ∙ ap (λ j. b ∷ begun_text j (characters bs)) less ∙ ap (λ r. b ∷ r) (plain_begun k bs parts.1)
+    ap (text_up_to (suc k)) (printable_character b bs parts.0) ∙ begun_more (suc k) b 1 (characters bs) (omega arith)
+    ∙ ap (λ j. b ∷ text_up_to j (characters bs)) less ∙ ap (λ r. b ∷ r) (plain_begun k bs parts.1)
 
 plain_in_range : (bs : List ℕ) → list_all is_printable bs ≡ true → list_all (is_in_range 0x20 0x7E) bs ≡ true
 plain_in_range [] h = refl

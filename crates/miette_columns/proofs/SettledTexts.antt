@@ -5,7 +5,7 @@ use Rattle.std.proofs.Common.{None, refl, sym, ap, subst, add_comm, ◌∙◌, e
 use Rattle.std.specs.Prelude.{chars, if◌then◌else◌}
 use Rattle.std.proofs.lemmas.Bool.{and_parts, or_cases, cond-true, cond-false}
 use Rattle.std.proofs.lemmas.Option.{none-some, same_Some}
-use Rattle.miette_basics.proofs.Cases.{by_cases}
+use Rattle.miette_lines.proofs.Cases.{by_cases}
 use Rattle.ucd_emoji.specs.Binary.{is_emoji_variation_base}
 use Rattle.unicode_width.specs.declared.state.After.{After}
 use Rattle.unicode_width.specs.declared.state.After.TheVariants as afters
@@ -15,8 +15,8 @@ use Rattle.unicode_width.specs.Width.{read_before, str_width}
 use Rattle.unicode_width.proofs.Computing.{unicode_width}
 use Rattle.miette_columns.specs.declared.overlap.Overlap.{Overlap}
 use Rattle.miette_columns.specs.declared.overlap.Overlap.TheVariants.{One, Selected}
-use Rattle.miette_columns.specs.steps.Parting.{is_closing, is_keeping, opens, end_overlap}
-use Rattle.miette_columns.specs.steps.Places.{overlap_text, IsHeld}
+use Rattle.miette_columns.specs.steps.SplitPoints.{joins_only_by_joiner, is_keeping, opens, end_overlap}
+use Rattle.miette_columns.specs.steps.Checkpoints.{overlap_text, IsHeld}
 use Rattle.miette_columns.proofs.Lone.{shifted, read_append}
 use Rattle.miette_columns.proofs.Opening.{IsOpen, plain_open, step_opens}
 use Rattle.miette_columns.proofs.Overlaps.{own_state, step_closing, held_no_indicator}
@@ -88,16 +88,16 @@ settles_selected c h = (
 
 -- ---- what is overlap settles, and is no half flag
 
-settles_one : (c : ℕ) → (is_closing c || is_keeping c) ≡ true → Settles (c ∷ [])
+settles_one : (c : ℕ) → (joins_only_by_joiner c || is_keeping c) ≡ true → Settles (c ∷ [])
 settles_one c h =
-    elim (or_cases (is_closing c) (is_keeping c) h) [
+    elim (or_cases (joins_only_by_joiner c) (is_keeping c) h) [
       | inl e ↦ (own_state c, λ t s is. step_closing c t s is e)
       | inr e ↦ ((alone false c).1, λ t s is. step_keeping c t s is e)
     ]
 
-one_held : (c : ℕ) → (is_closing c || is_keeping c) ≡ true → IsHeld (One c)
+one_held : (c : ℕ) → (joins_only_by_joiner c || is_keeping c) ≡ true → IsHeld (One c)
 one_held c h =
-    elim (or_cases (is_closing c) (is_keeping c) h) [
+    elim (or_cases (joins_only_by_joiner c) (is_keeping c) h) [
       | inl e ↦ held_no_indicator c e
       | inr e ↦ no_indicator c e
     ]
@@ -117,13 +117,14 @@ pub end_settles : (text : List ℕ) (before last : ℕ) (first : Overlap) → En
 end_settles text before last first one two some =
     let other : Option Overlap = if (last == 0xFE0F) && is_emoji_variation_base before then Some (Selected before)
     else None in
-    by_cases {C = IsEnd text first} (is_closing last || is_keeping last)
+    by_cases {C = IsEnd text first} (joins_only_by_joiner last || is_keeping last)
     (λ y.
     let e : One last ≡ first = same_Some (One last) first
-    (sym (cond-true (is_closing last || is_keeping last) (Some (One last)) other y) ∙ some) in
+    (sym (cond-true (joins_only_by_joiner last || is_keeping last) (Some (One last)) other y) ∙ some) in
     subst (IsEnd text) e (one, (settles_one last y, one_held last y)))
     (λ n.
-    let more : other ≡ Some first = sym (cond-false (is_closing last || is_keeping last) (Some (One last)) other n)
+    let more : other ≡ Some first = sym (cond-false (joins_only_by_joiner last || is_keeping last) (Some (One last))
+    other n)
     ∙ some in
     by_cases {C = IsEnd text first} ((last == 0xFE0F) && is_emoji_variation_base before)
     (λ y.

@@ -1,4 +1,4 @@
--- The code's own steps, which no rule names.
-pub mod Parting
-pub mod Places
-pub mod Trails
+-- Definitions of the code's internal steps. No rule names them.
+pub mod SplitPoints
+pub mod Checkpoints
+pub mod ZeroWidthRuns

@@ -1,8 +1,10 @@
-//! The columns of a text: how wide it is up to any of its bytes.
+//! Widths: the bytes and columns of characters and texts, with tabs.
 #![tactic(auto)]
 
+pub mod cells;
+mod checkpoints;
 mod overlap;
-mod parting;
-mod places;
+pub mod plain;
+mod split_points;
 pub mod text_columns;
 mod trails;

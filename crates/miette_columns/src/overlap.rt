@@ -1,10 +1,10 @@
-//! What is read again at a place of a text.
+//! The characters before a checkpoint that are read again.
 
-/// What a walk from a place begins with, of the characters before it.
+/// The characters before a checkpoint that a walk from there begins with.
 #[derive(Clone, Copy)]
 pub(crate) enum Overlap {
     Nothing,
     One(char),
-    /// An emoji, and U+FE0F after it.
+    /// an emoji, and U+FE0F after it
     Selected(char),
 }

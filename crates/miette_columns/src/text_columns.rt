@@ -1,54 +1,53 @@
-//! The columns of a text's bytes, found quickly where many are asked for.
+//! Finds the columns of a text's bytes quickly, for many queries.
 
 ghost use Rattle.std.specs.Prelude.{◌≡◌, ◌≤◌, IfOk};
-ghost use Rattle.miette_cells.specs.rules.Cells.{characters};
+ghost use Rattle.miette_columns.specs.rules.Cells.{characters};
 ghost use Rattle.miette_columns.specs.rules.Columns.{column};
-ghost use Rattle.miette_columns.specs.steps.Places.{IsPlace};
+ghost use Rattle.miette_columns.specs.steps.Checkpoints.{IsCheckpoint};
 
-use crate::places::{PartingPlace, column_after, overlap_text, place_before, places};
-use crate::trails::{Trail, column_in, trail_at, trails};
-use miette_basics::sums::sum;
-use miette_cells::cells::{columns_of, first_character};
-use miette_cells::plain::all_printable;
+use crate::cells::{char_width, decode_first_char};
+use crate::checkpoints::{Checkpoint, checkpoint_before, checkpoints, column_after, overlap_text};
+use crate::plain::all_printable;
+use crate::trails::{ZeroWidthRun, column_in, trails, zero_width_run_at};
+use miette_lines::sums::sum;
 use std::alloc::{AllocError, Global};
 use std::marker::Model;
 
-/// A text whose columns are asked for: whether each byte is a printable ASCII character, places from which a walk over
-/// its characters may go on, and trails in which no walk is needed.
+/// A text with what is needed to find columns: whether it is printable ASCII, checkpoints from which a walk can begin,
+/// and runs of zero-width characters in which no walk is needed.
 #[derive(Drop)]
 pub struct TextColumns<'a> {
     text: &'a [u8],
     is_plain: bool,
-    places: Vec<PartingPlace>,
-    trails: Vec<Trail>,
+    checkpoints: Vec<Checkpoint>,
+    trails: Vec<ZeroWidthRun>,
 }
 
-/// It is seen as the text's bytes.
+/// In contracts it is the bytes of the text.
 impl<'a> Model for TextColumns<'a> {
     ghost use Rattle.std.specs.Prelude.{ℕ, ◌≡◌, List};
     ghost use Rattle.std.specs.List.{All, list_all};
-    ghost use Rattle.miette_cells.specs.views.Printable.{is_printable};
-    ghost use Rattle.miette_columns.specs.steps.Places.{IsPlace};
-    ghost use Rattle.miette_columns.specs.steps.Trails.{IsTrail};
+    ghost use Rattle.miette_columns.specs.views.Printable.{is_printable};
+    ghost use Rattle.miette_columns.specs.steps.Checkpoints.{IsCheckpoint};
+    ghost use Rattle.miette_columns.specs.steps.ZeroWidthRuns.{IsZeroWidthRun};
 
     ghost Value = { List ℕ };
 
     ghost view = { λ it. it.text.now };
 
     ghost invariant = { λ it. (it.is_plain ≡ list_all is_printable it.text.now)
-        × (All (IsPlace it.text.now) it.places.items × All (IsTrail it.text.now) it.trails.items) };
+        × (All (IsCheckpoint it.text.now) it.checkpoints.items × All (IsZeroWidthRun it.text.now) it.trails.items) };
 }
 
-// For this number of columns, or fewer, a pass over the text to find places would take longer than the walks.
+// Up to this number of queries, finding checkpoints takes longer than the walks.
 const FEW: usize = 2;
 
 impl<'a> TextColumns<'a> {
-    /// The columns of a text, of which about `asked` are asked for. The number changes only how fast they are found:
-    /// for more than two a pass over the text keeps places, so that each walk is short.
+    /// Prepares a text for about `asked` queries. The number only affects speed: for more than two, checkpoints are
+    /// found in one pass, so that each walk is short.
     ///
     /// # Errors
-    /// `AllocError` where memory is refused, and where the widths of the text's characters sum to more than a `usize`
-    /// holds.
+    /// `AllocError` if allocation fails, or if the widths of the characters sum to more than `usize::MAX`.
     pub fn new(alloc: Global, text: &'a [u8], asked: usize) -> Result<Self, AllocError>
         ensures { IfOk result (λ it. it ≡ text.now) }
     {
@@ -57,50 +56,50 @@ impl<'a> TextColumns<'a> {
             return Ok(TextColumns {
                 text,
                 is_plain,
-                places: Vec::new(alloc),
+                checkpoints: Vec::new(alloc),
                 trails: Vec::new(alloc),
             });
         }
-        let places = places(alloc, text)?;
-        let trails = trails(alloc, text, &places)?;
+        let checkpoints = checkpoints(alloc, text)?;
+        let trails = trails(alloc, text, &checkpoints)?;
         Ok(TextColumns {
             text,
             is_plain,
-            places,
+            checkpoints,
             trails,
         })
     }
 
-    /// The column after the first `bytes` bytes of the text, counted from 0: the width of the text before it. Inside a
-    /// character and past the text it is the sum of the widths of the characters that begin before it.
+    /// Returns the zero-based column after the first `bytes` bytes: the width of the text before it. Inside a character
+    /// and after the end of the text, it is the sum of the widths of the characters that begin before it.
     ///
-    /// In a text of printable ASCII characters each byte is a column, and no walk is made; nor is one back from a
-    /// trail. Else the walk begins at the last place before.
+    /// In printable ASCII each byte is a column. Otherwise it walks from the last checkpoint before, except in a run of
+    /// zero-width characters.
     ///
     /// # Errors
-    /// `AllocError` where memory is refused, and where a sum of widths is more than a `usize` holds.
+    /// `AllocError` if allocation fails, or if a sum of widths exceeds `usize::MAX`.
     pub fn column(&self, alloc: Global, bytes: usize) -> Result<usize, AllocError>
         ensures { IfOk result (λ c. c ≡ column bytes (characters self.now)) }
     {
         if self.is_plain {
             return Ok(bytes.min(self.text.len()));
         }
-        if let Some(trail) = trail_at(self.text, &self.trails, bytes) {
+        if let Some(trail) = zero_width_run_at(self.text, &self.trails, bytes) {
             return Ok(column_in(self.text, trail, bytes));
         }
-        let from = place_before(self.text, &self.places, bytes);
+        let from = checkpoint_before(self.text, &self.checkpoints, bytes);
         walked_column(alloc, self.text, from, bytes)
     }
 }
 
-// The same by a walk over the characters from a place on.
+// Does the same by a walk over the characters from a checkpoint on.
 fn walked_column(
     alloc: Global,
     text: &[u8],
-    from: PartingPlace,
+    from: Checkpoint,
     bytes: usize,
 ) -> Result<usize, AllocError>
-    requires place { IsPlace text.now from }
+    requires place { IsCheckpoint text.now from }
     requires before { from.bytes ≤ bytes }
     ensures { IfOk result (λ c. c ≡ column bytes (characters text.now)) }
 {
@@ -112,9 +111,9 @@ fn walked_column(
         if rest.is_empty() {
             return Ok(widths);
         }
-        let (code, size) = first_character(rest);
+        let (code, size) = decode_first_char(rest);
         begun.push(code)?;
-        let wider = sum(widths, columns_of(code))?;
+        let wider = sum(widths, char_width(code))?;
         if left < size {
             return Ok(wider);
         }

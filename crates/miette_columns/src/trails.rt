@@ -1,50 +1,50 @@
-//! Trails of characters that take no columns, as marks and selectors, far from the next place of a text: a column in
-//! such a trail is that after its first character, so no walk goes back before it.
+//! Runs of characters without width, for example combining marks and selectors, far from the next checkpoint. All
+//! columns in such a run are equal, so no walk goes back before it.
 
 ghost use Rattle.std.specs.Prelude.{◌≡◌, ◌<◌, ◌≤◌, ◌+◌, IfOk, IfSome, length, drop};
 ghost use Rattle.std.specs.List.{All};
-ghost use Rattle.miette_cells.specs.rules.Cells.{characters};
+ghost use Rattle.miette_columns.specs.rules.Cells.{characters};
 ghost use Rattle.miette_columns.specs.rules.Columns.{column};
-ghost use Rattle.miette_columns.specs.steps.Places.{IsPlace};
-ghost use Rattle.miette_columns.specs.steps.Trails.{is_faint, first_size, AreFaint, IsTrail};
+ghost use Rattle.miette_columns.specs.steps.Checkpoints.{IsCheckpoint};
+ghost use Rattle.miette_columns.specs.steps.ZeroWidthRuns.{is_zero_width, first_size, AreZeroWidth, IsZeroWidthRun};
 
-use crate::places::{APART, PartingPlace, column_after, overlap_text, start};
-use miette_basics::sums::sum;
-use miette_cells::cells::{columns_of, first_character};
+use crate::cells::{char_width, decode_first_char};
+use crate::checkpoints::{APART, Checkpoint, column_after, overlap_text, start};
+use miette_lines::sums::sum;
 use std::alloc::{AllocError, Global};
 
-/// Bytes of a text whose characters take no columns: the column after each of them, and what the characters before it
-/// have each by itself, which is the column within it.
+/// A range of bytes whose characters have no width: the column after each of them, and the sum of the widths of the
+/// characters before it, which is the column inside it.
 #[derive(Clone, Copy, Drop)]
-pub(crate) struct Trail {
+pub(crate) struct ZeroWidthRun {
     pub(crate) bytes: usize,
     pub(crate) until: usize,
     pub(crate) column: usize,
     pub(crate) widths: usize,
 }
 
-// From how many bytes without a place on trails are looked for.
+// Runs are searched after this many bytes without a checkpoint.
 const FAR: usize = 4 * APART;
 
-// A trail is kept where it is at least such a part of the bytes since the place before it.
+// A run is stored if it has at least this share of the bytes since the previous checkpoint.
 const PART: usize = 8;
 
-/// Whether a character takes no columns and is no control character.
-fn is_faint(character: char) -> bool
-    ensures { result ≡ is_faint character }
+/// Whether a character has no width and isn't a control character.
+fn is_zero_width(character: char) -> bool
+    ensures { result ≡ is_zero_width character }
 {
-    character as u32 > 0xa0 && columns_of(character) == 0
+    character as u32 > 0xa0 && char_width(character) == 0
 }
 
-// Where the characters end that take no columns and follow one another from an offset on.
-fn faint_end(text: &[u8], from: usize) -> usize
+// Returns the end of the characters without width that begin at an offset.
+fn zero_width_end(text: &[u8], from: usize) -> usize
     requires { from ≤ length text.now }
-    ensures { AreFaint text.now from result }
+    ensures { AreZeroWidth text.now from result }
 {
     let mut bytes = from;
     while bytes < text.len() {
-        let (code, size) = first_character(&text[bytes..]);
-        if !is_faint(code) {
+        let (code, size) = decode_first_char(&text[bytes..]);
+        if !is_zero_width(code) {
             return bytes;
         }
         bytes += size;
@@ -52,27 +52,31 @@ fn faint_end(text: &[u8], from: usize) -> usize
     bytes
 }
 
-// The trail without its first character.
-fn after_first(text: &[u8], trail: Trail) -> Trail
-    requires trail { IsTrail text.now trail }
+// Returns the run without its first character.
+fn after_first(text: &[u8], trail: ZeroWidthRun) -> ZeroWidthRun
+    requires trail { IsZeroWidthRun text.now trail }
     requires some { trail.bytes < trail.until }
-    ensures trail { IsTrail text.now result }
+    ensures trail { IsZeroWidthRun text.now result }
     ensures bytes { result.bytes ≡ trail.bytes + first_size (characters (drop trail.bytes text.now)) }
     ensures less { trail.bytes < result.bytes }
     ensures until { result.until ≡ trail.until }
 {
-    let (_, size) = first_character(&text[trail.bytes..]);
-    Trail {
+    let (_, size) = decode_first_char(&text[trail.bytes..]);
+    ZeroWidthRun {
         bytes: trail.bytes + size,
         ..trail
     }
 }
 
-// Appends a trail, in parts, so that each is short.
-fn push_parts(trails: &mut Vec<Trail>, text: &[u8], whole: Trail) -> Result<(), AllocError>
-    requires trail { IsTrail text.now whole }
-    requires trails { All (IsTrail text.now) trails.old.items }
-    ensures { All (IsTrail text.now) trails.new.items }
+// Appends a run, split into short parts.
+fn push_parts(
+    trails: &mut Vec<ZeroWidthRun>,
+    text: &[u8],
+    whole: ZeroWidthRun,
+) -> Result<(), AllocError>
+    requires trail { IsZeroWidthRun text.now whole }
+    requires trails { All (IsZeroWidthRun text.now) trails.old.items }
+    ensures { All (IsZeroWidthRun text.now) trails.new.items }
 {
     let mut trail = whole;
     let mut next = whole.bytes;
@@ -86,34 +90,34 @@ fn push_parts(trails: &mut Vec<Trail>, text: &[u8], whole: Trail) -> Result<(), 
     Ok(())
 }
 
-// Appends the trails after a place, up to `end` bytes, that are a good part of the bytes after it.
+// Appends the runs between a checkpoint and `end` that have a sufficient share of the bytes.
 fn push_trails(
-    trails: &mut Vec<Trail>,
+    trails: &mut Vec<ZeroWidthRun>,
     alloc: Global,
     text: &[u8],
-    from: PartingPlace,
+    from: Checkpoint,
     end: usize,
 ) -> Result<(), AllocError>
-    requires from { IsPlace text.now from }
-    requires trails { All (IsTrail text.now) trails.old.items }
-    ensures { All (IsTrail text.now) trails.new.items }
+    requires from { IsCheckpoint text.now from }
+    requires trails { All (IsZeroWidthRun text.now) trails.old.items }
+    ensures { All (IsZeroWidthRun text.now) trails.new.items }
 {
     let mut over = overlap_text(alloc, from.overlap)?;
     let mut widths = from.widths;
     let mut bytes = from.bytes;
     let mut looked = bytes;
     while bytes < text.len() && bytes < end {
-        let (code, size) = first_character(&text[bytes..]);
+        let (code, size) = decode_first_char(&text[bytes..]);
         over.push(code)?;
-        let wider = sum(widths, columns_of(code))?;
+        let wider = sum(widths, char_width(code))?;
         widths = wider;
         bytes += size;
-        if is_faint(code) && looked <= bytes {
-            let until = faint_end(text, bytes);
+        if is_zero_width(code) && looked <= bytes {
+            let until = zero_width_end(text, bytes);
             looked = until;
             if until - bytes >= APART && until - bytes >= (bytes - from.bytes) / PART {
                 let column = column_after(from, over.as_str())?;
-                let trail = Trail {
+                let trail = ZeroWidthRun {
                     bytes,
                     until,
                     column,
@@ -126,18 +130,18 @@ fn push_trails(
     Ok(())
 }
 
-/// Trails of a text in its stretches without a place.
+/// Returns the runs of a text that are far from checkpoints.
 pub(crate) fn trails(
     alloc: Global,
     text: &[u8],
-    places: &[PartingPlace],
-) -> Result<Vec<Trail>, AllocError>
-    requires { All (IsPlace text.now) places.now }
-    ensures { IfOk result (λ trails. All (IsTrail text.now) trails.items) }
+    checkpoints: &[Checkpoint],
+) -> Result<Vec<ZeroWidthRun>, AllocError>
+    requires { All (IsCheckpoint text.now) checkpoints.now }
+    ensures { IfOk result (λ trails. All (IsZeroWidthRun text.now) trails.items) }
 {
     let mut trails = Vec::new(alloc);
     let mut from = start(text);
-    for place in places {
+    for place in checkpoints {
         if place.bytes.saturating_sub(from.bytes) >= FAR {
             push_trails(&mut trails, alloc, text, from, place.bytes)?;
         }
@@ -149,10 +153,14 @@ pub(crate) fn trails(
     Ok(trails)
 }
 
-/// The trail in which the first `bytes` bytes end, if there is one, found by halving.
-pub(crate) fn trail_at(text: &[u8], trails: &[Trail], bytes: usize) -> Option<Trail>
-    requires { All (IsTrail text.now) trails.now }
-    ensures { IfSome result (λ trail. IsTrail text.now trail × ((trail.bytes ≤ bytes) × (bytes ≤ trail.until))) }
+/// Returns the run in which the first `bytes` bytes end, if there is one, by binary search.
+pub(crate) fn zero_width_run_at(
+    text: &[u8],
+    trails: &[ZeroWidthRun],
+    bytes: usize,
+) -> Option<ZeroWidthRun>
+    requires { All (IsZeroWidthRun text.now) trails.now }
+    ensures { IfSome result (λ trail. IsZeroWidthRun text.now trail × ((trail.bytes ≤ bytes) × (bytes ≤ trail.until))) }
 {
     let found = trails.partition_point(|trail| trail.bytes <= bytes);
     if found == 0 {
@@ -166,9 +174,9 @@ pub(crate) fn trail_at(text: &[u8], trails: &[Trail], bytes: usize) -> Option<Tr
     }
 }
 
-/// The column after `bytes` bytes that end in a trail.
-pub(crate) fn column_in(text: &[u8], whole: Trail, bytes: usize) -> usize
-    requires trail { IsTrail text.now whole }
+/// Returns the column after `bytes` bytes that end in a run.
+pub(crate) fn column_in(text: &[u8], whole: ZeroWidthRun, bytes: usize) -> usize
+    requires trail { IsZeroWidthRun text.now whole }
     requires before { whole.bytes ≤ bytes }
     requires within { bytes ≤ whole.until }
     ensures { result ≡ column bytes (characters text.now) }

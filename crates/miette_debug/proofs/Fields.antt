@@ -6,7 +6,7 @@ use Rattle.miette_protocol.specs.declared.protocol.Severity.{Severity}
 use Rattle.miette_tree.specs.rules.Tree.{Tree, head, cause_of, causes_of}
 use Rattle.miette_tree.specs.rules.DiagnosticParts.{given_labels}
 use Rattle.miette_tree.specs.views.Handler.{AppendsOne}
-use Rattle.miette_debug.specs.rules.DebugText.{IsDebugText, AreFields, IsField, IsLabelsField, IsQuoted, nearest}
+use Rattle.miette_debug.specs.rules.DebugText.{IsDebugText, AreFields, IsField, IsLabelsField, IsQuoted, nearest_cause}
 use Rattle.miette_debug.specs.rules.DebugText.{severity_variant}
 
 four : (old a b c new code severity url help : List ℕ) → a ≡ old ++ code → b ≡ a ++ severity → c ≡ b ++ url → new ≡ c
@@ -46,7 +46,8 @@ joined old a b c d e new begin message fields labels cause end p q r s t u =
 
 pub fields_put : (t : Tree) (message : List ℕ) (cause : Option (List ℕ)) (labels : List Label)
     (old a b c d e new : List ℕ)
-    → message ≡ (head t).message → labels ≡ given_labels (head t).labels → cause ≡ nearest (causes_of (cause_of t))
+    → message ≡ (head t).message → labels ≡ given_labels (head t).labels → cause
+    ≡ nearest_cause (causes_of (cause_of t))
     → a ≡ old ++ codes "Diagnostic { message: " → AppendsOne (IsQuoted message) a b
     → AppendsOne (AreFields (head t)) b c → AppendsOne (IsLabelsField labels) c d
     → AppendsOne (IsField (codes "caused by") cause) d e → new ≡ e ++ (codes " }" ++ 10 ∷ [])

@@ -1,4 +1,4 @@
-//! The text of a debug report: the fields that are there.
+//! The text of a debug report.
 
 ghost use Rattle.std.specs.Prelude.{◌≡◌, IfOk, OnOk, string_bytes};
 ghost use Rattle.std.specs.Option.{option_copied};
@@ -6,7 +6,7 @@ ghost use Rattle.miette_tree.specs.rules.Tree.{head, cause_of, causes_of};
 ghost use Rattle.miette_tree.specs.views.Handler.{AppendsOne};
 ghost use Rattle.miette_tree.specs.views.Report.{tree_of};
 ghost use Rattle.miette_debug.specs.rules.DebugText.{IsDebugText, AreFields, IsField, IsLabelsField, IsQuoted};
-ghost use Rattle.miette_debug.specs.rules.DebugText.{nearest, severity_variant};
+ghost use Rattle.miette_debug.specs.rules.DebugText.{nearest_cause, severity_variant};
 
 use miette_protocol::protocol::{Diagnostic, LabeledSpan, Severity};
 use miette_protocol::source::SourceCode;
@@ -15,7 +15,7 @@ use miette_tree::report::{Cause, Report};
 use std::alloc::{AllocError, Global};
 
 /// `Diagnostic { message: "m", code: "c", severity: "Warning", caused by: "b" }`
-pub(crate) fn fields_of<D: Diagnostic, S: SourceCode>(
+pub(crate) fn debug_fields<D: Diagnostic, S: SourceCode>(
     alloc: Global,
     report: &Report<D, S>,
 ) -> Result<String, AllocError>
@@ -43,7 +43,7 @@ fn push_fields<D: Diagnostic, S: SourceCode>(
     out.push_str(" }\n")
 }
 
-/// `, code: "c", severity: "Warning", url: "u", help: "h"`, with those that are there.
+/// `, code: "c", severity: "Warning", url: "u", help: "h"`, without the parts that are missing.
 fn push_members<D: Diagnostic, S: SourceCode>(
     out: &mut String,
     alloc: Global,
@@ -58,7 +58,7 @@ fn push_members<D: Diagnostic, S: SourceCode>(
     push_field(out, alloc, "help", report.help())
 }
 
-/// A text in quotes, with its escapes.
+/// Appends a text in quotes, with its escapes.
 fn push_quoted(out: &mut String, alloc: Global, text: &str) -> Result<(), AllocError>
     ensures { OnOk result (AppendsOne (IsQuoted text.now) (string_bytes out.old) (string_bytes out.new)) }
 {
@@ -66,7 +66,7 @@ fn push_quoted(out: &mut String, alloc: Global, text: &str) -> Result<(), AllocE
     out.push_str(quoted.as_str())
 }
 
-/// `, code: "c"`, where there is such a text.
+/// `, code: "c"`, or nothing without a text.
 fn push_field(
     out: &mut String,
     alloc: Global,
@@ -85,7 +85,7 @@ fn push_field(
     push_quoted(out, alloc, text)
 }
 
-/// `, labels: "[..]"`, where there are any.
+/// `, labels: "[..]"`, or nothing without labels.
 fn push_labels(out: &mut String, alloc: Global, labels: &[LabeledSpan]) -> Result<(), AllocError>
     ensures { OnOk result (AppendsOne (IsLabelsField labels.now) (string_bytes out.old) (string_bytes out.new)) }
 {
@@ -96,7 +96,7 @@ fn push_labels(out: &mut String, alloc: Global, labels: &[LabeledSpan]) -> Resul
     push_field(out, alloc, "labels", Some(shown.as_str()))
 }
 
-/// The name of a severity's variant, where one is set.
+/// The name of a severity's variant, if one is set.
 fn severity_variant(severity: Option<Severity>) -> Option<&'static str>
     ensures { option_copied result ≡ severity_variant severity }
 {
@@ -108,9 +108,9 @@ fn severity_variant(severity: Option<Severity>) -> Option<&'static str>
     }
 }
 
-/// The message of a report's cause, or its first text.
+/// The message of the nearest cause, or its first text.
 fn cause_name<D: Diagnostic, S: SourceCode>(report: &Report<D, S>) -> Option<&str>
-    ensures { option_copied result ≡ nearest (causes_of (cause_of (tree_of D.meaning S.source report.now))) }
+    ensures { option_copied result ≡ nearest_cause (causes_of (cause_of (tree_of D.meaning S.source report.now))) }
 {
     match report.cause() {
         Cause::Diagnostic(cause) => Some(cause.message()),

@@ -1,4 +1,4 @@
-//! The debug report: what a report holds, for people who debug their tool.
+//! The debug report: the fields of a report, for people who debug their tool.
 #![tactic(auto)]
 
 mod debug_text;

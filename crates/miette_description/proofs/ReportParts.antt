@@ -1,16 +1,16 @@
 -- The report of all parts, by the reports that are made on the way.
 use Rattle.std.proofs.Common.{◌≡◌, ℕ, List, [], Option, Some, None, option_map, unwrap_or, refl, sym, ap, ◌∙◌}
 use Rattle.miette_protocol.specs.rules.Reading.{Source}
-use Rattle.miette_fixes.specs.rules.Edits.{Proposal}
+use Rattle.miette_fixes.specs.rules.Edits.{FixModel}
 use Rattle.miette_protocol.specs.views.Meaning.{Meaning}
 use Rattle.miette_tree.specs.rules.Diagnosis.{Diagnosis, Section, plain_diagnosis}
-use Rattle.miette_tree.specs.rules.Tree.{Tree, tree, Cause, diagnostic, texts, Trees, no_trees, alone, cause_of}
+use Rattle.miette_tree.specs.rules.Tree.{Tree, tree, Cause, diagnostic, texts, Trees, no_trees, single_report, cause_of}
 use Rattle.miette_tree.specs.rules.Tree.{with_cause}
 use Rattle.miette_description.specs.rules.Description.{one_cause, wrapped_in, tree_of_parts}
 use Rattle.miette_description.specs.steps.OptionalParts.{maybe_sourced, maybe_related, maybe_snippets, maybe_fixes}
 use Rattle.miette_description.specs.rules.Members.{diagnosis_with}
 
-sourced_alone : (m : Diagnosis) (s : Option Source) → maybe_sourced s (alone m) ≡ tree m s (texts []) no_trees
+sourced_alone : (m : Diagnosis) (s : Option Source) → maybe_sourced s (single_report m) ≡ tree m s (texts []) no_trees
 sourced_alone m None = refl
 sourced_alone m (Some s) = refl
 
@@ -32,7 +32,7 @@ by_cause m s (Some c) r contexts t e =
 
 pub parts_made : (m : Diagnosis) (s : Option Source) (one : Option Tree) (several : Option (List (List ℕ)))
     (r : Option Trees) (contexts : Option (List (List ℕ)))
-    (built sourced caused related made : Tree) → built ≡ alone m → sourced ≡ maybe_sourced s built
+    (built sourced caused related made : Tree) → built ≡ single_report m → sourced ≡ maybe_sourced s built
     → option_map (λ c. with_cause c sourced) (one_cause one several) ≡ Some caused → related ≡ maybe_related r caused
     → made ≡ wrapped_in (unwrap_or contexts []) related
     → tree_of_parts m s one several r contexts ≡ Some made
@@ -77,9 +77,9 @@ report_cause (Some a) None b f g t made p q e =
     ap (λ x. Some (with_cause (diagnostic (f x)) t)) same ∙ ap Some (sym e)
 
 -- a report that says all of it
-pub said_alone : (m : Meaning) (sections : Option (List Section)) (fixes : Option (List Proposal))
-    → maybe_fixes fixes (maybe_snippets sections (alone (plain_diagnosis m)))
-    ≡ alone (diagnosis_with m (unwrap_or sections []) (unwrap_or fixes []))
+pub said_alone : (m : Meaning) (sections : Option (List Section)) (fixes : Option (List FixModel))
+    → maybe_fixes fixes (maybe_snippets sections (single_report (plain_diagnosis m)))
+    ≡ single_report (diagnosis_with m (unwrap_or sections []) (unwrap_or fixes []))
 said_alone m None None = refl
 said_alone m None (Some fixes) = refl
 said_alone m (Some sections) None = refl

@@ -11,8 +11,8 @@ use Rattle.serde_json.specs.Find.{get, get_member, as_null, as_array, as_str}
 use Rattle.miette_description.specs.steps.ParsedValues.{value_data, list_data}
 use Rattle.json.specs.declared.value.Value.{Value}
 use Rattle.miette_tree.specs.rules.Tree.{Tree, Trees, trees}
-use Rattle.miette_description.specs.rules.Members.{and_then, present, at_key, optional_value, all_of, list_of}
-use Rattle.miette_description.specs.rules.Members.{source_of, diagnosis_in}
+use Rattle.miette_description.specs.rules.Members.{and_then, present, at_key, optional_value, all_items, list_of}
+use Rattle.miette_description.specs.rules.Members.{described_source, diagnosis_in}
 use Rattle.miette_description.specs.rules.Description.{nullable, report_from, report_in, cause_in, related_in}
 use Rattle.miette_description.specs.rules.Description.{reports_in, each_in}
 
@@ -59,9 +59,9 @@ trees_of_all None b c e = refl
 trees_of_all (Some t) b None e = simp e
 trees_of_all (Some t) b (Some ts) e = simp e
 
-pub each_is : (ds : Items) → each_in ds ≡ option_map trees (all_of report_in ds)
+pub each_is : (ds : Items) → each_in ds ≡ option_map trees (all_items report_in ds)
 each_is no_items = refl
-each_is (item d ds) = trees_of_all (report_in d) (each_in ds) (all_of report_in ds) (each_is ds)
+each_is (item d ds) = trees_of_all (report_in d) (each_in ds) (all_items report_in ds) (each_is ds)
 
 depth_at : (o : Ordering) (e d : Data) (rest : Option Data) (n m : ℕ) → match_ordering o rest (Some e) rest ≡ Some d
     → depth e ≤ m → n ≤ m → (rest ≡ Some d → depth d ≤ n) → depth d ≤ m
@@ -123,13 +123,13 @@ given_never (Some x) f never = never x
 pub without_cause : (c : Option (Option Tree)) (r : Option (Option Trees)) (d : Data) → c ≡ None → report_from c r d
     ≡ None
 without_cause c r d none =
-    given_never (diagnosis_in d) _ (λ m. given_never (optional_value source_of (at_key (codes "source") d)) _
+    given_never (diagnosis_in d) _ (λ m. given_never (optional_value described_source (at_key (codes "source") d)) _
     (λ s. given_none _ none))
 
 pub without_related : (c : Option (Option Tree)) (r : Option (Option Trees)) (d : Data) → r ≡ None → report_from c r d
     ≡ None
 without_related c r d none =
-    given_never (diagnosis_in d) _ (λ m. given_never (optional_value source_of (at_key (codes "source") d)) _
+    given_never (diagnosis_in d) _ (λ m. given_never (optional_value described_source (at_key (codes "source") d)) _
     (λ s. given_never c _ (λ one.
     given_never (optional_value (list_of as_str) (at_key (codes "causes") d)) _ (λ several. given_none _ none))))
 
@@ -141,7 +141,7 @@ with_nested d c r cause related =
     report_parts d ∙ ap (λ o. report_from o (optional_value reports_in (at_key (codes "related") d)) d) cause
     ∙ ap (λ o. report_from (Some c) o d) related
 
-list_read : (d : Data) (ds : Items) → as_array d ≡ Some ds → reports_in d ≡ option_map trees (all_of report_in ds)
+list_read : (d : Data) (ds : Items) → as_array d ≡ Some ds → reports_in d ≡ option_map trees (all_items report_in ds)
 list_read null ds is = cc
 list_read (boolean b) ds is = cc
 list_read (number n) ds is = cc
@@ -151,5 +151,5 @@ list_read (object ms) ds is = cc
 
 -- what a list of descriptions at a key is
 pub related_read : (o : Option Data) (d : Data) (ds : Items) → Some d ≡ o → Some ds ≡ as_array d
-    → optional_value reports_in o ≡ option_map Some (option_map trees (all_of report_in ds))
+    → optional_value reports_in o ≡ option_map Some (option_map trees (all_items report_in ds))
 related_read o d ds is list = ap (optional_value reports_in) (sym is) ∙ ap (option_map Some) (list_read d ds (sym list))

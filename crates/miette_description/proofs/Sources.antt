@@ -14,8 +14,9 @@ use Rattle.miette_protocol.specs.rules.Reading.{Source}
 use Rattle.miette_tree.specs.rules.Diagnosis.{Diagnosis, Section}
 use Rattle.miette_tree.specs.rules.Tree.{Tree, tree, Trees, no_trees, wrapped_tree}
 use Rattle.miette_tree.specs.rules.Reads.{AlwaysReads, CauseAlwaysReads, AllAlwaysRead}
-use Rattle.miette_description.specs.rules.Members.{and_then, at_key, optional_value, list_of, source_named, source_of}
-use Rattle.miette_description.specs.rules.Members.{all_of, diagnosis_in, fix_of, label_of, meaning_in, snippets_of}
+use Rattle.miette_description.specs.rules.Members.{and_then, at_key, optional_value, list_of, source_named}
+use Rattle.miette_description.specs.rules.Members.{described_source}
+use Rattle.miette_description.specs.rules.Members.{all_items, diagnosis_in, fix_of, label_of, meaning_in, snippets_of}
 use Rattle.miette_description.specs.rules.Description.{one_cause, wrapped_in, tree_of_parts, report_from, nullable}
 use Rattle.miette_description.specs.rules.Description.{report_in, cause_in, related_in, reports_in, each_in}
 use Rattle.miette_description.specs.rules.Description.{described_tree}
@@ -66,7 +67,7 @@ named_reads : (bytes : List ℕ) (name language : Option (List ℕ)) → Reads (
 named_reads bytes None language = refl
 named_reads bytes (Some name) language = refl
 
-source_reads : (d : Data) → IfSome (source_of d) Reads
+source_reads : (d : Data) → IfSome (described_source d) Reads
 source_reads d =
     any_given Reads (and_then (at_key (codes "text") d) as_str) _ (λ bytes.
     any_given Reads (optional_value as_str (at_key (codes "name") d)) _ (λ name.
@@ -96,15 +97,15 @@ Further section = section.source.always_reads ≡ true
 
 snippets_read : (d : Data) → IfSome (snippets_of d) Further
 snippets_read d =
-    given_with Reads Further (and_then (at_key (codes "source") d) source_of) _
-    (any_given Reads (at_key (codes "source") d) source_of source_reads)
+    given_with Reads Further (and_then (at_key (codes "source") d) described_source) _
+    (any_given Reads (at_key (codes "source") d) described_source source_reads)
     (λ source r. any_given Further (optional_value (list_of label_of) (at_key (codes "labels") d)) _ (λ labels. r))
 
-each_snippets_read : (ds : Items) → IfSome (all_of snippets_of ds) (All Further)
+each_snippets_read : (ds : Items) → IfSome (all_items snippets_of ds) (All Further)
 each_snippets_read no_items = All-nil Further
 each_snippets_read (item d ds) =
     given_with Further (All Further) (snippets_of d) _ (snippets_read d) (λ s r.
-    given_with (All Further) (All Further) (all_of snippets_of ds) _ (each_snippets_read ds)
+    given_with (All Further) (All Further) (all_items snippets_of ds) _ (each_snippets_read ds)
     (λ ss rs. All-cons Further s ss r rs))
 
 or_none : (o : Option (List Section)) → IfSome o (All Further) → All Further (unwrap_or o [])
@@ -117,7 +118,7 @@ diagnosis_reads d =
     any_given P (meaning_in d) _ (λ m.
     given_with (λ o. IfSome o (All Further)) P (optional_value (list_of snippets_of) (at_key (codes "snippets") d)) _
     (typed_with (All Further) (list_of snippets_of) (at_key (codes "snippets") d)
-    (λ e. any_given (All Further) (as_array e) (all_of snippets_of) each_snippets_read)) (λ snippets r.
+    (λ e. any_given (All Further) (as_array e) (all_items snippets_of) each_snippets_read)) (λ snippets r.
     any_given P (optional_value (list_of fix_of) (at_key (codes "fixes") d)) _ (λ fixes. or_none snippets r)))
 
 assembled_reads : (m : Diagnosis) (s : Option Source) (one : Option Tree) (several : Option (List (List ℕ)))
@@ -135,8 +136,8 @@ parts_read : (cause : Option (Option Tree)) (related : Option (Option Trees)) (d
     → Maybe AllAlwaysRead related → IfSome (report_from cause related d) AlwaysReads
 parts_read cause related d c r =
     given_with (λ m. All Further m.snippets) AlwaysReads (diagnosis_in d) _ (diagnosis_reads d) (λ m q.
-    given_with (λ s. IfSome s Reads) AlwaysReads (optional_value source_of (at_key (codes "source") d)) _
-    (typed_with Reads source_of (at_key (codes "source") d) source_reads) (λ s a.
+    given_with (λ s. IfSome s Reads) AlwaysReads (optional_value described_source (at_key (codes "source") d)) _
+    (typed_with Reads described_source (at_key (codes "source") d) source_reads) (λ s a.
     given_with (λ one. IfSome one AlwaysReads) AlwaysReads cause _ c (λ one b.
     any_given AlwaysReads (optional_value (list_of as_str) (at_key (codes "causes") d)) _ (λ several.
     given_with (λ list. IfSome list AllAlwaysRead) AlwaysReads related _ r (λ list e.

@@ -1,3 +1,3 @@
--- What users rely on, in the words of docs/RULES.md.
+-- Definitions that contracts use. docs/RULES.md says them in words.
 pub mod Members
 pub mod Description

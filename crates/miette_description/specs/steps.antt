@@ -1,4 +1,4 @@
--- The code's own steps, which no rule names.
+-- Definitions of the code's internal steps. No rule names them.
 pub mod OptionalParts
-pub mod OftenRead
+pub mod IndexNeeds
 pub mod ParsedValues

@@ -6,17 +6,17 @@ ghost use Rattle.miette_description.specs.declared.error.BuildError.TheVariants.
 use json::Invalid;
 use std::alloc::AllocError;
 
-/// Why no report was built.
+/// Why no report could be built.
 #[derive(Clone, Copy, Debug, PartialEq, Eq)]
 pub enum BuildError {
-    /// Memory was refused.
+    /// Allocation failed.
     Memory,
-    /// What was read describes no report.
+    /// The bytes don't describe a report.
     Description,
 }
 
-/// What is built, or why it isn't.
-pub(crate) type Built<T> = Result<T, BuildError>;
+/// The result of building a part.
+pub(crate) type BuildResult<T> = Result<T, BuildError>;
 
 impl From<AllocError> for BuildError {
     ghost from_gives = { λ _ e. e ≡ Memory };

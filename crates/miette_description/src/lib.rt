@@ -1,8 +1,8 @@
-//! Reports from their descriptions, which are JSON.
+//! Builds reports from JSON descriptions.
 #![tactic(auto)]
 
+mod diagnosis;
 pub mod error;
-mod further;
 mod json_values;
 pub mod laws;
 mod members;

@@ -1,4 +1,4 @@
-//! Numbers, and whether a text has any that is neither a `u64` nor an `i64`.
+//! Integers in JSON, and whether a text has numbers that fit neither `u64` nor `i64`.
 
 ghost use Rattle.std.specs.Prelude.{◌≡◌, ◌==◌, length, slice_index, IsTrue, ◌<◌};
 ghost use Rattle.json.specs.Value.{value_view, items_view, members_view};
@@ -10,7 +10,7 @@ ghost use Rattle.miette_description.specs.steps.ParsedValues.{number_data, is_in
 use fast_float::Numeral;
 use serde_json::Map;
 
-/// The `u64` that a number's text writes, without point and exponent.
+/// Parses a `u64` without point and exponent.
 pub(crate) fn natural_number(text: &str) -> Option<u64>
     ensures { result ≡ as_u64 (number_data text.now) }
 {
@@ -29,7 +29,7 @@ fn has_minus(bytes: &[u8]) -> bool
     !bytes.is_empty() && bytes[0] == b'-'
 }
 
-/// Whether each number in a parsed text is a `u64`.
+/// Whether all numbers in a parsed text are `u64`.
 #[cycle(integers)]
 pub(crate) fn is_whole(value: &json::Value<'_>) -> bool
     ensures { result ≡ is_integral (value_view value.now) }
@@ -68,7 +68,7 @@ fn have_whole(members: &Vec<(&str, json::Value<'_>)>) -> bool
     true
 }
 
-/// Whether a value has, anywhere in it, a number that is neither a `u64` nor an `i64`.
+/// Whether a value contains a number that is neither a `u64` nor an `i64`, at any depth.
 #[cycle(numbers)]
 pub(crate) fn value_has_float(value: &serde_json::Value) -> bool
     ensures { result ≡ has_float (view value.now) }

@@ -1,4 +1,4 @@
-//! The parts of a report, from the members of its description.
+//! Builds the parts of a report from the members of its description.
 
 ghost use Rattle.std.specs.Prelude.{◌≡◌, ◌++◌, Option, Some, None, IfOk, OnOk, option_map, map, string_bytes};
 ghost use Rattle.std.specs.Option.{option_copied};
@@ -9,7 +9,7 @@ ghost use Rattle.miette_description.specs.rules.Members.{at_key, optional_value,
 ghost use Rattle.miette_description.specs.rules.Members.{label_of};
 ghost use Rattle.miette_description.specs.rules.Members.{meaning_in};
 
-use crate::error::{BuildError, Built};
+use crate::error::{BuildError, BuildResult};
 use crate::json_values::{list_in, member_at, text_in};
 use crate::members::{lines_at, needed_text_at, text_at, truth_at, whole_at};
 use json::Value;
@@ -17,8 +17,8 @@ use miette_protocol::diagnostic::MietteDiagnostic;
 use miette_protocol::protocol::{LabeledSpan, Severity};
 use std::alloc::{AllocError, Global};
 
-// What is found, or that the description is bad.
-pub(crate) fn described<T>(found: Option<T>) -> Built<T>
+// Returns the value, or the error that the description is invalid.
+pub(crate) fn or_bad_description<T>(found: Option<T>) -> BuildResult<T>
     ensures ok { IfOk result (λ it. found ≡ Some it) }
     ensures description { (result ≡ Err BuildError.Description) → found ≡ None }
 {
@@ -34,16 +34,16 @@ fn copy_of(alloc: Global, text: Option<&str>) -> Result<Option<String>, AllocErr
     }
 }
 
-fn label_from(alloc: Global, value: &Value<'_>) -> Built<LabeledSpan>
+fn label_from(alloc: Global, value: &Value<'_>) -> BuildResult<LabeledSpan>
     ensures ok { IfOk result (λ l. label_of (value_data value.now) ≡ Some l) }
     ensures description { (result ≡ Err BuildError.Description) → label_of (value_data value.now) ≡ None }
 {
-    let offset = described(whole_at(value, "offset"))?;
-    let length = described(whole_at(value, "length"))?;
+    let offset = or_bad_description(whole_at(value, "offset"))?;
+    let length = or_bad_description(whole_at(value, "length"))?;
     let span = (offset as usize, length as usize);
-    let text = described(text_at(value, "label"))?;
-    let primary = described(truth_at(value, "primary"))?;
-    let lines = described(lines_at(value, "context"))?;
+    let text = or_bad_description(text_at(value, "label"))?;
+    let primary = or_bad_description(truth_at(value, "primary"))?;
+    let lines = or_bad_description(lines_at(value, "context"))?;
     let Ok(text) = copy_of(alloc, text) else {
         return Err(BuildError::Memory);
     };
@@ -58,11 +58,11 @@ fn label_from(alloc: Global, value: &Value<'_>) -> Built<LabeledSpan>
     }
 }
 
-fn labels_from(alloc: Global, value: &Value<'_>) -> Built<Vec<LabeledSpan>>
+fn labels_from(alloc: Global, value: &Value<'_>) -> BuildResult<Vec<LabeledSpan>>
     ensures ok { IfOk result (λ v. list_of label_of (value_data value.now) ≡ Some v.items) }
     ensures description { (result ≡ Err BuildError.Description) → list_of label_of (value_data value.now) ≡ None }
 {
-    let list = described(list_in(value))?;
+    let list = or_bad_description(list_in(value))?;
     let mut labels = Vec::new(alloc);
     for item in list {
         let label = label_from(alloc, item)?;
@@ -77,7 +77,7 @@ pub(crate) fn labels_at(
     alloc: Global,
     value: &Value<'_>,
     key: &str,
-) -> Built<Option<Vec<LabeledSpan>>>
+) -> BuildResult<Option<Vec<LabeledSpan>>>
     ensures ok { IfOk result (λ o. optional_value (list_of label_of) (at_key key.now (value_data value.now))
         ≡ Some (option_map (λ v. v.items) o)) }
     ensures description { (result ≡ Err BuildError.Description) →
@@ -89,14 +89,14 @@ pub(crate) fn labels_at(
     }
 }
 
-fn texts_from(alloc: Global, value: &Value<'_>) -> Built<Vec<String>>
+fn texts_from(alloc: Global, value: &Value<'_>) -> BuildResult<Vec<String>>
     ensures ok { IfOk result (λ v. list_of as_str (value_data value.now) ≡ Some (map string_bytes v.items)) }
     ensures description { (result ≡ Err BuildError.Description) → list_of as_str (value_data value.now) ≡ None }
 {
-    let list = described(list_in(value))?;
+    let list = or_bad_description(list_in(value))?;
     let mut texts = Vec::new(alloc);
     for item in list {
-        let text = described(text_in(item))?;
+        let text = or_bad_description(text_in(item))?;
         let Ok(copy) = String::from_str(alloc, text) else {
             return Err(BuildError::Memory);
         };
@@ -107,7 +107,11 @@ fn texts_from(alloc: Global, value: &Value<'_>) -> Built<Vec<String>>
     Ok(texts)
 }
 
-pub(crate) fn texts_at(alloc: Global, value: &Value<'_>, key: &str) -> Built<Option<Vec<String>>>
+pub(crate) fn texts_at(
+    alloc: Global,
+    value: &Value<'_>,
+    key: &str,
+) -> BuildResult<Option<Vec<String>>>
     ensures ok { IfOk result (λ o. optional_value (list_of as_str) (at_key key.now (value_data value.now))
         ≡ Some (option_map (λ v. map string_bytes v.items) o)) }
     ensures description { (result ≡ Err BuildError.Description) →
@@ -119,8 +123,8 @@ pub(crate) fn texts_at(alloc: Global, value: &Value<'_>, key: &str) -> Built<Opt
     }
 }
 
-/// Copies of these texts at the end of the list.
-pub(crate) fn push_texts(list: &mut Vec<String>, alloc: Global, texts: &[String]) -> Built<()>
+/// Appends copies of texts to a list.
+pub(crate) fn push_texts(list: &mut Vec<String>, alloc: Global, texts: &[String]) -> BuildResult<()>
     ensures ok { OnOk result (map string_bytes list.new.items
         ≡ map string_bytes list.old.items ++ map string_bytes texts.now) }
     ensures memory { (result ≡ Err BuildError.Description) → ⊥ }
@@ -160,15 +164,15 @@ fn severity_at(value: &Value<'_>, key: &str) -> Option<Option<Severity>>
     }
 }
 
-pub(crate) fn diagnostic_from(alloc: Global, value: &Value<'_>) -> Built<MietteDiagnostic>
+pub(crate) fn diagnostic_from(alloc: Global, value: &Value<'_>) -> BuildResult<MietteDiagnostic>
     ensures ok { IfOk result (λ d. meaning_in (value_data value.now) ≡ Some (meaning_of d)) }
     ensures description { (result ≡ Err BuildError.Description) → meaning_in (value_data value.now) ≡ None }
 {
-    let message = described(needed_text_at(value, "message"))?;
-    let code = described(text_at(value, "code"))?;
-    let severity = described(severity_at(value, "severity"))?;
-    let help = described(text_at(value, "help"))?;
-    let url = described(text_at(value, "url"))?;
+    let message = or_bad_description(needed_text_at(value, "message"))?;
+    let code = or_bad_description(text_at(value, "code"))?;
+    let severity = or_bad_description(severity_at(value, "severity"))?;
+    let help = or_bad_description(text_at(value, "help"))?;
+    let url = or_bad_description(text_at(value, "url"))?;
     let labels = labels_at(alloc, value, "labels")?;
     Ok(MietteDiagnostic {
         message: String::from_str(alloc, message)?,

@@ -1,14 +1,14 @@
-//! The parsed text. An object takes no more room than its members need.
+//! Parses JSON. Objects take no more memory than their members need.
 
 ghost use Rattle.std.specs.Prelude.{◌≡◌, ◌<◌, length, Some, None, IfOk, OnOk};
 ghost use Rattle.json.specs.Json.{value, items, members};
 ghost use Rattle.json.specs.Value.{value_view, items_view, members_view};
 
-use crate::error::{BuildError, Built};
+use crate::error::{BuildError, BuildResult};
 use json::{Reader, Token, Value};
 use std::alloc::{AllocError, Global};
 
-/// The list with no room for more.
+/// Shrinks a list to its length.
 fn exact_list<T: Drop>(alloc: Global, list: Vec<T>) -> Result<Vec<T>, AllocError>
     ensures { IfOk result (λ made. made.items ≡ list.items) }
 {
@@ -21,14 +21,14 @@ fn exact_list<T: Drop>(alloc: Global, list: Vec<T>) -> Result<Vec<T>, AllocError
     Ok(made)
 }
 
-/// The next value of the reader. Arrays and objects may nest `depth` deep.
+/// Parses the next value. Arrays and objects may be nested `depth` deep.
 #[cycle(read)]
 #[inline(always)]
 pub(crate) fn read_value<'a>(
     alloc: Global,
     reader: &mut Reader<'a>,
     depth: usize,
-) -> Built<Value<'a>>
+) -> BuildResult<Value<'a>>
     ensures ok { IfOk result (λ v. value depth reader.old ≡ Some (value_view v, reader.new)) }
     ensures shorter { OnOk result (length reader.new < length reader.old) }
     ensures description { (result ≡ Err BuildError.Description) → value depth reader.old ≡ None }
@@ -61,7 +61,11 @@ pub(crate) fn read_value<'a>(
 
 #[cycle(read)]
 #[inline(never)]
-fn read_items<'a>(alloc: Global, reader: &mut Reader<'a>, depth: usize) -> Built<Vec<Value<'a>>>
+fn read_items<'a>(
+    alloc: Global,
+    reader: &mut Reader<'a>,
+    depth: usize,
+) -> BuildResult<Vec<Value<'a>>>
     ensures ok { IfOk result
         (λ v. items (value depth) (length reader.old) reader.old ≡ Some (items_view v.items, reader.new)) }
     ensures shorter { OnOk result (length reader.new < length reader.old) }
@@ -84,7 +88,7 @@ fn read_members<'a>(
     alloc: Global,
     reader: &mut Reader<'a>,
     depth: usize,
-) -> Built<Vec<(&'a str, Value<'a>)>>
+) -> BuildResult<Vec<(&'a str, Value<'a>)>>
     ensures ok { IfOk result
         (λ v. members (value depth) (length reader.old) reader.old ≡ Some (members_view v.items, reader.new)) }
     ensures shorter { OnOk result (length reader.new < length reader.old) }

@@ -1,4 +1,4 @@
-//! The report that a description asks for.
+//! Builds the report of a description.
 
 ghost use Rattle.std.specs.Prelude.{◌≡◌, [], Option, Some, None, IfOk, OnOk, IfSome, IsSome, IsUtf8, false};
 ghost use Rattle.std.specs.Prelude.{option_and_then, option_map, unwrap_or, map, string_bytes, codes};
@@ -10,15 +10,15 @@ ghost use Rattle.miette_description.specs.steps.ParsedValues.{value_data, list_d
 ghost use Rattle.miette_tree.specs.rules.Tree.{Tree, Trees, cause_of, texts, trees, with_cause};
 ghost use Rattle.miette_tree.specs.views.Report.{tree_of};
 ghost use Rattle.miette_tree.specs.rules.Reads.{AlwaysReads};
-ghost use Rattle.miette_description.specs.rules.Members.{optional_value, at_key, all_of, list_of, source_of};
+ghost use Rattle.miette_description.specs.rules.Members.{optional_value, at_key, all_items, list_of, described_source};
 ghost use Rattle.miette_description.specs.rules.Members.{diagnosis_in};
 ghost use Rattle.miette_tree.specs.views.Owned.{owned_source};
 ghost use Rattle.miette_description.specs.rules.Description.{one_cause, wrapped_in, tree_of_parts, report_in};
-ghost use Rattle.miette_description.specs.rules.Description.{described_tree, report_from, reports_in, tree_for};
-ghost use Rattle.miette_description.specs.steps.OptionalParts.{said_of, maybe_sourced, maybe_related};
+ghost use Rattle.miette_description.specs.rules.Description.{described_tree, report_from, reports_in, tree_of_bytes};
+ghost use Rattle.miette_description.specs.steps.OptionalParts.{diagnosis_of_parts, maybe_sourced, maybe_related};
 
-use crate::error::{BuildError, Built};
-use crate::further::{Said, report_saying, said_from};
+use crate::diagnosis::{DiagnosisParts, parse_diagnosis, report_of_diagnosis};
+use crate::error::{BuildError, BuildResult};
 use crate::json_values::{list_in, member_at};
 use crate::numbers::{is_whole, value_has_float};
 use crate::parts::{push_texts, texts_at};
@@ -31,11 +31,11 @@ use miette_tree::parts::cause_texts;
 use miette_tree::report::{OwnedSource, Report};
 use std::alloc::Global;
 
-// How deep a text may nest.
+// The greatest nesting depth of the JSON text.
 const DEPTH: usize = 127;
 
-/// The parsed text, at most 127 deep.
-fn value_of<'a>(alloc: Global, text: &'a str, scratch: &'a mut Scratch) -> Built<Value<'a>>
+/// Parses a text with at most 127 levels.
+fn value_of<'a>(alloc: Global, text: &'a str, scratch: &'a mut Scratch) -> BuildResult<Value<'a>>
     ensures ok { IfOk result (λ v. read text.now ≡ of_json (value_view v)) }
     ensures description { (result ≡ Err BuildError.Description) → read text.now ≡ None }
 {
@@ -48,7 +48,7 @@ fn value_of<'a>(alloc: Global, text: &'a str, scratch: &'a mut Scratch) -> Built
 }
 
 /// Whether the JSON value of a text has a number that is neither a `u64` nor an `i64`.
-fn text_has_float(alloc: Global, text: &str) -> Built<bool>
+fn text_has_float(alloc: Global, text: &str) -> BuildResult<bool>
     ensures ok { IfOk result (λ b. IfSome (read text.now) (λ d. b ≡ has_float d)) }
     ensures some { OnOk result (IsSome (read text.now)) }
     ensures description { (result ≡ Err BuildError.Description) → read text.now ≡ None }
@@ -65,10 +65,10 @@ fn text_has_float(alloc: Global, text: &str) -> Built<bool>
     }
 }
 
-/// Refuses a text whose value has a number that is neither a `u64` nor an `i64`, and one with a number that is too
-/// large for any. Where each number is a `u64` the parsed text shows it. Otherwise the whole value is made: in the
-/// parsed text there may be numbers that a later value of their key hides.
-fn refuse_float(alloc: Global, text: &str, value: &Value<'_>) -> Built<()>
+/// Returns an error if a text contains a number that is neither a `u64` nor an `i64`. If all parsed numbers are `u64`,
+/// nothing else is needed. Otherwise the text is parsed again as a whole value: the parsed text may contain numbers
+/// that a later member with the same key replaces.
+fn refuse_float(alloc: Global, text: &str, value: &Value<'_>) -> BuildResult<()>
     requires { read text.now ≡ of_json (value_view value.now) }
     ensures ok { OnOk result ((read text.now ≡ Some (value_data value.now))
         × (has_float (value_data value.now) ≡ false)) }
@@ -84,17 +84,17 @@ fn refuse_float(alloc: Global, text: &str, value: &Value<'_>) -> Built<()>
     Ok(())
 }
 
-/// The report that a text describes, for boxes of any kind. Its sources always read.
+/// Builds the report that a JSON text describes, for boxes of any type. Its sources never fail to read.
 ///
 /// # Errors
-/// `Description` where the bytes are no text in UTF-8 or describe no report, and `Memory` where none is found.
-pub fn report_of<D: Diagnostic, S: SourceCode>(
+/// `Description` if the bytes aren't UTF-8 or don't describe a report. `Memory` if allocation fails.
+pub fn report_from_json<D: Diagnostic, S: SourceCode>(
     alloc: Global,
     bytes: &[u8],
 ) -> Result<Report<D, S>, BuildError>
-    ensures ok { IfOk result (λ r. IsUtf8 bytes.now × (tree_for bytes.now ≡ Some (tree_of D.meaning S.source r))) }
+    ensures ok { IfOk result (λ r. IsUtf8 bytes.now × (tree_of_bytes bytes.now ≡ Some (tree_of D.meaning S.source r))) }
     ensures sources { IfOk result (λ r. AlwaysReads (tree_of D.meaning S.source r)) }
-    ensures description { (result ≡ Err BuildError.Description) → IsUtf8 bytes.now → tree_for bytes.now ≡ None }
+    ensures description { (result ≡ Err BuildError.Description) → IsUtf8 bytes.now → tree_of_bytes bytes.now ≡ None }
 {
     let Ok(text) = str::from_utf8(bytes) else {
         return Err(BuildError::Description);
@@ -106,18 +106,18 @@ pub fn report_of<D: Diagnostic, S: SourceCode>(
     Ok(Box::into_inner(report))
 }
 
-/// What a description says of the cause: a description of its own, texts, or both, which is refused.
+/// The cause of a description: a description, or texts. Both together are an error.
 struct Causes<D: Diagnostic, S: SourceCode> {
     one: Option<Box<Report<D, S>>>,
     several: Option<Vec<String>>,
 }
 
-/// The report with its cause: one of its own or texts, and not both.
+/// Adds the cause to a report: a report or texts, but not both.
 fn report_with_cause<D: Diagnostic, S: SourceCode>(
     alloc: Global,
     report: Report<D, S>,
     causes: Causes<D, S>,
-) -> Built<Report<D, S>>
+) -> BuildResult<Report<D, S>>
     requires { cause_of (tree_of D.meaning S.source report) ≡ texts [] }
     ensures ok { IfOk result (λ r.
         let value = tree_of D.meaning S.source in
@@ -145,13 +145,13 @@ fn report_with_cause<D: Diagnostic, S: SourceCode>(
     }
 }
 
-/// The report with each text put in front, in order: the last is its message, and the others become its causes at once,
-/// before the chain that it had.
+/// Puts each context in front, in order: the last one becomes the message, and the others become causes at once, before
+/// the old chain.
 fn report_under<D: Diagnostic, S: SourceCode>(
     alloc: Global,
     report: Report<D, S>,
     contexts: Option<Vec<String>>,
-) -> Built<Report<D, S>>
+) -> BuildResult<Report<D, S>>
     ensures ok { IfOk result (λ r.
         let value = tree_of D.meaning S.source in
         value r ≡ wrapped_in (unwrap_or (option_map (λ v. map string_bytes v.items) contexts) []) (value report)) }
@@ -172,7 +172,7 @@ fn report_under<D: Diagnostic, S: SourceCode>(
     Ok(made.with_cause_texts(list))
 }
 
-/// The report with its source, where there is one.
+/// Sets the source, if there is one.
 fn report_with_source<D: Diagnostic, S: SourceCode>(
     report: Report<D, S>,
     source: Option<OwnedSource>,
@@ -186,7 +186,7 @@ fn report_with_source<D: Diagnostic, S: SourceCode>(
     }
 }
 
-/// The report with its related reports, where there are any.
+/// Sets the related reports, if there are any.
 fn report_with_related<D: Diagnostic, S: SourceCode>(
     report: Report<D, S>,
     list: Option<Vec<Report<D, S>>>,
@@ -201,11 +201,11 @@ fn report_with_related<D: Diagnostic, S: SourceCode>(
     }
 }
 
-/// A report in a place of its own, out of the stack.
+/// Moves a report to the heap.
 fn box_of<D: Diagnostic, S: SourceCode>(
     alloc: Global,
     report: Report<D, S>,
-) -> Built<Box<Report<D, S>>>
+) -> BuildResult<Box<Report<D, S>>>
     ensures ok { IfOk result (λ b. b.value ≡ report) }
     ensures memory { (result ≡ Err BuildError.Description) → ⊥ }
 {
@@ -215,18 +215,18 @@ fn box_of<D: Diagnostic, S: SourceCode>(
     }
 }
 
-/// What a description says beside its cause and its related reports.
+/// The parts of a description except its diagnostic cause and its related reports.
 struct OwnParts<S> {
-    said: Said<S>,
+    said: DiagnosisParts<S>,
     source: Option<OwnedSource>,
     several: Option<Vec<String>>,
     contexts: Option<Vec<String>>,
 }
 
-/// The parts of a description beside its cause and its related reports.
-fn own_parts<S: SourceCode>(alloc: Global, value: &Value<'_>) -> Built<OwnParts<S>>
-    ensures said { IfOk result (λ p. diagnosis_in (value_data value.now) ≡ Some (said_of S.source p.said)) }
-    ensures source { IfOk result (λ p. optional_value source_of (at_key (codes "source") (value_data value.now))
+/// Reads these parts.
+fn own_parts<S: SourceCode>(alloc: Global, value: &Value<'_>) -> BuildResult<OwnParts<S>>
+    ensures said { IfOk result (λ p. diagnosis_in (value_data value.now) ≡ Some (diagnosis_of_parts S.source p.said)) }
+    ensures source { IfOk result (λ p. optional_value described_source (at_key (codes "source") (value_data value.now))
         ≡ Some (option_map owned_source p.source)) }
     ensures several { IfOk result (λ p. optional_value (list_of as_str) (at_key (codes "causes") (value_data value.now))
         ≡ Some (option_map (λ v. map string_bytes v.items) p.several)) }
@@ -236,7 +236,7 @@ fn own_parts<S: SourceCode>(alloc: Global, value: &Value<'_>) -> Built<OwnParts<
     ensures description { (result ≡ Err BuildError.Description) → (one : Option Tree) (related : Option Trees) →
         report_from (Some one) (Some related) (value_data value.now) ≡ None }
 {
-    let said = said_from(alloc, value)?;
+    let said = parse_diagnosis(alloc, value)?;
     let source = source_at(alloc, value, "source")?;
     let several = texts_at(alloc, value, "causes")?;
     let contexts = texts_at(alloc, value, "contexts")?;
@@ -248,21 +248,21 @@ fn own_parts<S: SourceCode>(alloc: Global, value: &Value<'_>) -> Built<OwnParts<
     })
 }
 
-/// The report of all parts: a description's own, its cause and its related reports.
+/// Builds the report of all parts.
 fn report_of_parts<D: Diagnostic, S: SourceCode>(
     alloc: Global,
     parts: OwnParts<S>,
     one: Option<Box<Report<D, S>>>,
     list: Option<Vec<Report<D, S>>>,
-) -> Built<Report<D, S>>
+) -> BuildResult<Report<D, S>>
     ensures ok { IfOk result (λ r.
-        tree_of_parts (said_of S.source parts.said) (option_map owned_source parts.source)
+        tree_of_parts (diagnosis_of_parts S.source parts.said) (option_map owned_source parts.source)
         (option_map (λ b. tree_of D.meaning S.source b.value) one)
         (option_map (λ v. map string_bytes v.items) parts.several)
         (option_map (λ v. trees (map (tree_of D.meaning S.source) v.items)) list)
         (option_map (λ v. map string_bytes v.items) parts.contexts) ≡ Some (tree_of D.meaning S.source r)) }
     ensures description { (result ≡ Err BuildError.Description) →
-        tree_of_parts (said_of S.source parts.said) (option_map owned_source parts.source)
+        tree_of_parts (diagnosis_of_parts S.source parts.said) (option_map owned_source parts.source)
         (option_map (λ b. tree_of D.meaning S.source b.value) one)
         (option_map (λ v. map string_bytes v.items) parts.several)
         (option_map (λ v. trees (map (tree_of D.meaning S.source) v.items)) list)
@@ -274,21 +274,21 @@ fn report_of_parts<D: Diagnostic, S: SourceCode>(
         several,
         contexts,
     } = parts;
-    let made = report_saying(alloc, said)?;
+    let made = report_of_diagnosis(alloc, said)?;
     let report = report_with_source(made, source);
     let report = report_with_cause(alloc, report, Causes { one, several })?;
     report_under(alloc, report_with_related(report, list), contexts)
 }
 
-/// The report of a description whose cause and related reports are made. What it needs of the stack it gives back
-/// before the next level is read.
+/// Builds the report of a description whose cause and related reports are built already. It releases its stack before
+/// the next level is read.
 #[inline(never)]
 fn report_with<D: Diagnostic, S: SourceCode>(
     alloc: Global,
     value: &Value<'_>,
     one: Option<Box<Report<D, S>>>,
     list: Option<Vec<Report<D, S>>>,
-) -> Built<Box<Report<D, S>>>
+) -> BuildResult<Box<Report<D, S>>>
     ensures ok { IfOk result (λ made.
         report_from (Some (option_map (λ b. tree_of D.meaning S.source b.value) one))
         (Some (option_map (λ v. trees (map (tree_of D.meaning S.source) v.items)) list)) (value_data value.now)
@@ -302,13 +302,13 @@ fn report_with<D: Diagnostic, S: SourceCode>(
     box_of(alloc, report)
 }
 
-/// The report of a description. What is nested in it is made first, and each report lies in a place of its own, so
-/// that a level takes little of the stack.
+/// Builds the report of a description. Nested descriptions are built first, and each report is on the heap, so a level
+/// needs little stack.
 #[cycle(description)]
 fn report_from<D: Diagnostic, S: SourceCode>(
     alloc: Global,
     value: &Value<'_>,
-) -> Built<Box<Report<D, S>>>
+) -> BuildResult<Box<Report<D, S>>>
     ensures ok { IfOk result (λ b. report_in (value_data value.now) ≡ Some (tree_of D.meaning S.source b.value)) }
     ensures description { (result ≡ Err BuildError.Description) → report_in (value_data value.now) ≡ None }
 {
@@ -317,12 +317,12 @@ fn report_from<D: Diagnostic, S: SourceCode>(
     report_with(alloc, value, one, list)
 }
 
-/// The cause that is a description, where there is one.
+/// Builds the cause if it is a description.
 #[cycle(description)]
 fn cause_in<D: Diagnostic, S: SourceCode>(
     alloc: Global,
     value: &Value<'_>,
-) -> Built<Option<Box<Report<D, S>>>>
+) -> BuildResult<Option<Box<Report<D, S>>>>
     ensures ok { IfOk result (λ o. optional_value report_in (at_key (codes "cause") (value_data value.now))
         ≡ Some (option_map (λ b. tree_of D.meaning S.source b.value) o)) }
     ensures description { (result ≡ Err BuildError.Description) →
@@ -334,12 +334,12 @@ fn cause_in<D: Diagnostic, S: SourceCode>(
     Ok(Some(report_from(alloc, found)?))
 }
 
-/// The list of related descriptions, where there is one.
+/// Builds the related reports, if there are any.
 #[cycle(description)]
 fn related_in<D: Diagnostic, S: SourceCode>(
     alloc: Global,
     value: &Value<'_>,
-) -> Built<Option<Vec<Report<D, S>>>>
+) -> BuildResult<Option<Vec<Report<D, S>>>>
     ensures ok { IfOk result (λ o.
         optional_value reports_in (at_key (codes "related") (value_data value.now))
         ≡ Some (option_map (λ v. trees (map (tree_of D.meaning S.source) v.items)) o)) }
@@ -359,10 +359,10 @@ fn related_in<D: Diagnostic, S: SourceCode>(
 fn reports_from<D: Diagnostic, S: SourceCode>(
     alloc: Global,
     list: &[Value<'_>],
-) -> Built<Vec<Report<D, S>>>
-    ensures ok { IfOk result (λ v. all_of report_in (list_data list.now)
+) -> BuildResult<Vec<Report<D, S>>>
+    ensures ok { IfOk result (λ v. all_items report_in (list_data list.now)
         ≡ Some (map (tree_of D.meaning S.source) v.items)) }
-    ensures description { (result ≡ Err BuildError.Description) → all_of report_in (list_data list.now) ≡ None }
+    ensures description { (result ≡ Err BuildError.Description) → all_items report_in (list_data list.now) ≡ None }
 {
     let mut reports = Vec::new(alloc);
     for value in list {

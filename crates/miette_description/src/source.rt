@@ -1,23 +1,23 @@
-//! The source of a description, with an index of its lines where reads are many.
+//! Reads the source of a description. It gets a line index if it is read often.
 
 ghost use Rattle.std.specs.Prelude.{◌≡◌, Some, None, IfOk, is_some, nat_lt, option_map};
 ghost use Rattle.std.specs.Option.{option_copied};
 ghost use Rattle.serde_json.specs.Find.{as_array};
 ghost use Rattle.miette_protocol.specs.rules.Reading.{plain_source, named_source};
 ghost use Rattle.miette_tree.specs.views.Owned.{owned_source};
-ghost use Rattle.miette_description.specs.rules.Members.{at_key, optional_value, source_of};
-ghost use Rattle.miette_description.specs.steps.OftenRead.{is_read_often, items_at, items_in};
+ghost use Rattle.miette_description.specs.rules.Members.{at_key, optional_value, described_source};
+ghost use Rattle.miette_description.specs.steps.IndexNeeds.{needs_index, items_at, items_in};
 ghost use Rattle.miette_description.specs.steps.ParsedValues.{value_data};
 
-use crate::error::{BuildError, Built};
+use crate::error::{BuildError, BuildResult};
 use crate::json_values::{list_in, member_at};
 use crate::members::{needed_text_at, text_at};
-use crate::parts::described;
+use crate::parts::or_bad_description;
 use json::Value;
 use miette_tree::report::OwnedSource;
 use std::alloc::{AllocError, Global};
 
-/// Whether something stands at a key.
+/// Whether a key is present.
 fn has(value: &Value<'_>, key: &str) -> bool
     ensures { result ≡ is_some (at_key key.now (value_data value.now)) }
 {
@@ -27,7 +27,7 @@ fn has(value: &Value<'_>, key: &str) -> bool
     }
 }
 
-/// How many items something has, if it is a list.
+/// Returns the length of a list, or 0 for other values.
 fn items_in(found: &Value<'_>) -> usize
     ensures { result ≡ items_in (as_array (value_data found.now)) }
 {
@@ -37,7 +37,7 @@ fn items_in(found: &Value<'_>) -> usize
     }
 }
 
-/// How many items the list has that stands at a key.
+/// Returns the length of the list at a key.
 fn items_at(value: &Value<'_>, key: &str) -> usize
     ensures { result ≡ items_at (at_key key.now (value_data value.now)) }
 {
@@ -47,20 +47,20 @@ fn items_at(value: &Value<'_>, key: &str) -> usize
     }
 }
 
-/// Whether a list of more than `few` items stands at a key.
+/// Whether there is a list of more than `few` items at a key.
 fn has_more(value: &Value<'_>, key: &str, few: usize) -> bool
     ensures { result ≡ nat_lt few (items_at (at_key key.now (value_data value.now))) }
 {
     items_at(value, key) > few
 }
 
-/// Labels that are read without an index: each looks at its own lines, and all at those before once.
+/// This many labels are read without an index: each scans its own lines, and all together the lines before.
 const FEW: usize = 4;
 
-/// Whether the source of a description is read often: for many labels, which may share a long line, and for related
-/// reports, a cause, or fixes, which may lie anywhere in it.
-pub(crate) fn is_read_often(value: &Value<'_>) -> bool
-    ensures { result ≡ is_read_often (value_data value.now) }
+/// Whether the source of a description is read often: for many labels, which may share a long line; or for related
+/// reports, a cause or fixes, which may be anywhere in it.
+pub(crate) fn needs_index(value: &Value<'_>) -> bool
+    ensures { result ≡ needs_index (value_data value.now) }
 {
     has_more(value, "labels", FEW)
         || has_more(value, "related", 0)
@@ -68,7 +68,7 @@ pub(crate) fn is_read_often(value: &Value<'_>) -> bool
         || has_more(value, "fixes", 0)
 }
 
-/// Bytes without a name as a source.
+/// Creates a source without a name.
 fn nameless(alloc: Global, bytes: Vec<u8>, often: bool) -> Result<OwnedSource, AllocError>
     ensures { IfOk result (λ it. owned_source it ≡ plain_source bytes.items) }
 {
@@ -78,7 +78,7 @@ fn nameless(alloc: Global, bytes: Vec<u8>, often: bool) -> Result<OwnedSource, A
     OwnedSource::unindexed(alloc, bytes)
 }
 
-/// Bytes with a name as a source.
+/// Creates a source with a name.
 fn named(
     alloc: Global,
     name: &str,
@@ -95,14 +95,14 @@ fn named(
     OwnedSource::named_unindexed(alloc, name, language, bytes)
 }
 
-/// A source from its description. It has an index of its lines where it is read `often`.
-pub(crate) fn source_from(alloc: Global, value: &Value<'_>, often: bool) -> Built<OwnedSource>
-    ensures ok { IfOk result (λ s. source_of (value_data value.now) ≡ Some (owned_source s)) }
-    ensures description { (result ≡ Err BuildError.Description) → source_of (value_data value.now) ≡ None }
+/// Reads a source. It gets a line index if it is read `often`.
+pub(crate) fn source_from(alloc: Global, value: &Value<'_>, often: bool) -> BuildResult<OwnedSource>
+    ensures ok { IfOk result (λ s. described_source (value_data value.now) ≡ Some (owned_source s)) }
+    ensures description { (result ≡ Err BuildError.Description) → described_source (value_data value.now) ≡ None }
 {
-    let text = described(needed_text_at(value, "text"))?;
-    let name = described(text_at(value, "name"))?;
-    let language = described(text_at(value, "language"))?;
+    let text = or_bad_description(needed_text_at(value, "text"))?;
+    let name = or_bad_description(text_at(value, "name"))?;
+    let language = or_bad_description(text_at(value, "language"))?;
     let Ok(bytes) = Vec::from_slice(alloc, text.as_bytes()) else {
         return Err(BuildError::Memory);
     };
@@ -112,15 +112,19 @@ pub(crate) fn source_from(alloc: Global, value: &Value<'_>, often: bool) -> Buil
     }
 }
 
-/// The source that stands at a key of a description of a report or of labels, where one does.
-pub(crate) fn source_at(alloc: Global, value: &Value<'_>, key: &str) -> Built<Option<OwnedSource>>
-    ensures ok { IfOk result (λ o. optional_value source_of (at_key key.now (value_data value.now))
+/// Reads the source at a key of a report or of further labels, if there is one.
+pub(crate) fn source_at(
+    alloc: Global,
+    value: &Value<'_>,
+    key: &str,
+) -> BuildResult<Option<OwnedSource>>
+    ensures ok { IfOk result (λ o. optional_value described_source (at_key key.now (value_data value.now))
         ≡ Some (option_map owned_source o)) }
     ensures description { (result ≡ Err BuildError.Description) →
-        optional_value source_of (at_key key.now (value_data value.now)) ≡ None }
+        optional_value described_source (at_key key.now (value_data value.now)) ≡ None }
 {
     let Some(found) = member_at(value, key) else {
         return Ok(None);
     };
-    Ok(Some(source_from(alloc, found, is_read_often(value))?))
+    Ok(Some(source_from(alloc, found, needs_index(value))?))
 }

@@ -1,3 +1,4 @@
--- What users rely on, in the words of docs/RULES.md.
+-- Definitions that contracts use. docs/RULES.md says them in words.
 pub mod Words
 pub mod Faults
+pub mod Outputs

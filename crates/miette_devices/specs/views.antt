@@ -1,4 +1,4 @@
--- What the code's values stand for.
+-- What the values of the code represent.
 pub mod DeviceState
 pub mod Device
 pub mod Endings

@@ -1,4 +1,4 @@
-//! A reader or a writer that remembers whether one of its calls failed.
+//! A reader or writer that remembers whether a call failed.
 
 ghost use Rattle.std.specs.Prelude.{◌≡◌, ◌⊎◌, ◌↔◌, IsTrue, IsErr, false};
 ghost use Rattle.std.specs.Io.{ReadsAtMost, WritesAtMost};
@@ -9,10 +9,10 @@ use std::io;
 use std::io::{Read, Write};
 use std::marker::Model;
 
-/// A reader or a writer that knows whether a call of it failed.
+/// A reader or writer that remembers whether one of its calls failed.
 ///
-/// A `Device` is no `Read` and no `Write` itself: std's own helpers over those repeat a call that was interrupted, and
-/// here each error is a fault.
+/// It doesn't implement `Read` or `Write`. The helpers of std over these traits repeat an interrupted call, but here
+/// every error counts.
 #[derive(Drop)]
 pub struct Device<D> {
     inner: D,
@@ -26,7 +26,7 @@ impl<D> Model for Device<D> {
 }
 
 impl<D> Device<D> {
-    /// The device over a reader or a writer, none of whose calls failed yet.
+    /// Wraps a reader or writer. No call has failed yet.
     pub fn new(inner: D) -> Self
         ensures inner { result.inner ≡ inner }
         ensures sound { result.failed ≡ false }
@@ -37,7 +37,7 @@ impl<D> Device<D> {
         }
     }
 
-    /// The reader or writer itself.
+    /// Returns the reader or writer.
     pub fn into_inner(self) -> D
         ensures { result ≡ self.inner }
     {
@@ -54,11 +54,11 @@ impl<D> Device<D> {
 }
 
 impl<D: Read> Device<D> {
-    /// Reads into the buffer, and gives how many bytes there were: 0 at the end, or where the buffer is empty. The
-    /// device has then failed exactly where it had before, or where the inner call answers an error.
+    /// Reads into the buffer and returns the number of bytes. It is 0 at the end of the input, or if the buffer is
+    /// empty. Afterwards the device has failed exactly if it had before or if the inner call returns an error.
     ///
     /// # Errors
-    /// Where the inner call answers one, which is handed on.
+    /// The error of the inner call.
     pub fn read(&mut self, buf: &mut [u8]) -> io::Result<usize>
         ensures bound { ReadsAtMost result buf.new }
         ensures bytes { ReadConsumes (D.remaining self.old.inner) (D.remaining self.new.inner) result buf.new }
@@ -75,11 +75,11 @@ impl<D: Read> Device<D> {
 impl<D: Write> Device<D> {
     ghost use Rattle.miette_devices.specs.views.Device.{IsWriteFault};
 
-    /// Writes a beginning of the buffer, and gives how many bytes that was. The device has then failed exactly where it
-    /// had before, where the inner call answers an error, or where it takes 0 bytes of a nonempty buffer.
+    /// Writes the beginning of the buffer and returns the number of bytes written. Afterwards the device has failed
+    /// exactly if it had before, if the inner call returns an error, or if it writes 0 bytes of a nonempty buffer.
     ///
     /// # Errors
-    /// Where the inner call answers one, which is handed on.
+    /// The error of the inner call.
     pub fn write(&mut self, buf: &[u8]) -> io::Result<usize>
         ensures bound { WritesAtMost result buf.now }
         ensures bytes { WriteAppends (D.contents self.old.inner) (D.contents self.new.inner) result buf.now }

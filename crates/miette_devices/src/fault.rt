@@ -1,9 +1,9 @@
-//! Why a program fails, the row that says so, and the status that it ends with.
+//! Errors of programs, their messages and exit codes.
 
 ghost use Rattle.std.specs.Prelude.{◌≡◌, OnOk};
 ghost use Rattle.std.specs.Option.{option_map};
 ghost use Rattle.std.specs.Io.KnownBytes.{Appends};
-ghost use Rattle.miette_devices.specs.rules.Faults.{end_status, fault_row, name_of, reason_of, status_of};
+ghost use Rattle.miette_devices.specs.rules.Faults.{end_status, error_line, program_name, error_reason, status_of};
 ghost use Rattle.miette_devices.specs.rules.Faults.{usage_of};
 ghost use Rattle.miette_devices.specs.views.Endings.{IsFailure};
 
@@ -11,31 +11,31 @@ use std::alloc::AllocError;
 use std::io;
 use std::io::Write;
 
-/// Why a program, or a part of its work, ended without its text.
+/// Why a program failed.
 #[derive(Clone, Copy, Debug, PartialEq, Eq)]
-pub enum Fault {
-    /// The words are not those that the program takes.
+pub enum ProgramError {
+    /// The arguments are invalid.
     Usage,
-    /// Memory was refused.
+    /// Allocation failed.
     Memory,
     /// The reader failed.
     Read,
-    /// The writer failed. It has taken a beginning of the text.
+    /// The writer failed. It has written a beginning of the text.
     Write,
-    /// What was read describes no report.
+    /// The input doesn't describe a report.
     Description,
-    /// The chosen handler refused the report.
+    /// The handler returned `Refused`.
     Refused,
 }
 
-impl From<AllocError> for Fault {
+impl From<AllocError> for ProgramError {
     ghost use Rattle.std.specs.Prelude.{◌≡◌};
-    ghost use Rattle.miette_devices.specs.declared.fault.Fault.TheVariants.{Memory};
+    ghost use Rattle.miette_devices.specs.declared.fault.ProgramError.TheVariants.{Memory};
 
     ghost from_gives = { λ _ fault. fault ≡ Memory };
 
-    fn from(_refused: AllocError) -> Fault {
-        Fault::Memory
+    fn from(_refused: AllocError) -> ProgramError {
+        ProgramError::Memory
     }
 }
 
@@ -48,51 +48,51 @@ pub enum Program {
     Job,
     /// Renders one report many times.
     Bench,
-    /// Labels what is amiss in the lines of a source.
+    /// Reports findings in the lines of a source.
     Lint,
-    /// Draws what compilers write.
+    /// Draws the messages of compilers.
     Show,
 }
 
 /// How a program ended.
 #[derive(Debug, Drop)]
-pub struct Ending {
-    /// Its status.
+pub struct ProgramExit {
+    /// Its exit code.
     pub status: u8,
-    /// Whether the row that says why it failed was taken: `Ok` too where there is none.
+    /// Whether the error message could be written. `Ok` if there is no message.
     pub told: io::Result<()>,
 }
 
-impl Ending {
-    /// The work was done.
-    pub fn done(status: u8) -> Ending
+impl ProgramExit {
+    /// The program succeeded with this exit code.
+    pub fn done(status: u8) -> ProgramExit
         ensures { result.status ≡ status }
     {
-        Ending {
+        ProgramExit {
             status,
             told: Ok(()),
         }
     }
 }
 
-/// What a fault is called; nothing where it is one of the words.
-fn reason(fault: Fault) -> Option<&'static str>
-    ensures { option_map (λ it. it.now) result ≡ reason_of fault }
+/// Returns the text of an error. Usage errors have none.
+fn reason(fault: ProgramError) -> Option<&'static str>
+    ensures { option_map (λ it. it.now) result ≡ error_reason fault }
 {
     match fault {
-        Fault::Usage => None,
-        Fault::Memory => Some("out of memory"),
-        Fault::Read => Some("read fault"),
-        Fault::Write => Some("write fault"),
-        Fault::Description => Some("bad description"),
-        Fault::Refused => Some("report refused"),
+        ProgramError::Usage => None,
+        ProgramError::Memory => Some("out of memory"),
+        ProgramError::Read => Some("read fault"),
+        ProgramError::Write => Some("write fault"),
+        ProgramError::Description => Some("bad description"),
+        ProgramError::Refused => Some("report refused"),
     }
 }
 
 impl Program {
-    /// Its name, and the words that it takes.
+    /// Returns the program's name and its usage text.
     fn name_and_usage(self) -> (&'static str, &'static str)
-        ensures name { result.0.now ≡ name_of self }
+        ensures name { result.0.now ≡ program_name self }
         ensures usage { result.1.now ≡ usage_of self }
     {
         match self {
@@ -110,22 +110,22 @@ impl Program {
         }
     }
 
-    /// The status that it ends with: of `lint` and `show` always 2, since 1 says that something is found, or that an
-    /// error is among the messages.
-    fn status(self, fault: Fault) -> u8
+    /// Returns the exit code for an error. `lint` and `show` always return 2, because 1 means that there are findings
+    /// or errors.
+    fn status(self, fault: ProgramError) -> u8
         ensures { result ≡ status_of self fault }
     {
         match (self, fault) {
-            (Program::Lint | Program::Show, _) | (_, Fault::Usage) => 2,
-            (_, Fault::Memory | Fault::Read | Fault::Write) => 1,
-            (_, Fault::Description) => 3,
-            (_, Fault::Refused) => 4,
+            (Program::Lint | Program::Show, _) | (_, ProgramError::Usage) => 2,
+            (_, ProgramError::Memory | ProgramError::Read | ProgramError::Write) => 1,
+            (_, ProgramError::Description) => 3,
+            (_, ProgramError::Refused) => 4,
         }
     }
 
-    /// Prints the row that says why it fails.
-    fn tell<F: Write>(self, fault: Fault, faults: &mut F) -> io::Result<()>
-        ensures row { OnOk result (Appends (F.contents faults.old) (F.contents faults.new) (fault_row self fault)) }
+    /// Writes the error message.
+    fn tell<F: Write>(self, fault: ProgramError, faults: &mut F) -> io::Result<()>
+        ensures row { OnOk result (Appends (F.contents faults.old) (F.contents faults.new) (error_line self fault)) }
     {
         let (name, usage) = self.name_and_usage();
         match reason(fault) {
@@ -134,25 +134,25 @@ impl Program {
         }
     }
 
-    /// Prints why it fails. The status that it ends with, and whether `faults` took that row and nothing else.
-    pub fn fail<F: Write>(self, fault: Fault, faults: &mut F) -> Ending
+    /// Writes the error message. Returns the exit code, and whether the message was written completely.
+    pub fn fail<F: Write>(self, fault: ProgramError, faults: &mut F) -> ProgramExit
         ensures { IsFailure self result (F.contents faults.old) (F.contents faults.new) fault }
     {
-        Ending {
+        ProgramExit {
             status: self.status(fault),
             told: self.tell(fault, faults),
         }
     }
 
-    /// Prints why it fails, and gives the status. Faults of `faults` are ignored.
-    pub fn end<F: Write + Drop>(self, fault: Fault, mut faults: F) -> u8
+    /// Writes the error message and returns the exit code. Errors of `faults` are ignored.
+    pub fn end<F: Write + Drop>(self, fault: ProgramError, mut faults: F) -> u8
         ensures { result ≡ status_of self fault }
     {
         self.fail(fault, &mut faults).status
     }
 
-    /// The status 0 where the work is done. Else it ends with the fault.
-    pub fn finish<F: Write + Drop>(self, work: Result<(), Fault>, faults: F) -> u8
+    /// Returns 0 if the work succeeded. Otherwise writes the error message and returns its exit code.
+    pub fn finish<F: Write + Drop>(self, work: Result<(), ProgramError>, faults: F) -> u8
         ensures { result ≡ end_status (status_of self) work }
     {
         match work {

@@ -1,32 +1,35 @@
-//! The words that a program is called with.
+//! The arguments of a program.
 
 ghost use Rattle.std.specs.Prelude.{◌≡◌, ◌⊎◌, OnErr};
 ghost use Rattle.miette_devices.specs.rules.Words.{IsReadAs};
 
-use crate::fault::Fault;
-pub use crate::fault::Fault as WordsFault;
+use crate::fault::ProgramError;
+pub use crate::fault::ProgramError as WordsFault;
 use std::env;
 use std::env::Env;
 use std::io::ErrorKind;
 
-/// The words after the program's name.
+/// Returns the arguments after the program's name.
 ///
 /// # Errors
-/// `Usage` where one is not UTF-8, and `Memory` where none is found for them.
-pub fn program_words(rt: &(impl Env + AllocGlobal)) -> Result<Vec<String>, Fault>
-    ensures others { OnErr result ((result ≡ Err Fault.Usage) ⊎ (result ≡ Err Fault.Memory)) }
+/// `Usage` if an argument isn't UTF-8. `Memory` if allocation fails.
+pub fn program_arguments(rt: &(impl Env + AllocGlobal)) -> Result<Vec<String>, ProgramError>
+    ensures others { OnErr result ((result ≡ Err ProgramError.Usage) ⊎ (result ≡ Err ProgramError.Memory)) }
 {
     match env::args(rt) {
-        Ok(words) => words.skip(1).collect(rt.alloc()).map_err(|_| Fault::Memory),
+        Ok(words) => words
+            .skip(1)
+            .collect(rt.alloc())
+            .map_err(|_| ProgramError::Memory),
         Err(error) => match error.kind() {
-            ErrorKind::InvalidData => Err(Fault::Usage),
-            _ => Err(Fault::Memory),
+            ErrorKind::InvalidData => Err(ProgramError::Usage),
+            _ => Err(ProgramError::Memory),
         },
     }
 }
 
-/// The number that the word writes: one or more decimal digits, and nothing else. Nothing, where it is anything else, a
-/// sign too, or where the number does not fit a `usize`.
+/// Parses a number: one or more decimal digits and nothing else. Returns `None` for anything else, for example a sign,
+/// or if the number doesn't fit a `usize`.
 pub fn number(word: &str) -> Option<usize>
     ensures { IsReadAs word.now result }
 {

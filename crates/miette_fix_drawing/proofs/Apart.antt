@@ -7,7 +7,7 @@ use Rattle.std.proofs.lemmas.Bool.{le-ltb}
 use Rattle.miette_style.specs.declared.style.Style.{Style}
 use Rattle.std.proofs.lemmas.Bool.Decides.{nat_tests}
 use Rattle.miette_protocol.specs.rules.Reading.{Span}
-use Rattle.miette_cells.specs.rules.Cells.{Cell}
+use Rattle.miette_columns.specs.rules.Cells.{Cell}
 use Rattle.miette_fix_rows.specs.rules.DiffTexts.{has_bytes, holds_byte, is_on, part_in, parts_in}
 use Rattle.miette_fix_drawing.specs.steps.Spans.{AreApart, AreApartFrom}
 

@@ -1,7 +1,7 @@
 -- What is seen of a line, without the spaces at its end.
 use Rattle.std.proofs.Common.{ℕ, zero, suc, ◌-◌, ◌<◌, ◌≤◌, ◌≡◌, eqb, eqb-true, List, [], ◌∷◌, length, take, get_or}
 use Rattle.std.proofs.Common.{refl, sym, ap, ◌∙◌, arith}
-use Rattle.miette_basics.proofs.Cases.{by_cases}
+use Rattle.miette_lines.proofs.Cases.{by_cases}
 use Rattle.miette_fix_rows.specs.rules.DiffTexts.{onto_seen, without_blanks}
 
 blank_end : (codes : List ℕ) (k d : ℕ) → suc k ≤ length codes → get_or codes k d ≡ 32

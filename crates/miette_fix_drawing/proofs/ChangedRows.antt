@@ -1,34 +1,37 @@
 -- The rows of a changed line.
-use Rattle.miette_page.specs.views.Printouts.{Printout, ◌⊕◌}
+use Rattle.miette_style.specs.views.Printouts.{Printout, ◌⊕◌}
 use Rattle.std.proofs.Common.{ℕ, ◌≤◌, ◌≡◌, Bool, true, false, cond, List, [], ◌∷◌, ◌++◌, map, length, replicate}
 use Rattle.std.proofs.Common.{Option, Some, None, ltb, min, option_map, refl, sym, subst, ap, ◌∙◌, arith}
 use Rattle.std.proofs.Common.{◌+◌, ◌<◌, ◌^◌, IfSome}
 use Rattle.std.specs.List.{filter, list_any}
 use Rattle.miette_style.specs.rules.Styles.{plain}
 use Rattle.miette_protocol.specs.rules.Reading.{Span}
-use Rattle.miette_page.specs.rules.Rows.{Row, Run, styled_run}
-use Rattle.miette_page.specs.views.Tokens.{begins, row_end, row_tokens, rows_tokens, styled_tokens, text_tokens}
-use Rattle.miette_label_rules.specs.rules.Answers.{Highlight}
-use Rattle.miette_cells.specs.rules.Cells.{Cell}
-use Rattle.miette_snippet_rules.specs.rules.CutLines.{Stretch, cut_line_by, dots, dots_in, limit_of, reach_at}
-use Rattle.miette_snippet_rules.specs.rules.CutLines.{shown_marks, shown_runs}
-use Rattle.miette_snippet_rules.specs.rules.Drawing.{blank}
+use Rattle.miette_style.specs.rules.Rows.{Row, Run, styled_run}
+use Rattle.miette_style.specs.views.Tokens.{begins, row_end, row_tokens, rows_tokens, styled_tokens, text_tokens}
+use Rattle.miette_labels.specs.rules.Answers.{Highlight}
+use Rattle.miette_columns.specs.rules.Cells.{Cell}
+use Rattle.miette_snippet_rules.specs.rules.CutLines.{LinePart, cut_line_by, dots, dots_width, limit_of, reach_at}
+use Rattle.miette_snippet_rules.specs.rules.CutLines.{row_underlines, shown_runs}
+use Rattle.miette_snippet_rules.specs.rules.LabelRows.{blank}
 use Rattle.miette_snippet_rules.specs.rules.Frames.{other_start}
-use Rattle.miette_snippet_rules.specs.rules.Marks.{Mark, marks}
+use Rattle.miette_snippet_rules.specs.rules.Underlines.{Underline, marks}
 use Rattle.miette_snippet_rules.specs.rules.PrintedCells.{cells_width, text_bytes}
-use Rattle.miette_snippet_rules.specs.rules.Settings.{SnippetSettings}
+use Rattle.miette_snippet_rules.specs.rules.SnippetSettings.{SnippetSettings}
 use Rattle.miette_snippet_rules.proofs.RowTokens.{then, told_as, blank_row, styled_row}
-use Rattle.miette_frames.proofs.TextRows.{parts_then, row_done, rows_then}
-use Rattle.miette_snippet_rules.specs.declared.stretch.Stretch.{Stretch as MadeStretch}
-use Rattle.miette_line_columns.specs.views.Passing.{ComeFrom}
+use Rattle.miette_snippet_frames.proofs.TextRows.{parts_then, row_done, rows_then}
+use Rattle.miette_snippet_rules.specs.declared.line_part.LinePart.{LinePart as MadePart}
+use Rattle.miette_snippet_rules.specs.views.LineScans.{ComeFrom}
 use Rattle.miette_snippet_rules.specs.views.Cuts.{made_runs, measure}
-use Rattle.miette_line_printing.proofs.CutText.{shown_made_by}
-use Rattle.miette_fix_rows.specs.rules.DiffRows.{ChangedLine, before_some, changed_rows, marks_row, row_if_some}
-use Rattle.miette_fix_rows.specs.rules.DiffRows.{changed_cut, cut_beside, line_reach, pair_reach, sign_start, text_row}
-use Rattle.miette_fix_rows.specs.rules.DiffTexts.{edit_marks, ends_of, holds_byte, is_on, line_cells, line_ends}
-use Rattle.miette_fix_rows.specs.rules.DiffTexts.{line_text, look_alike, onto_painted, painted, parts_in, pieces}
+use Rattle.miette_snippet_rules.proofs.CutText.{shown_made_by}
+use Rattle.miette_fix_rows.specs.rules.DiffRows.{ChangedLine, before_some, changed_rows, edit_underline_row}
+use Rattle.miette_fix_rows.specs.rules.DiffRows.{row_if_some}
+use Rattle.miette_fix_rows.specs.rules.DiffRows.{changed_cut, cut_beside, line_reach, pair_reach, sign_start}
+use Rattle.miette_fix_rows.specs.rules.DiffRows.{changed_text_row}
+use Rattle.miette_fix_rows.specs.rules.DiffTexts.{edit_underlines, edit_ends, holds_byte, is_on, line_cells, line_ends}
+use Rattle.miette_fix_rows.specs.rules.DiffTexts.{measured_line, look_alike, prepend_piece, diff_pieces, parts_in}
+use Rattle.miette_fix_rows.specs.rules.DiffTexts.{pieces}
 use Rattle.miette_fix_rows.specs.rules.DiffTexts.{sign_runs}
-use Rattle.miette_fix_drawing.specs.steps.Ends.{line_cut}
+use Rattle.miette_fix_drawing.specs.steps.Ends.{changed_line_cut}
 use Rattle.miette_fix_drawing.specs.views.ChangedLines.{AreBothNear, IsNear, IsReadable, changed_line_of}
 use Rattle.miette_fix_drawing.specs.declared.changed_line.ChangedLine.{ChangedLine as MadeChangedLine}
 use Rattle.miette_fix_drawing.specs.steps.Starts.{digits_row}
@@ -64,23 +67,23 @@ shown_beside : (s : SnippetSettings) (limit : Option ℕ) (line : ChangedLine) (
     ≡ shown_runs (dots s.theme) (cut_beside s limit line other) ps (line_cells s line.start line.text)
 shown_beside s None line other ps = refl
 shown_beside s (Some limit) line other ps =
-    shown_made_by (dots s.theme) (dots_in s.theme.characters) limit (pair_reach s limit line other)
+    shown_made_by (dots s.theme) (dots_width s.theme.characters) limit (pair_reach s limit line other)
     (line_ends s line.start line.text line.spans) (line_cells s line.start line.text) ps
 
 pub text_put : (s : SnippetSettings) (w : ℕ) (line : ChangedLine) (other : Option ChangedLine) (cells : List Cell)
-    (made : List Highlight) (cut : Option (List MadeStretch)) (p a t n : Printout)
+    (made : List Highlight) (cut : Option (List MadePart)) (p a t n : Printout)
     → cells ≡ line_cells s line.start line.text → made ≡ pieces line.style line.spans cells
-    → cut ≡ line_cut s line other → a ≡ p ⊕ row_tokens (sign_start s w line)
+    → cut ≡ changed_line_cut s line other → a ≡ p ⊕ row_tokens (sign_start s w line)
     → t ≡ a ⊕ row_tokens (made_runs (dots s.theme) cut made cells) → n ≡ t ⊕ row_end ∷ [] → n ≡ p ⊕ rows_tokens
-    (text_row s w line other ∷ [])
+    (changed_text_row s w line other ∷ [])
 text_put s w line other cells made cut p a t n hcells hmade hcut ha ht hn =
     let run : Run = dots s.theme in
     let own : List Cell = line_cells s line.start line.text in
     let ps : List Highlight = pieces line.style line.spans own in
     let shown : made_runs run cut made cells ≡ shown_runs run (changed_cut s line other) ps own =
     ap (λ x. made_runs run x made cells) hcut
-    ∙ ap (λ x. made_runs run (line_cut s line other) x cells) hmade
-    ∙ ap (λ x. made_runs run (line_cut s line other) (pieces line.style line.spans x) x) hcells
+    ∙ ap (λ x. made_runs run (changed_line_cut s line other) x cells) hmade
+    ∙ ap (λ x. made_runs run (changed_line_cut s line other) (pieces line.style line.spans x) x) hcells
     ∙ shown_beside s s.layout.line_columns line other ps in
     row_done (sign_start s w line ++ made_runs run cut made cells) p t n
     (parts_then (sign_start s w line) (made_runs run cut made cells) p a t ha ht) hn
@@ -89,27 +92,30 @@ text_put s w line other cells made cut p a t n hcells hmade hcut ha ht hn =
 -- a line that looks like the other, and one that doesn't
 pub alike_put : (s : SnippetSettings) (w : ℕ) (line : ChangedLine) (other : Option ChangedLine) (alike : Bool)
     (p q r : Printout) → alike ≡ look_alike s line.text (option_map (λ it. it.text) other) → alike ≡ true
-    → q ≡ p ⊕ rows_tokens (text_row s w line other ∷ []) → r ≡ q ⊕ rows_tokens (marks_row s w line other)
+    → q ≡ p ⊕ rows_tokens (changed_text_row s w line other ∷ []) → r ≡ q ⊕ rows_tokens
+    (edit_underline_row s w line other)
     → r ≡ p ⊕ rows_tokens (changed_rows s w line other)
 alike_put s w line other alike p q r e y hq hr =
-    rows_then (text_row s w line other ∷ []) (marks_row s w line other) p q r hq hr
-    ∙ ap (λ b. p ⊕ rows_tokens (text_row s w line other ∷ cond b (marks_row s w line other) [])) (sym y ∙ e)
+    rows_then (changed_text_row s w line other ∷ []) (edit_underline_row s w line other) p q r hq hr
+    ∙ ap (λ b. p ⊕ rows_tokens (changed_text_row s w line other ∷ cond b (edit_underline_row s w line other) []))
+    (sym y ∙ e)
 
 pub unlike_put : (s : SnippetSettings) (w : ℕ) (line : ChangedLine) (other : Option ChangedLine) (alike : Bool)
     (p q : Printout) → alike ≡ look_alike s line.text (option_map (λ it. it.text) other) → alike ≡ false
-    → q ≡ p ⊕ rows_tokens (text_row s w line other ∷ []) → q ≡ p ⊕ rows_tokens (changed_rows s w line other)
+    → q ≡ p ⊕ rows_tokens (changed_text_row s w line other ∷ []) → q ≡ p ⊕ rows_tokens (changed_rows s w line other)
 unlike_put s w line other alike p q e f hq =
-    hq ∙ ap (λ b. p ⊕ rows_tokens (text_row s w line other ∷ cond b (marks_row s w line other) [])) (sym f ∙ e)
+    hq ∙ ap (λ b. p ⊕ rows_tokens (changed_text_row s w line other ∷ cond b (edit_underline_row s w line other) []))
+    (sym f ∙ e)
 
 -- ---- without the spans that end before the line
 
 painted_same : (a b : List Span) (at : ℕ) (cells : List Cell)
     → ((cell : Cell) → at ≤ cell.start → list_any (holds_byte cell) a ≡ list_any (holds_byte cell) b)
-    → ComeFrom at cells → painted a cells ≡ painted b cells
+    → ComeFrom at cells → diff_pieces a cells ≡ diff_pieces b cells
 painted_same a b at [] same h = refl
 painted_same a b at (c ∷ cs) same h =
-    ap (λ x. onto_painted x (text_bytes c.code) (painted a cs)) (same c h.0)
-    ∙ ap (λ r. onto_painted (list_any (holds_byte c) b) (text_bytes c.code) r)
+    ap (λ x. prepend_piece x (text_bytes c.code) (diff_pieces a cs)) (same c h.0)
+    ∙ ap (λ r. prepend_piece (list_any (holds_byte c) b) (text_bytes c.code) r)
     (painted_same a b c.after cs (λ cell le. same cell (omega (arith, le, h.0, h.1))) h.2)
 
 -- the line that goes with another, without such spans
@@ -124,7 +130,8 @@ reach_near : (s : SnippetSettings) (limit : ℕ) (line : ChangedLine) (near : Li
     → filter (is_on line.start line.text) near ≡ filter (is_on line.start line.text) line.spans →
     line_reach s limit (record line { spans = near }) ≡ line_reach s limit line
 reach_near s limit line near on =
-    ap (λ touching. reach_at (limit_of limit) (dots_in s.theme.characters) (ends_of s line.start line.text touching)
+    ap (λ touching. reach_at (limit_of limit) (dots_width s.theme.characters)
+    (edit_ends s line.start line.text touching)
     (line_cells s line.start line.text)) on
 
 cut_near : (s : SnippetSettings) (limit : Option ℕ) (line : ChangedLine) (near : List Span)
@@ -133,20 +140,20 @@ cut_near : (s : SnippetSettings) (limit : Option ℕ) (line : ChangedLine) (near
     → cut_beside s limit (record line { spans = near }) beside ≡ cut_beside s limit line other
 cut_near s None line near other beside on h = refl
 cut_near s (Some limit) line near None None on h =
-    let many : ℕ = dots_in s.theme.characters in
+    let many : ℕ = dots_width s.theme.characters in
     let cells : List Cell = line_cells s line.start line.text in
-    ap (λ touching. cut_line_by many limit (reach_at (limit_of limit) many (ends_of s line.start line.text touching)
-    cells) (ends_of s line.start line.text touching) cells) on
+    ap (λ touching. cut_line_by many limit (reach_at (limit_of limit) many (edit_ends s line.start line.text touching)
+    cells) (edit_ends s line.start line.text touching) cells) on
 cut_near s (Some limit) line near None (Some n) on h = absurd h
 cut_near s (Some limit) line near (Some o) None on h = absurd h
 cut_near s (Some limit) line near (Some o) (Some n) on h =
-    let many : ℕ = dots_in s.theme.characters in
+    let many : ℕ = dots_width s.theme.characters in
     let cells : List Cell = line_cells s line.start line.text in
     let beside : line_reach s limit n ≡ line_reach s limit o = ap (line_reach s limit) h.0
     ∙ reach_near s limit o n.spans h.1 in
     ap (λ touching. cut_line_by many limit (min (reach_at (limit_of limit) many
-    (ends_of s line.start line.text touching) cells) (line_reach s limit n))
-    (ends_of s line.start line.text touching) cells) on
+    (edit_ends s line.start line.text touching) cells) (line_reach s limit n))
+    (edit_ends s line.start line.text touching) cells) on
     ∙ ap (λ r. cut_line_by many limit (min (line_reach s limit line) r)
     (line_ends s line.start line.text line.spans) cells) beside
 
@@ -168,18 +175,18 @@ near_rows : (s : SnippetSettings) (w : ℕ) (line : ChangedLine) (near : List Sp
 near_rows s w line near other beside come held parts on h =
     let cells : List Cell = line_cells s line.start line.text in
     let bytes : Option ChangedLine → Option (List ℕ) = λ o. option_map (λ (it : ChangedLine). it.text) o in
-    let rows : Option (List Stretch) → Option (List ℕ) → List Highlight → List Mark → List Row =
+    let rows : Option (List LinePart) → Option (List ℕ) → List Highlight → List Underline → List Row =
     λ cut texts ps ms. (sign_start s w line ++ shown_runs (dots s.theme) cut ps cells)
     ∷ cond (look_alike s line.text texts) (before_some (other_start s w) (row_if_some (sign_runs s line.sign 0
-    (shown_marks (dots_in s.theme.characters) cut ms)))) [] in
-    let cut : Option (List Stretch) = changed_cut s line other in
+    (row_underlines (dots_width s.theme.characters) cut ms)))) [] in
+    let cut : Option (List LinePart) = changed_cut s line other in
     let ps : List Highlight = pieces line.style near cells in
-    let ms : List Mark = edit_marks s line.start line.text line.style near in
+    let ms : List Underline = edit_underlines s line.start line.text line.style near in
     let pieces_same : ps ≡ pieces line.style line.spans cells =
     ap (map (λ p. record { bytes = p.bytes; style = cond p.changed line.style plain }))
     (painted_same near line.spans line.start cells held come) in
-    let marks_same : ms ≡ edit_marks s line.start line.text line.style line.spans =
-    ap (λ labels. marks (line_text s line.start line.text) labels) parts in
+    let marks_same : ms ≡ edit_underlines s line.start line.text line.style line.spans =
+    ap (λ labels. marks (measured_line s line.start line.text) labels) parts in
     ap (λ c. rows c (bytes beside) ps ms) (cut_near s s.layout.line_columns line near other beside on h)
     ∙ ap (λ texts. rows cut texts ps ms) (texts_near other beside h)
     ∙ ap (λ x. rows cut (bytes other) x ms) pieces_same

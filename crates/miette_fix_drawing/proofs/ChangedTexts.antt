@@ -9,30 +9,30 @@ use Rattle.std.proofs.lemmas.Bool.Decides.{nat_tests}
 use Rattle.std.proofs.lemmas.List.{at_drop_more, at_drop_all, drop-drop, drop_all, length-drop}
 use Rattle.miette_style.specs.declared.style.Style.{Style}
 use Rattle.miette_style.specs.rules.Styles.{plain}
-use Rattle.miette_label_rules.specs.rules.Answers.{Highlight}
+use Rattle.miette_labels.specs.rules.Answers.{Highlight}
 use Rattle.miette_protocol.specs.rules.Reading.{Span}
-use Rattle.miette_page.specs.rules.Rows.{Glyph, Run}
-use Rattle.miette_page.specs.views.Printouts.{Printout, ◌⊕◌}
-use Rattle.miette_page.specs.views.Tokens.{row_tokens, styled_tokens}
-use Rattle.miette_page.proofs.Paging.{put_append}
-use Rattle.miette_cells.specs.rules.Cells.{Cell, cells_from, characters}
-use Rattle.miette_cells.specs.rules.Widths.{width_of}
-use Rattle.miette_cells.specs.views.Printable.{is_printable, plain_cells}
-use Rattle.miette_cells.proofs.Plaining.{plain_byte, printable_taken}
+use Rattle.miette_style.specs.rules.Rows.{Glyph, Run}
+use Rattle.miette_style.specs.views.Printouts.{Printout, ◌⊕◌}
+use Rattle.miette_style.specs.views.Tokens.{row_tokens, styled_tokens}
+use Rattle.miette_style.proofs.Paging.{put_append}
+use Rattle.miette_columns.specs.rules.Cells.{Cell, cells_from, characters}
+use Rattle.miette_columns.specs.rules.Widths.{width_of}
+use Rattle.miette_columns.specs.views.Printable.{is_printable, plain_cells}
+use Rattle.miette_columns.proofs.Plaining.{plain_byte, printable_taken}
 use Rattle.miette_snippet_rules.specs.rules.Highlighting.{highlight_of}
 use Rattle.miette_snippet_rules.specs.rules.PrintedCells.{cells_beyond, cells_within, line_runs, printed_cells}
 use Rattle.miette_snippet_rules.specs.rules.PrintedCells.{text_bytes}
-use Rattle.miette_snippet_rules.specs.declared.line_bytes.LineBytes.{LineBytes}
-use Rattle.miette_line_columns.specs.views.Passing.{ComeFrom}
+use Rattle.miette_snippet_rules.specs.declared.line_bytes.LineText.{LineText}
+use Rattle.miette_snippet_rules.specs.views.LineScans.{ComeFrom}
 use Rattle.miette_snippet_rules.specs.views.Cuts.{made_runs}
-use Rattle.miette_snippet_rules.specs.declared.stretch.Stretch.{Stretch}
-use Rattle.miette_line_printing.proofs.CellPrints.{within_none, beyond_none}
+use Rattle.miette_snippet_rules.specs.declared.line_part.LinePart.{LinePart}
+use Rattle.miette_snippet_rules.proofs.CellPrints.{within_none, beyond_none}
 use Rattle.miette_snippet_rules.proofs.PlainCells.{dropped}
 use Rattle.miette_snippet_rules.proofs.PlainCells.{printable_cells}
-use Rattle.miette_line_printing.proofs.CutPlain.{plain_codes}
-use Rattle.miette_fix_rows.specs.rules.DiffTexts.{holds_byte, onto_painted, painted, Painted}
-use Rattle.miette_fix_drawing.specs.declared.paint.Painted.{Painted as MadePainted}
-use Rattle.miette_fix_drawing.specs.steps.Pieces.{onto}
+use Rattle.miette_snippet_rules.proofs.CutPlain.{plain_codes}
+use Rattle.miette_fix_rows.specs.rules.DiffTexts.{holds_byte, prepend_piece, diff_pieces, DiffPiece}
+use Rattle.miette_fix_drawing.specs.declared.edit_pieces.DiffPiece.{DiffPiece as MadeDiffPiece}
+use Rattle.miette_fix_drawing.specs.steps.Pieces.{prepend_pieces}
 use Rattle.miette_fix_drawing.specs.steps.Printable.{byte_at, cells_past, pieces_told}
 use Rattle.miette_fix_drawing.proofs.PaintedCells.{AlikeFrom, painted_alike}
 use Rattle.miette_fix_drawing.proofs.Painting.{agree, onto_same}
@@ -59,46 +59,47 @@ agree_own : (v : Bool) → agree v v ≡ true
 agree_own true = refl
 agree_own false = refl
 
-first_painted : (spans : List Span) (v : Bool) (b o c : ℕ) (rest : List Painted) → is_printable b ≡ true
+first_painted : (spans : List Span) (v : Bool) (b o c : ℕ) (rest : List DiffPiece) → is_printable b ≡ true
     → list_any (holds_byte (byte_at o)) spans ≡ v
-    → onto_painted (list_any (holds_byte (cell_of_byte b o c)) spans) (text_bytes b) rest ≡ onto_painted v 1 rest
+    → prepend_piece (list_any (holds_byte (cell_of_byte b o c)) spans) (text_bytes b) rest ≡ prepend_piece v 1 rest
 first_painted spans v b o c rest h there =
-    ap₂ (λ w k. onto_painted w k rest) (held_there b o c spans ∙ there) (one_byte b h)
+    ap₂ (λ w k. prepend_piece w k rest) (held_there b o c spans ∙ there) (one_byte b h)
 
 -- as many bytes as are as the first
 painted_run : (spans : List Span) (v : Bool) (n o c : ℕ) (bs : List ℕ) → list_all is_printable bs ≡ true → 0 < n
     → n ≤ length bs → ((x : ℕ) → o ≤ x → x < o + n → list_any (holds_byte (byte_at x)) spans ≡ v)
-    → painted spans (plain_cells o c bs)
-    ≡ onto_painted v n (painted spans (plain_cells (o + n) (c + n) (drop n bs)))
+    → diff_pieces spans (plain_cells o c bs)
+    ≡ prepend_piece v n (diff_pieces spans (plain_cells (o + n) (c + n) (drop n bs)))
 painted_run spans v zero o c bs h some le alike = absurd (omega (arith, some))
 painted_run spans v (suc n) o c [] h some le alike = absurd (omega (arith, le))
 painted_run spans v (suc zero) o c (b ∷ bs) h some le alike =
-    first_painted spans v b o c (painted spans (plain_cells (o + 1) (c + 1) bs))
+    first_painted spans v b o c (diff_pieces spans (plain_cells (o + 1) (c + 1) bs))
     (and_parts (is_printable b) (list_all is_printable bs) h).0 (alike o (omega arith) (omega arith))
 painted_run spans v (suc (suc n)) o c (b ∷ bs) h some le alike =
     let parts = and_parts (is_printable b) (list_all is_printable bs) h in
-    let rest : ℕ → ℕ → List Painted = λ p q. painted spans (plain_cells p q (drop (suc n) bs)) in
+    let rest : ℕ → ℕ → List DiffPiece = λ p q. diff_pieces spans (plain_cells p q (drop (suc n) bs)) in
     let at : o + 1 + suc n ≡ o + suc (suc n) = omega arith in
     let column : c + 1 + suc n ≡ c + suc (suc n) = omega arith in
     let many : 1 + suc n ≡ suc (suc n) = omega arith in
-    first_painted spans v b o c (painted spans (plain_cells (o + 1) (c + 1) bs)) parts.0
+    first_painted spans v b o c (diff_pieces spans (plain_cells (o + 1) (c + 1) bs)) parts.0
     (alike o (omega arith) (omega arith))
-    ∙ ap (onto_painted v 1) (painted_run spans v (suc n) (o + 1) (c + 1) bs parts.1 (omega arith) (omega (arith, le))
+    ∙ ap (prepend_piece v 1) (painted_run spans v (suc n) (o + 1) (c + 1) bs parts.1 (omega arith) (omega (arith, le))
     (λ x lo lt. alike x (omega (arith, lo)) (omega (arith, lt))))
     ∙ onto_same v v 1 (suc n) (rest (o + 1 + suc n) (c + 1 + suc n)) (agree_own v)
-    ∙ ap (λ k. onto_painted v k (rest (o + 1 + suc n) (c + 1 + suc n))) many
-    ∙ ap₂ (λ p q. onto_painted v (suc (suc n)) (rest p q)) at column
+    ∙ ap (λ k. prepend_piece v k (rest (o + 1 + suc n) (c + 1 + suc n))) many
+    ∙ ap₂ (λ p q. prepend_piece v (suc (suc n)) (rest p q)) at column
 
 -- what bytes from an offset on are found to be
-pub record AreAlike (spans : List Span) (at end : ℕ) (found : MadePainted) : Type 0 where
+pub record AreAlike (spans : List Span) (at end : ℕ) (found : MadeDiffPiece) : Type 0 where
   pub some : 0 < found.bytes
   pub within : at + found.bytes ≤ end
   pub alike : (x : ℕ) → at ≤ x → x < at + found.bytes → list_any (holds_byte (byte_at x)) spans ≡ found.changed
 
-found_run : (text : LineBytes) (spans : List Span) (at : ℕ) (found : MadePainted)
+found_run : (text : LineText) (spans : List Span) (at : ℕ) (found : MadeDiffPiece)
     → list_all is_printable text.bytes.now ≡ true → text.start ≤ at
     → AreAlike spans at (text.start + length text.bytes.now) found
-    → painted spans (cells_past text at) ≡ onto found (painted spans (cells_past text (at + found.bytes)))
+    → diff_pieces spans (cells_past text at) ≡ prepend_pieces found (diff_pieces spans
+    (cells_past text (at + found.bytes)))
 found_run text spans at found h from is =
     let i : ℕ = at - text.start in
     let many : length (drop i text.bytes.now) ≡ length text.bytes.now - i = length-drop i text.bytes.now in
@@ -107,7 +108,8 @@ found_run text spans at found h from is =
     drop-drop found.bytes i text.bytes.now ∙ ap (λ k. drop k text.bytes.now) next in
     painted_run spans found.changed found.bytes at i (drop i text.bytes.now) (dropped i text.bytes.now h) is.some
     (omega (arith, is.within, many, from)) is.alike
-    ∙ ap₂ (λ k xs. onto_painted found.changed found.bytes (painted spans (plain_cells (at + found.bytes) k xs))) next
+    ∙ ap₂ (λ k xs. prepend_piece found.changed found.bytes (diff_pieces spans (plain_cells (at + found.bytes) k xs)))
+    next
     left
 
 plain_come : (o c : ℕ) (bs : List ℕ) → ComeFrom o (plain_cells o c bs)
@@ -115,28 +117,29 @@ plain_come o c [] = tt
 plain_come o c (b ∷ bs) = (omega arith, omega arith, plain_come (o + 1) (c + 1) bs)
 
 -- the bytes from an offset on, where spans that end before it are dropped
-pub run_next : (text : LineBytes) (left spans : List Span) (at : ℕ) (next : MadePainted)
+pub run_next : (text : LineText) (left spans : List Span) (at : ℕ) (next : MadeDiffPiece)
     → list_all is_printable text.bytes.now ≡ true → text.start ≤ at → AlikeFrom at left spans
     → AreAlike left at (text.start + length text.bytes.now) next
-    → onto next (painted left (cells_past text (at + next.bytes))) ≡ painted spans (cells_past text at)
+    → prepend_pieces next (diff_pieces left (cells_past text (at + next.bytes)))
+    ≡ diff_pieces spans (cells_past text at)
 run_next text left spans at next h from alike is =
     sym (found_run text left at next h from is)
     ∙ painted_alike at at left spans (cells_past text at) alike (omega arith)
     (plain_come at (at - text.start) (drop (at - text.start) text.bytes.now))
 
 -- all of them
-pub run_first : (text : LineBytes) (spans : List Span) (first : MadePainted)
+pub run_first : (text : LineText) (spans : List Span) (first : MadeDiffPiece)
     → list_all is_printable text.bytes.now ≡ true
     → AreAlike spans text.start (text.start + length text.bytes.now) first
-    → onto first (painted spans (cells_past text (text.start + first.bytes)))
-    ≡ painted spans (plain_cells text.start 0 text.bytes.now)
+    → prepend_pieces first (diff_pieces spans (cells_past text (text.start + first.bytes)))
+    ≡ diff_pieces spans (plain_cells text.start 0 text.bytes.now)
 run_first text spans first h is =
     let none : text.start - text.start ≡ 0 = omega arith in
     sym (found_run text spans text.start first h (omega arith) is)
-    ∙ ap (λ k. painted spans (plain_cells text.start k (drop k text.bytes.now))) none
+    ∙ ap (λ k. diff_pieces spans (plain_cells text.start k (drop k text.bytes.now))) none
 
 -- none is left
-pub none_past : (text : LineBytes) (at : ℕ) → text.start + length text.bytes.now ≤ at → cells_past text at ≡ []
+pub none_past : (text : LineText) (at : ℕ) → text.start + length text.bytes.now ≤ at → cells_past text at ≡ []
 none_past text at le =
     ap (plain_cells at (at - text.start))
     (drop_all (at - text.start) text.bytes.now (omega (arith, le)))
@@ -210,7 +213,7 @@ pieces_left pieces i rest p r whole le hr inv =
     hr ∙ ap (λ xs. p ⊕ pieces_told xs rest) (sym (at_drop_all (map highlight_of) pieces i le)) ∙ inv
 
 -- a line that isn't cut
-pub printable_put : (run : Run) (tab start : ℕ) (pieces : List (ℕ × Style)) (bs : List ℕ) (cut : Option (List Stretch))
+pub printable_put : (run : Run) (tab start : ℕ) (pieces : List (ℕ × Style)) (bs : List ℕ) (cut : Option (List LinePart))
     (p q : Printout) → cut ≡ None → list_all is_printable bs ≡ true
     → q ≡ p ⊕ pieces_told (map highlight_of pieces) bs
     → q ≡ p

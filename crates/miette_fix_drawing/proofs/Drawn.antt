@@ -4,24 +4,24 @@ use Rattle.std.proofs.Common.{length, refl, sym, ap, ap₂, ◌∙◌, subst, ar
 use Rattle.std.specs.Prelude.{option_copied}
 use Rattle.std.proofs.lemmas.Bool.{eqb-true}
 use Rattle.miette_protocol.specs.rules.Reading.{Source, Span}
-use Rattle.miette_page.specs.views.Printouts.{Printout, ◌⊕◌}
-use Rattle.miette_page.specs.views.Tokens.{rows_tokens}
+use Rattle.miette_style.specs.views.Printouts.{Printout, ◌⊕◌}
+use Rattle.miette_style.specs.views.Tokens.{rows_tokens}
 use Rattle.miette_snippet_rules.specs.rules.Frames.{top_row_of, bottom_row}
-use Rattle.miette_snippet_rules.specs.rules.Settings.{SnippetSettings}
-use Rattle.miette_snippet_rules.specs.views.Settings.{settings_of}
+use Rattle.miette_snippet_rules.specs.rules.SnippetSettings.{SnippetSettings}
+use Rattle.miette_snippet_rules.specs.views.SnippetSettings.{settings_of}
 use Rattle.miette_fixes.specs.declared.error.FixError.{FixError}
-use Rattle.miette_fixes.specs.rules.Applying.{by_offset, refusal}
+use Rattle.miette_fixes.specs.rules.Applying.{by_offset, edits_error}
 use Rattle.miette_fixes.specs.rules.Edits.{Replacement, end_of}
 use Rattle.miette_fixes.specs.views.Ordered.{FitFrom}
 use Rattle.miette_fix_rows.specs.rules.DiffFrames.{DiffFrame, frames_from, frames_of}
 use Rattle.miette_fix_rows.specs.rules.DiffRows.{fix_rows, frame_rows, frame_width, place_at, rows_of_frames}
-use Rattle.miette_fix_rows.specs.rules.DiffRows.{rows_of_lines, rows_unless}
+use Rattle.miette_fix_rows.specs.rules.DiffRows.{rows_of_diff_lines, fix_rows_unless}
 use Rattle.miette_fix_rows.specs.rules.DiffTexts.{deleted_spans, inserted_from, inserted_spans}
 use Rattle.miette_fix_rows.specs.rules.Hunks.{Change, Hunk, changes, diff, diff_from}
 use Rattle.miette_fix_drawing.specs.declared.frames.FixDrawing.{FixDrawing}
 use Rattle.miette_fix_drawing.specs.steps.Framing.{context_over, drawn_frame, drawn_frames}
 use Rattle.miette_fix_drawing.specs.steps.Spans.{AreApart, AreApartFrom}
-use Rattle.miette_fix_drawing.specs.views.Frames.{start_standing}
+use Rattle.miette_fix_drawing.specs.views.Frames.{first_position}
 
 -- ---- what edits delete and insert
 
@@ -53,9 +53,9 @@ frame_is drawing whole edits frame bytes name deleted inserted =
     let s : SnippetSettings = settings_of drawing.settings in
     let w : ℕ = frame_width frame in
     ap₂ (λ n bs. top_row_of s w n true (Some (place_at bs frame.place))
-    ∷ rows_of_lines (context_over drawing w) frame.at frame.lines ++ bottom_row s w ∷ []) (sym name) (sym bytes)
+    ∷ rows_of_diff_lines (context_over drawing w) frame.at frame.lines ++ bottom_row s w ∷ []) (sym name) (sym bytes)
     ∙ ap₂ (λ ds is. top_row_of s w whole.name true (Some (place_at whole.bytes frame.place))
-    ∷ rows_of_lines (record { settings = s; number_width = w; deleted = ds; inserted = is }) frame.at frame.lines
+    ∷ rows_of_diff_lines (record { settings = s; number_width = w; deleted = ds; inserted = is }) frame.at frame.lines
     ++ bottom_row s w ∷ []) deleted inserted
 
 drawn_are : (drawing : FixDrawing) (whole : Source) (edits : List Replacement) (frames : List DiffFrame)
@@ -75,13 +75,13 @@ pub drawn_put : (drawing : FixDrawing) (whole : Source) (edits : List Replacemen
     → made ≡ changes drawing.source.now edits → hunks ≡ (diff_from drawing.source.now 0 made).hunks
     → after ≡ (diff_from drawing.source.now 0 made).after_hunks
     → n ≡ p ⊕ rows_tokens (drawn_frames drawing
-    (frames_from drawing.settings.layout.now.context_lines after false start_standing hunks))
+    (frames_from drawing.settings.layout.now.context_lines after false first_position hunks))
     → n ≡ p ⊕ rows_tokens (rows_of_frames (settings_of drawing.settings) whole (by_offset edits)
     (frames_of (settings_of drawing.settings).layout.context_lines (diff whole.bytes edits)))
 drawn_put drawing whole edits made hunks after p n bytes name deleted inserted c h b put =
     let k : ℕ = drawing.settings.layout.now.context_lines in
     put
-    ∙ ap₂ (λ ls hs. p ⊕ rows_tokens (drawn_frames drawing (frames_from k ls false start_standing hs))) b h
+    ∙ ap₂ (λ ls hs. p ⊕ rows_tokens (drawn_frames drawing (frames_from k ls false first_position hs))) b h
     ∙ ap (λ cs. p ⊕ rows_tokens (drawn_frames drawing (frames_of k (diff_from drawing.source.now 0 cs)))) c
     ∙ ap (λ bs. p ⊕ rows_tokens (drawn_frames drawing (frames_of k (diff bs edits)))) (sym bytes)
     ∙ ap (λ rs. p ⊕ rows_tokens rs) (drawn_are drawing whole (by_offset edits) (frames_of k (diff whole.bytes edits))
@@ -90,10 +90,10 @@ drawn_put drawing whole edits made hunks after p n bytes name deleted inserted c
 -- ---- the rows of a fix
 
 rows_by : (s : SnippetSettings) (whole : Source) (edits : List Replacement) (r : Option FixError)
-    → eqb (length edits) 0 ≡ false → refusal (length whole.bytes) edits ≡ r
-    → rows_unless s whole edits r ≡ fix_rows s whole false edits
+    → eqb (length edits) 0 ≡ false → edits_error (length whole.bytes) edits ≡ r
+    → fix_rows_unless s whole edits r ≡ fix_rows s whole false edits
 rows_by s whole [] r some h = absurd (cc)
-rows_by s whole (edit ∷ edits) r some h = ap (rows_unless s whole (edit ∷ edits)) (sym h)
+rows_by s whole (edit ∷ edits) r some h = ap (fix_rows_unless s whole (edit ∷ edits)) (sym h)
 
 no_rows : (s : SnippetSettings) (whole : Source) (edits : List Replacement) (p : Printout)
     → eqb (length edits) 0 ≡ true → p ≡ p ⊕ rows_tokens (fix_rows s whole false edits)
@@ -108,8 +108,9 @@ no_edit_drawn s whole given edits p g e = no_rows s whole edits p (sym (ap (λ e
 pub edits_drawn : (s : SnippetSettings) (whole : Source) (bytes : List ℕ) (size : ℕ)
     (given again edits : List Replacement) (r : Option FixError) (p n : Printout) → given ≡ edits → eqb (length given) 0
     ≡ false → whole.bytes ≡ bytes
-    → size ≡ length bytes → again ≡ edits → refusal size again ≡ r → n ≡ p ⊕ rows_tokens (rows_unless s whole edits r)
+    → size ≡ length bytes → again ≡ edits → edits_error size again ≡ r → n
+    ≡ p ⊕ rows_tokens (fix_rows_unless s whole edits r)
     → n ≡ p ⊕ rows_tokens (fix_rows s whole false edits)
 edits_drawn s whole bytes size given again edits r p n g e b k a h put =
     put ∙ ap (λ rs. p ⊕ rows_tokens rs) (rows_by s whole edits r (sym (ap (λ es. eqb (length es) 0) g) ∙ e)
-    (ap (λ bs. refusal (length bs) edits) b ∙ ap₂ refusal (sym k) (sym a) ∙ h))
+    (ap (λ bs. edits_error (length bs) edits) b ∙ ap₂ edits_error (sym k) (sym a) ∙ h))

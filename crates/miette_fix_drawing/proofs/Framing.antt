@@ -7,17 +7,18 @@ use Rattle.std.proofs.Math.Seq.{drop-cons}
 use Rattle.std.proofs.lemmas.Grind.{flat_map-append}
 use Rattle.std.proofs.lemmas.List.{drop-drop, length-drop, nil_from_length, take_rest}
 use Rattle.miette_fix_rows.proofs.Texts.{bytes_of-append, bytes_of_texts, texts_drop, texts_take}
-use Rattle.miette_page.specs.rules.Rows.{Row}
-use Rattle.miette_page.specs.views.Printouts.{Printout, ◌⊕◌}
-use Rattle.miette_page.specs.views.Tokens.{rows_tokens}
-use Rattle.miette_frames.proofs.TextRows.{rows_then}
+use Rattle.miette_style.specs.rules.Rows.{Row}
+use Rattle.miette_style.specs.views.Printouts.{Printout, ◌⊕◌}
+use Rattle.miette_style.specs.views.Tokens.{rows_tokens}
+use Rattle.miette_snippet_frames.proofs.TextRows.{rows_then}
 use Rattle.miette_fix_rows.specs.rules.Blocks.{bytes_of, line_texts}
 use Rattle.miette_fix_rows.specs.rules.Hunks.{Change, Hunk, removed_lines}
-use Rattle.miette_fix_rows.specs.rules.DiffFrames.{DiffFrame, DiffLine, Standing, added_from, added_with}
+use Rattle.miette_fix_rows.specs.rules.DiffFrames.{DiffFrame, DiffLine, DiffPosition, added_from, added_with}
 use Rattle.miette_fix_rows.specs.rules.DiffFrames.{after_hunk, changed_lines, removed_from, removed_with}
-use Rattle.miette_fix_rows.specs.rules.DiffFrames.{first_place, frame_at, frames_from, is_near, kept_lines}
+use Rattle.miette_fix_rows.specs.rules.DiffFrames.{first_place, frame_at, frames_from, is_near_hunk, kept_lines}
 use Rattle.miette_fix_rows.specs.rules.DiffFrames.{left_before, past_hunk, past_kept}
-use Rattle.miette_fix_rows.specs.rules.DiffRows.{DiffContext, largest, number_of, past, rows_of_line, rows_of_lines}
+use Rattle.miette_fix_rows.specs.rules.DiffRows.{DiffContext, largest_number, number_of, past, rows_of_diff_line}
+use Rattle.miette_fix_rows.specs.rules.DiffRows.{rows_of_diff_lines}
 use Rattle.miette_fix_drawing.specs.declared.hunks.Hunk.{Hunk as MadeHunk}
 use Rattle.miette_fix_drawing.specs.steps.Framing.{IsFar}
 use Rattle.miette_fix_drawing.specs.views.Hunks.{hunks_of}
@@ -29,31 +30,31 @@ use Rattle.miette_fix_drawing.specs.views.ShownLines.{lines_of_segment, lines_of
 
 -- ---- lines one after the other
 
-pub rows_append : (c : DiffContext) (at : Standing) (a b : List DiffLine)
-    → rows_of_lines c at (a ++ b) ≡ rows_of_lines c at a ++ rows_of_lines c (past_lines at a) b
+pub rows_append : (c : DiffContext) (at : DiffPosition) (a b : List DiffLine)
+    → rows_of_diff_lines c at (a ++ b) ≡ rows_of_diff_lines c at a ++ rows_of_diff_lines c (past_lines at a) b
 rows_append c at [] b = refl
 rows_append c at (l ∷ a) b =
-    ap (λ rows. rows_of_line c at l ++ rows) (rows_append c (past at l) a b)
-    ∙ sym (append_assoc (rows_of_line c at l) (rows_of_lines c (past at l) a)
-    (rows_of_lines c (past_lines (past at l) a) b))
+    ap (λ rows. rows_of_diff_line c at l ++ rows) (rows_append c (past at l) a b)
+    ∙ sym (append_assoc (rows_of_diff_line c at l) (rows_of_diff_lines c (past at l) a)
+    (rows_of_diff_lines c (past_lines (past at l) a) b))
 
 max_turned : (a b c : ℕ) → max a (max b c) ≡ max (max a b) c
 max_turned a b c = omega arith
 
-pub largest_append : (at : Standing) (a b : List DiffLine)
-    → largest at (a ++ b) ≡ max (largest at a) (largest (past_lines at a) b)
+pub largest_append : (at : DiffPosition) (a b : List DiffLine)
+    → largest_number at (a ++ b) ≡ max (largest_number at a) (largest_number (past_lines at a) b)
 largest_append at [] b = omega arith
 largest_append at (l ∷ a) b =
     ap (max (number_of at l)) (largest_append (past at l) a b)
-    ∙ max_turned (number_of at l) (largest (past at l) a) (largest (past_lines (past at l) a) b)
+    ∙ max_turned (number_of at l) (largest_number (past at l) a) (largest_number (past_lines (past at l) a) b)
 
 -- the rows of lines after others, once those of the others are put
-pub rows_on : (c : DiffContext) (at next : Standing) (a b : List DiffLine) (p q : Printout) → next ≡ past_lines at a
-    → q ≡ p ⊕ rows_tokens (rows_of_lines c at a)
-    → q ⊕ rows_tokens (rows_of_lines c next b) ≡ p ⊕ rows_tokens (rows_of_lines c at (a ++ b))
+pub rows_on : (c : DiffContext) (at next : DiffPosition) (a b : List DiffLine) (p q : Printout) → next ≡ past_lines at a
+    → q ≡ p ⊕ rows_tokens (rows_of_diff_lines c at a)
+    → q ⊕ rows_tokens (rows_of_diff_lines c next b) ≡ p ⊕ rows_tokens (rows_of_diff_lines c at (a ++ b))
 rows_on c at next a b p q e h =
-    rows_then (rows_of_lines c at a) (rows_of_lines c next b) p q _ h refl
-    ∙ ap (λ s. p ⊕ rows_tokens (rows_of_lines c at a ++ rows_of_lines c s b)) e
+    rows_then (rows_of_diff_lines c at a) (rows_of_diff_lines c next b) p q _ h refl
+    ∙ ap (λ s. p ⊕ rows_tokens (rows_of_diff_lines c at a ++ rows_of_diff_lines c s b)) e
     ∙ ap (λ rows. p ⊕ rows_tokens rows) (sym (rows_append c at a b))
 
 -- rows after others, once the others are put
@@ -64,24 +65,25 @@ rows_done rows more all p q r h e g =
 
 -- ---- segments one after the other
 
-pub past_of_segments : (at : Standing) (ss : List Segment) → past_segments at ss ≡ past_lines at (lines_of_segments ss)
+pub past_of_segments : (at : DiffPosition) (ss : List Segment) → past_segments at ss
+    ≡ past_lines at (lines_of_segments ss)
 past_of_segments at [] = refl
 past_of_segments at (s ∷ ss) =
     past_of_segments (past_lines at (lines_of_segment s)) ss
     ∙ sym (past_append at (lines_of_segment s) (lines_of_segments ss))
 
-pub largest_of_segments : (at : Standing) (ss : List Segment)
-    → largest_segments at ss ≡ largest at (lines_of_segments ss)
+pub largest_of_segments : (at : DiffPosition) (ss : List Segment)
+    → largest_segments at ss ≡ largest_number at (lines_of_segments ss)
 largest_of_segments at [] = refl
 largest_of_segments at (s ∷ ss) =
-    ap (max (largest at (lines_of_segment s))) (largest_of_segments (past_lines at (lines_of_segment s)) ss)
+    ap (max (largest_number at (lines_of_segment s))) (largest_of_segments (past_lines at (lines_of_segment s)) ss)
     ∙ sym (largest_append at (lines_of_segment s) (lines_of_segments ss))
 
-pub rows_of_all_segments : (c : DiffContext) (at : Standing) (ss : List Segment)
-    → rows_of_segments c at ss ≡ rows_of_lines c at (lines_of_segments ss)
+pub rows_of_all_segments : (c : DiffContext) (at : DiffPosition) (ss : List Segment)
+    → rows_of_segments c at ss ≡ rows_of_diff_lines c at (lines_of_segments ss)
 rows_of_all_segments c at [] = refl
 rows_of_all_segments c at (s ∷ ss) =
-    ap (λ rows. rows_of_lines c at (lines_of_segment s) ++ rows)
+    ap (λ rows. rows_of_diff_lines c at (lines_of_segment s) ++ rows)
     (rows_of_all_segments c (past_lines at (lines_of_segment s)) ss)
     ∙ sym (rows_append c at (lines_of_segment s) (lines_of_segments ss))
 
@@ -98,22 +100,22 @@ rest_texts bs n k e =
 
 -- ---- hunks
 
-near_frames : (context : ℕ) (after : List (List ℕ)) (at : Standing) (hunk : Hunk) (more : List Hunk)
-    → is_near context hunk ≡ true
+near_frames : (context : ℕ) (after : List (List ℕ)) (at : DiffPosition) (hunk : Hunk) (more : List Hunk)
+    → is_near_hunk context hunk ≡ true
     → frames_from context after true at (hunk ∷ more) ≡ frames_from context after true (past_hunk at hunk) more
 near_frames context after at hunk more e =
     ap (λ b. cond b (frames_from context after true (past_hunk at hunk) more)
     (frame_at context at hunk (after_hunk context after more) ∷ frames_from context after true (past_hunk at hunk)
     more)) e
 
-near_after : (context : ℕ) (after : List (List ℕ)) (hunk : Hunk) (more : List Hunk) → is_near context hunk ≡ true
+near_after : (context : ℕ) (after : List (List ℕ)) (hunk : Hunk) (more : List Hunk) → is_near_hunk context hunk ≡ true
     → after_hunk context after (hunk ∷ more)
     ≡ kept_lines hunk.kept ++ (changed_lines hunk.changes ++ after_hunk context after more)
 near_after context after hunk more e =
     ap (λ b. cond b (kept_lines hunk.kept ++ (changed_lines hunk.changes ++ after_hunk context after more))
     (kept_lines (take context hunk.kept))) e
 
-pub far_frames : (context : ℕ) (after : List (List ℕ)) (at : Standing) (hunks : List Hunk) → IsFar context hunks
+pub far_frames : (context : ℕ) (after : List (List ℕ)) (at : DiffPosition) (hunks : List Hunk) → IsFar context hunks
     → frames_from context after true at hunks ≡ frames_from context after false at hunks
 far_frames context after at [] far = refl
 far_frames context after at (hunk ∷ more) far =
@@ -123,7 +125,7 @@ far_frames context after at (hunk ∷ more) far =
 
 -- lines with those of a hunk that is near, and what goes on after it
 pub near_lines : (context : ℕ) (after : List (List ℕ)) (hunk : Hunk) (more : List Hunk) (made next : List DiffLine)
-    → is_near context hunk ≡ true → next ≡ made ++ (kept_lines hunk.kept ++ changed_lines hunk.changes)
+    → is_near_hunk context hunk ≡ true → next ≡ made ++ (kept_lines hunk.kept ++ changed_lines hunk.changes)
     → next ++ after_hunk context after more ≡ made ++ after_hunk context after (hunk ∷ more)
 near_lines context after hunk more made next e h =
     let kept : List DiffLine = kept_lines hunk.kept in
@@ -133,8 +135,8 @@ near_lines context after hunk more made next e h =
     ∙ ap (λ ls. made ++ ls) (append_assoc kept changed rest) ∙ ap (λ ls. made ++ ls)
     (sym (near_after context after hunk more e))
 
-pub near_standing : (context : ℕ) (after : List (List ℕ)) (at : Standing) (hunk : Hunk) (more : List Hunk)
-    (made next : List DiffLine) → is_near context hunk ≡ true
+pub near_standing : (context : ℕ) (after : List (List ℕ)) (at : DiffPosition) (hunk : Hunk) (more : List Hunk)
+    (made next : List DiffLine) → is_near_hunk context hunk ≡ true
     → next ≡ made ++ (kept_lines hunk.kept ++ changed_lines hunk.changes)
     → frames_from context after true (past_lines at next) more
     ≡ frames_from context after true (past_lines at made) (hunk ∷ more)
@@ -155,16 +157,16 @@ item_first xs i x lt e =
 drop_none : {A : Type 0} (xs : List A) (i : ℕ) → length xs ≤ i → drop i xs ≡ []
 drop_none xs i le = nil_from_length (drop i xs) (omega (arith, length-drop i xs, le))
 
-pub past_end : (at end : Standing) (ss : List Segment) (i : ℕ) → length ss ≤ i → past_segments at (drop i ss) ≡ end
+pub past_end : (at end : DiffPosition) (ss : List Segment) (i : ℕ) → length ss ≤ i → past_segments at (drop i ss) ≡ end
     → at ≡ end
 past_end at end ss i le h = ap (past_segments at) (sym (drop_none ss i le)) ∙ h
 
-pub most_end : (at : Standing) (ss : List Segment) (i most all : ℕ) → length ss ≤ i
+pub most_end : (at : DiffPosition) (ss : List Segment) (i most all : ℕ) → length ss ≤ i
     → max most (largest_segments at (drop i ss)) ≡ all → most ≡ all
 most_end at ss i most all le h =
     let e : largest_segments at (drop i ss) ≡ 0 = ap (largest_segments at) (drop_none ss i le) in omega (arith, h, e)
 
-pub rows_end : (c : DiffContext) (at : Standing) (ss : List Segment) (i : ℕ) (p r : Printout) → length ss ≤ i
+pub rows_end : (c : DiffContext) (at : DiffPosition) (ss : List Segment) (i : ℕ) (p r : Printout) → length ss ≤ i
     → p ⊕ rows_tokens (rows_of_segments c at (drop i ss)) ≡ r → p ≡ r
 rows_end c at ss i p r le h =
     ap (λ x. p ⊕ rows_tokens (rows_of_segments c at x)) (sym (drop_none ss i le)) ∙ h
@@ -228,20 +230,20 @@ bytes_end cs i size all le h =
     ap (λ xs. bytes_of (removed_lines xs)) (drop_none cs i le) in
     omega (arith, h, none)
 
-pub largest_pushed : (at next : Standing) (ss : List Segment) (s : Segment) (m n : ℕ)
-    → m ≡ largest at (lines_of_segments ss) → next ≡ past_lines at (lines_of_segments ss)
-    → n ≡ max m (largest next (lines_of_segment s)) → n ≡ largest at (lines_of_segments (ss ++ s ∷ []))
+pub largest_pushed : (at next : DiffPosition) (ss : List Segment) (s : Segment) (m n : ℕ)
+    → m ≡ largest_number at (lines_of_segments ss) → next ≡ past_lines at (lines_of_segments ss)
+    → n ≡ max m (largest_number next (lines_of_segment s)) → n ≡ largest_number at (lines_of_segments (ss ++ s ∷ []))
 largest_pushed at next ss s m n hm hn h =
-    h ∙ ap (λ k. max k (largest next (lines_of_segment s))) hm
-    ∙ ap (λ x. max (largest at (lines_of_segments ss)) (largest x (lines_of_segment s))) hn
+    h ∙ ap (λ k. max k (largest_number next (lines_of_segment s))) hm
+    ∙ ap (λ x. max (largest_number at (lines_of_segments ss)) (largest_number x (lines_of_segment s))) hn
     ∙ sym (largest_append at (lines_of_segments ss) (lines_of_segment s))
-    ∙ ap (largest at) (sym (segments_pushed ss s))
+    ∙ ap (largest_number at) (sym (segments_pushed ss s))
 
 -- a frame from its parts: where it begins, the offset that it points to, and its lines in three steps
-abbrev framed : Standing → ℕ → List DiffLine → DiffFrame
+abbrev framed : DiffPosition → ℕ → List DiffLine → DiffFrame
 framed at place lines = record { at = at; place = place; lines = lines }
 
-pub frame_made : (context : ℕ) (after : List (List ℕ)) (at from : Standing) (hunk : Hunk) (rest more : List Hunk)
+pub frame_made : (context : ℕ) (after : List (List ℕ)) (at from : DiffPosition) (hunk : Hunk) (rest more : List Hunk)
     (place : ℕ) (first made all : List Segment) (last : Segment)
     → from ≡ past_kept at (take (left_before context hunk) hunk.kept)
     → lines_of_segments first
@@ -268,13 +270,13 @@ pub all_more : (P : Hunk → Type 0) (xs ys : List Hunk) (x : Hunk) → xs ≡ x
     → AllByRecursion P ys
 all_more P xs ys x e h = let k : AllByRecursion P (x ∷ ys) = subst (λ l. AllByRecursion P l) e h in k.1
 
-pub rows_next : (c : DiffContext) (at next : Standing) (ss more : List Segment) (s : Segment) (p q r : Printout)
+pub rows_next : (c : DiffContext) (at next : DiffPosition) (ss more : List Segment) (s : Segment) (p q r : Printout)
     → ss ≡ s ∷ more → next ≡ past_lines at (lines_of_segment s)
-    → q ≡ p ⊕ rows_tokens (rows_of_lines c at (lines_of_segment s))
+    → q ≡ p ⊕ rows_tokens (rows_of_diff_lines c at (lines_of_segment s))
     → p ⊕ rows_tokens (rows_of_segments c at ss) ≡ r → q ⊕ rows_tokens (rows_of_segments c next more) ≡ r
 rows_next c at next ss more s p q r e n h g =
     ap (λ x. q ⊕ rows_tokens (rows_of_segments c x more)) n
-    ∙ rows_done (rows_of_lines c at (lines_of_segment s))
+    ∙ rows_done (rows_of_diff_lines c at (lines_of_segment s))
     (rows_of_segments c (past_lines at (lines_of_segment s)) more) (rows_of_segments c at ss) p q r h
     (ap (rows_of_segments c at) e) g
 

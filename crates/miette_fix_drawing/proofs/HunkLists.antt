@@ -5,10 +5,10 @@ use Rattle.std.specs.Prelude.{slice_range}
 use Rattle.std.proofs.lemmas.Bool.{cases_lt, eqb-true, eqb-false}
 use Rattle.std.proofs.lemmas.Bool.Decides.{eqb_tells}
 use Rattle.std.proofs.lemmas.List.{append-nil}
-use Rattle.miette_basics.proofs.Cases.{by_cases}
-use Rattle.miette_source_lines.proofs.Parts.{part_length}
+use Rattle.miette_lines.proofs.Cases.{by_cases}
+use Rattle.miette_lines.proofs.Parts.{part_length}
 use Rattle.miette_fix_rows.specs.rules.Blocks.{line_texts}
-use Rattle.miette_fix_rows.specs.rules.Hunks.{Change, Diff, Hunk, diff_from, is_nil, with_change}
+use Rattle.miette_fix_rows.specs.rules.Hunks.{Change, Diff, Hunk, diff_from, has_no_lines, with_change}
 use Rattle.miette_fix_rows.specs.rules.Hunks.{with_kept}
 use Rattle.miette_fix_rows.proofs.Texts.{some_lines}
 use Rattle.miette_fix_drawing.specs.declared.hunks.Hunk.{Hunk as MadeHunk}
@@ -32,11 +32,11 @@ abbrev headed : List (List ℕ) → List Change → Diff → Diff
 headed kept changes d =
     record { hunks = record { kept = kept; changes = changes } ∷ d.hunks; after_hunks = d.after_hunks }
 
-joins : (change : Change) (kept : List (List ℕ)) (changes : List Change) (d : Diff) → is_nil kept ≡ true
+joins : (change : Change) (kept : List (List ℕ)) (changes : List Change) (d : Diff) → has_no_lines kept ≡ true
     → with_change change (headed kept changes d) ≡ headed [] (change ∷ changes) d
 joins change kept changes d t = rw t refl
 
-stands_alone : (change : Change) (kept : List (List ℕ)) (changes : List Change) (d : Diff) → is_nil kept ≡ false
+stands_alone : (change : Change) (kept : List (List ℕ)) (changes : List Change) (d : Diff) → has_no_lines kept ≡ false
     → with_change change (headed kept changes d) ≡ headed [] (change ∷ []) (headed kept changes d)
 stands_alone change kept changes d f = rw f refl
 
@@ -72,15 +72,15 @@ first_hunk source at c (d ∷ ds) h =
     ∙ by_cases {C = with_kept ls (with_change c (headed kept (d ∷ take (joined d.to ds) ds) (after source d.to ds)))
     ≡ headed ls (c ∷ take (joined c.to (d ∷ ds)) (d ∷ ds)) (after source c.to (d ∷ ds))} (eqb d.from c.to)
     (λ t. let same : d.from ≡ c.to = eqb-true d.from c.to t in
-    let nil : is_nil kept ≡ true =
-    ap (λ n. is_nil (line_texts (slice_range source c.to n))) same
-    ∙ ap (λ bs. is_nil (line_texts bs)) (none_between source c.to) in
+    let nil : has_no_lines kept ≡ true =
+    ap (λ n. has_no_lines (line_texts (slice_range source c.to n))) same
+    ∙ ap (λ bs. has_no_lines (line_texts bs)) (none_between source c.to) in
     ap (with_kept ls) (joins c kept (d ∷ take (joined d.to ds) ds) (after source d.to ds) nil
     ∙ one_more source c.to c d ds t)
     ∙ kept_before ls (c ∷ take (joined c.to (d ∷ ds)) (d ∷ ds)) (after source c.to (d ∷ ds)))
     (λ f. let long : length (slice_range source c.to d.from) ≡ d.from - c.to =
     part_length source c.to d.from (omega (arith, rest.1, rest.2)) in
-    let some : is_nil kept ≡ false =
+    let some : has_no_lines kept ≡ false =
     some_lines (slice_range source c.to d.from) (omega (arith, long, rest.0, apart_by c.to d.from rest.0 f)) in
     ap (with_kept ls) (stands_alone c kept (d ∷ take (joined d.to ds) ds) (after source d.to ds) some
     ∙ ap (headed [] (c ∷ [])) (sym next)

@@ -3,13 +3,13 @@ use Rattle.std.proofs.Common.{ℕ, ◌-◌, ◌≡◌, ◌≤◌, List, [], ◌�
 use Rattle.std.proofs.Common.{◌∙◌, subst, arith}
 use Rattle.std.specs.Prelude.{slice_range}
 use Rattle.std.specs.List.{AllByRecursion}
-use Rattle.miette_basics.proofs.Cases.{by_cases}
-use Rattle.miette_source_lines.proofs.Parts.{part_length}
+use Rattle.miette_lines.proofs.Cases.{by_cases}
+use Rattle.miette_lines.proofs.Parts.{part_length}
 use Rattle.miette_fix_rows.specs.rules.Blocks.{line_texts}
-use Rattle.miette_fix_rows.specs.rules.Hunks.{Change, Diff, Hunk, diff_from, is_nil, onto_hunks, onto_kept}
+use Rattle.miette_fix_rows.specs.rules.Hunks.{Change, Diff, Hunk, diff_from, has_no_lines, onto_hunks, onto_kept}
 use Rattle.miette_fix_drawing.specs.declared.hunks.Hunk.{Hunk as MadeHunk}
 use Rattle.miette_fix_drawing.specs.steps.Framing.{PointsWithin}
-use Rattle.miette_fix_drawing.specs.steps.Places.{StandsIn}
+use Rattle.miette_fix_drawing.specs.steps.Places.{HunkIsIn}
 use Rattle.miette_fix_drawing.specs.steps.Rising.{AreRising}
 
 kept_within : (size : ℕ) (lines : List (List ℕ)) (hunks : List Hunk) (after : List (List ℕ))
@@ -22,7 +22,7 @@ change_within : (size : ℕ) (change : Change) (hunks : List Hunk) → change.pl
     → AllByRecursion (PointsWithin size) hunks → AllByRecursion (PointsWithin size) (onto_hunks change hunks)
 change_within size change [] le h = (le, tt)
 change_within size change (hunk ∷ hunks) le h =
-    by_cases {C = AllByRecursion (PointsWithin size) (onto_hunks change (hunk ∷ hunks))} (is_nil hunk.kept)
+    by_cases {C = AllByRecursion (PointsWithin size) (onto_hunks change (hunk ∷ hunks))} (has_no_lines hunk.kept)
     (λ t. rw t (le, h.1)) (λ f. rw f (le, h))
 
 pub hunks_within : (source : List ℕ) (size at : ℕ) (changes : List Change) → AreRising size at changes
@@ -43,11 +43,11 @@ all_pushed P (y ∷ xs) x h p = (h.0, all_pushed P xs x h.1 p)
 -- one more that stands in the source
 pub stand_put : (source : List ℕ) (at from : ℕ) (xs ys : List MadeHunk) (hunk : MadeHunk) → at ≤ from
     → from ≤ length source → hunk.at ≡ at → hunk.kept.now ≡ slice_range source at from
-    → AllByRecursion (StandsIn source) xs → ys ≡ xs ++ hunk ∷ [] → AllByRecursion (StandsIn source) ys
+    → AllByRecursion (HunkIsIn source) xs → ys ≡ xs ++ hunk ∷ [] → AllByRecursion (HunkIsIn source) ys
 stand_put source at from xs ys hunk le within a k h e =
     let long : length hunk.kept.now ≡ from - at = ap length k ∙ part_length source at from within in
-    let stands : StandsIn source hunk = record {
+    let stands : HunkIsIn source hunk = record {
       kept = k ∙ ap₂ (λ n o. take n (drop o source)) (sym long) (sym a);
       within = omega (arith, long, a, le, within);
     } in
-    subst (AllByRecursion (StandsIn source)) (sym e) (all_pushed (StandsIn source) xs hunk h stands)
+    subst (AllByRecursion (HunkIsIn source)) (sym e) (all_pushed (HunkIsIn source) xs hunk h stands)

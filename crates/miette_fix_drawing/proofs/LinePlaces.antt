@@ -5,9 +5,9 @@ use Rattle.std.specs.Prelude.{nat_eq, nat_le, slice_index}
 use Rattle.std.proofs.lemmas.Bool.{cases_lt, le-leb, lt-leb}
 use Rattle.std.proofs.lemmas.Bool.Decides.{nat_tests}
 use Rattle.std.proofs.lemmas.List.{take-take, take_all}
-use Rattle.miette_source_lines.specs.rules.Lines.{ends_line, line_of, line_start}
-use Rattle.miette_source_lines.proofs.Places.{line_of-is, line_of_le, line_start-is}
-use Rattle.miette_source_lines.proofs.Scans.{after, ends_before}
+use Rattle.miette_lines.specs.rules.Lines.{ends_line, line_of, line_start}
+use Rattle.miette_lines.proofs.Places.{line_of-is, line_of_le, line_start-is}
+use Rattle.miette_lines.proofs.Scans.{after, ends_before}
 use Rattle.miette_fix_rows.specs.rules.Blocks.{bytes_of, line_texts, onto_line}
 use Rattle.miette_fix_rows.proofs.Texts.{bytes_of-take, bytes_of_texts, first_some}
 

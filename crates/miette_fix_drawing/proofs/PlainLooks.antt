@@ -5,13 +5,13 @@ use Rattle.std.specs.Prelude.{◌||◌}
 use Rattle.std.specs.Char.{is_whitespace}
 use Rattle.std.specs.List.{list_all}
 use Rattle.std.proofs.lemmas.Bool.{and_parts, le-ltb, lt-ltb, ne_eqb}
-use Rattle.miette_basics.proofs.Cases.{by_cases}
-use Rattle.miette_cells.proofs.Plaining.{plain_byte}
-use Rattle.miette_cells.specs.views.Printable.{is_printable, plain_cells}
+use Rattle.miette_lines.proofs.Cases.{by_cases}
+use Rattle.miette_columns.proofs.Plaining.{plain_byte}
+use Rattle.miette_columns.specs.views.Printable.{is_printable, plain_cells}
 use Rattle.miette_snippet_rules.proofs.PlainCells.{printable_cells}
 use Rattle.miette_snippet_rules.specs.declared.options.SnippetSettings as made
-use Rattle.miette_snippet_rules.specs.views.Settings.{settings_of}
-use Rattle.miette_fix_rows.specs.rules.DiffTexts.{look, seen, text_of_line, without_blanks}
+use Rattle.miette_snippet_rules.specs.views.SnippetSettings.{settings_of}
+use Rattle.miette_fix_rows.specs.rules.DiffTexts.{look, seen, without_terminator, without_blanks}
 
 -- a character of one column in front of what is seen
 abbrev one_seen : ℕ → ℕ → List ℕ → List ℕ
@@ -63,14 +63,15 @@ all_seen offset column (b ∷ bs) h =
     ∙ ap (λ cs. b ∷ cs) (all_seen (offset + 1) (column + 1) bs parts.1)
 
 -- how a line looks whose text is printable ASCII
-pub plain_look : (s : made.SnippetSettings) (line : List ℕ) → list_all is_printable (text_of_line line) ≡ true
-    → look (settings_of s) line ≡ without_blanks (text_of_line line)
+pub plain_look : (s : made.SnippetSettings) (line : List ℕ) → list_all is_printable (without_terminator line) ≡ true
+    → look (settings_of s) line ≡ without_blanks (without_terminator line)
 plain_look s line h =
-    ap without_blanks (ap seen (printable_cells s.layout.now.tab_width 0 0 (text_of_line line) h)
-    ∙ all_seen 0 0 (text_of_line line) h)
+    ap without_blanks (ap seen (printable_cells s.layout.now.tab_width 0 0 (without_terminator line) h)
+    ∙ all_seen 0 0 (without_terminator line) h)
 
 -- what is seen of it
 pub plain_seen : (s : made.SnippetSettings) (line text seen : List ℕ) (plain : Bool) → seen ≡ without_blanks text
-    → text ≡ text_of_line line → plain ≡ list_all is_printable text → plain ≡ true → seen ≡ look (settings_of s) line
+    → text ≡ without_terminator line → plain ≡ list_all is_printable text → plain ≡ true → seen
+    ≡ look (settings_of s) line
 plain_seen s line text seen plain is t p all =
     is ∙ ap without_blanks t ∙ sym (plain_look s line (ap (list_all is_printable) (sym t) ∙ sym p ∙ all))

@@ -2,13 +2,13 @@
 use Rattle.std.proofs.Common.{ℕ, ◌<◌, ◌≤◌, ◌≡◌, List, [], ◌∷◌, ◌&&◌, length, arith}
 use Rattle.std.specs.Prelude.{None}
 use Rattle.std.proofs.Math.Nat.{max-le}
-use Rattle.miette_basics.proofs.Cases.{by_cases}
-use Rattle.miette_fixes.specs.rules.Applying.{by_offset, refusal}
+use Rattle.miette_lines.proofs.Cases.{by_cases}
+use Rattle.miette_fixes.specs.rules.Applying.{by_offset, edits_error}
 use Rattle.miette_fixes.specs.rules.Edits.{Replacement}
 use Rattle.miette_fixes.specs.views.Ordered.{FitFrom}
 use Rattle.miette_fixes.proofs.Overlaps.{fit_unrefused}
 use Rattle.miette_fix_rows.specs.rules.Blocks.{block_from, block_to, blocks}
-use Rattle.miette_fix_rows.specs.rules.Hunks.{Change, change_of, changes, changes_of, first_offset, is_nil}
+use Rattle.miette_fix_rows.specs.rules.Hunks.{Change, change_of, changes, changes_of, first_offset, has_no_lines}
 use Rattle.miette_fix_rows.proofs.Chains.{Chain, block_order, block_within, chain, last_end}
 use Rattle.miette_fix_rows.proofs.Sources.{At, IsPart, at_next, first_at, part_of}
 use Rattle.miette_fix_drawing.specs.steps.Rising.{AreRising}
@@ -26,7 +26,7 @@ blocks_rising source before at (block ∷ bs) h low within =
     let p : IsPart source (block_from source block) (block_to source block) c = part_of source block h.0 order in
     let to : c.to ≤ length source = omega (arith, p.high, block_within source block h.0) in
     by_cases {C = AreRising (length source) at (changes_of source (block ∷ bs))}
-    (is_nil c.removed && is_nil c.added)
+    (has_no_lines c.removed && has_no_lines c.added)
     (λ t. rw t (blocks_rising source (last_end block) at bs h.3
     (at_next source before at block bs h (omega (arith, low, order))) within))
     (λ f. rw f (
@@ -38,7 +38,7 @@ blocks_rising source before at (block ∷ bs) h low within =
     ))
 
 -- of edits that can be applied
-pub changes_rising : (source : List ℕ) (edits : List Replacement) → refusal (length source) edits ≡ None
+pub changes_rising : (source : List ℕ) (edits : List Replacement) → edits_error (length source) edits ≡ None
     → AreRising (length source) 0 (changes source edits)
 changes_rising source edits h =
     blocks_rising source 0 0 (blocks source (by_offset edits))

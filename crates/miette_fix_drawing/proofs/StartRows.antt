@@ -1,14 +1,14 @@
 -- What stands before the text of a line.
-use Rattle.miette_page.specs.views.Printouts.{Printout, ◌⊕◌}
+use Rattle.miette_style.specs.views.Printouts.{Printout, ◌⊕◌}
 use Rattle.std.proofs.Common.{ℕ, ◌-◌, ◌≡◌, List, [], ◌∷◌, ◌++◌, length, replicate, decimal, sym, ◌∙◌}
-use Rattle.miette_page.specs.rules.Rows.{styled_run}
-use Rattle.miette_page.specs.views.Tokens.{begins, row_tokens, styled_tokens, text_tokens}
+use Rattle.miette_style.specs.rules.Rows.{styled_run}
+use Rattle.miette_style.specs.views.Tokens.{begins, row_tokens, styled_tokens, text_tokens}
 use Rattle.miette_style.specs.rules.Styles.{plain}
-use Rattle.miette_snippet_rules.specs.rules.Drawing.{blank}
+use Rattle.miette_snippet_rules.specs.rules.LabelRows.{blank}
 use Rattle.miette_snippet_rules.specs.rules.Frames.{number_start}
-use Rattle.miette_snippet_rules.specs.rules.Settings.{SnippetSettings}
+use Rattle.miette_snippet_rules.specs.rules.SnippetSettings.{SnippetSettings}
 use Rattle.miette_snippet_rules.proofs.RowTokens.{then, told_as, run_one, blank_row, styled_row}
-use Rattle.miette_frames.proofs.TextRows.{parts_then}
+use Rattle.miette_snippet_frames.proofs.TextRows.{parts_then}
 use Rattle.miette_fix_drawing.specs.steps.Starts.{digits_row}
 
 pub digits_put : (s : SnippetSettings) (w number : ℕ) (p b l d : Printout) → b ≡ p ⊕ styled_tokens plain

@@ -1,7 +1,7 @@
--- What a value of the code stands for.
+-- What the values of the code represent.
 pub mod ChangedLines
 pub mod Contexts
 pub mod Frames
 pub mod Hunks
 pub mod ShownLines
-pub mod Standings
+pub mod DiffPositions

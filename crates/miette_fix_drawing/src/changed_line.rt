@@ -3,8 +3,8 @@
 use miette_protocol::protocol::SourceSpan;
 use miette_style::style::Style;
 
-/// A changed line: its sign and style, its number from 1, where it begins, its bytes with their terminator, and the
-/// edits' spans over the text that it is a line of.
+/// A removed or added line: its sign and style, its one-based number, its offset, its bytes with the terminator, and
+/// the spans that edits delete or insert in its text.
 #[derive(Clone, Copy)]
 pub(crate) struct ChangedLine<'a> {
     pub(crate) sign: char,

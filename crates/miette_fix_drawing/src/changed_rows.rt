@@ -2,48 +2,51 @@
 
 ghost use Rattle.std.specs.Prelude.{◌≡◌, ◌+◌, ◌∷◌, [], ◌<◌, ◌≤◌, ◌^◌, length, IfOk, IfSome, OnOk, option_copied};
 ghost use Rattle.std.specs.Option.{option_map};
-ghost use Rattle.miette_page.specs.views.Printouts.{◌⊕◌};
-ghost use Rattle.miette_page.specs.views.Tokens.{row_tokens, rows_tokens};
-ghost use Rattle.miette_snippet_rules.specs.views.Settings.{settings_of};
+ghost use Rattle.miette_style.specs.views.Printouts.{◌⊕◌};
+ghost use Rattle.miette_style.specs.views.Tokens.{row_tokens, rows_tokens};
+ghost use Rattle.miette_snippet_rules.specs.views.SnippetSettings.{settings_of};
 ghost use Rattle.miette_snippet_rules.specs.views.LineTexts.{text_cells};
-ghost use Rattle.miette_fix_rows.specs.rules.DiffRows.{changed_rows, line_reach, marks_row, pair_reach, sign_start};
-ghost use Rattle.miette_fix_rows.specs.rules.DiffRows.{text_row};
+ghost use Rattle.miette_fix_rows.specs.rules.DiffRows.{changed_rows, line_reach, edit_underline_row, pair_reach};
+ghost use Rattle.miette_fix_rows.specs.rules.DiffRows.{sign_start};
+ghost use Rattle.miette_fix_rows.specs.rules.DiffRows.{changed_text_row};
 ghost use Rattle.miette_fix_rows.specs.rules.DiffTexts.{line_cells};
-ghost use Rattle.miette_fix_drawing.specs.steps.Ends.{line_cut};
+ghost use Rattle.miette_fix_drawing.specs.steps.Ends.{changed_line_cut};
 ghost use Rattle.miette_fix_drawing.specs.steps.Spans.{AreApart};
 ghost use Rattle.miette_fix_drawing.specs.views.ChangedLines.{AreBothNear, IsNear, IsReadable, changed_line_of};
 
+use crate::ascii_lines::{changed_pieces, push_changed_text};
 use crate::changed_line::ChangedLine;
-use crate::digits::{Outcome, push_digits};
+use crate::edit_underline_row::{edit_underlines, push_edit_underlines};
 use crate::line_ends::line_ends;
-use crate::look::look_alike;
-use crate::marks_row::{edit_marks, push_marks_row};
-use crate::printable::{changed_pieces, push_changed_text};
-use crate::spans::spans_from;
-use crate::texts::text_of;
-use miette_cuts::cutting::{Room, cut_in_room, is_wide, marks_shown, reach_of_ends};
-use miette_frames::frame::Frame;
-use miette_line_printing::dots::dots_in;
-use miette_page::canvas::Canvas;
-use miette_page::page::Page;
-use miette_snippet_rules::line_bytes::LineBytes;
+use crate::line_starts::{PushResult, push_digits};
+use crate::spans::spans_not_ending_before;
+use crate::texts::strip_terminator;
+use crate::visible_text::look_alike;
+use miette_snippet_cuts::cutting::{
+    CutSettings, cut_line_with, exceeds_limit, largest_reach, underlines_in_row,
+};
+use miette_snippet_frames::frame::Frame;
+use miette_snippet_rules::dots::dots_width;
+use miette_snippet_rules::line_bytes::LineText;
+use miette_snippet_rules::line_part::LineCut;
 use miette_snippet_rules::options::SnippetSettings;
-use miette_snippet_rules::stretch::Cut;
+use miette_style::canvas::Canvas;
+use miette_style::page::RowPrinter;
 use std::alloc::AllocError;
 
-// The text of a changed line.
-fn text_in<'a>(settings: &SnippetSettings<'_>, line: &ChangedLine<'a>) -> LineBytes<'a>
+// Returns the text of a changed line, without its terminator.
+fn text_in<'a>(settings: &SnippetSettings<'_>, line: &ChangedLine<'a>) -> LineText<'a>
     ensures text { text_cells result ≡ line_cells (settings_of settings.now) line.now.start line.now.text.now }
     ensures within { result.start + length result.bytes.now ≤ line.now.start + length line.now.text.now }
 {
-    LineBytes {
+    LineText {
         start: line.start,
-        bytes: text_of(line.text),
+        bytes: strip_terminator(line.text),
         tab: settings.layout.tab_width,
     }
 }
 
-// How far around what edits delete or insert in a line it is shown within a limit.
+// Returns how many columns around the edits in a line fit into the limit.
 fn reach_of(
     settings: &SnippetSettings<'_>,
     line: &ChangedLine,
@@ -55,10 +58,16 @@ fn reach_of(
 {
     let text = text_in(settings, line);
     let ends = line_ends(settings, line)?;
-    reach_of_ends(settings.alloc, &text, &ends, limit, dots_in(settings.theme))
+    largest_reach(
+        settings.alloc,
+        &text,
+        &ends,
+        limit,
+        dots_width(settings.theme),
+    )
 }
 
-// How far a line and the one that goes with it are shown so: by the smaller reach.
+// Returns the smaller of the reaches of a line and its counterpart.
 fn reach_of_pair(
     settings: &SnippetSettings<'_>,
     line: &ChangedLine,
@@ -78,38 +87,42 @@ fn reach_of_pair(
     }
 }
 
-// How a line is cut around what edits delete or insert there, beside the one that goes with it.
+// Cuts a line around the edits in it, by the same reach as its counterpart.
 fn cut_of(
     settings: &SnippetSettings<'_>,
     line: &ChangedLine,
     other: &Option<ChangedLine>,
-) -> Result<Cut, AllocError>
+) -> Result<LineCut, AllocError>
     requires within { line.now.start + length line.now.text.now < 2 ^ 64 }
     requires apart { AreApart line.now.spans.now }
     requires other { IfSome other.now IsReadable }
-    ensures { IfOk result (λ cut. option_map (λ made. made.items) cut ≡ line_cut (settings_of settings.now)
+    ensures { IfOk result (λ cut. option_map (λ made. made.items) cut ≡ changed_line_cut (settings_of settings.now)
         (changed_line_of line.now) (option_map changed_line_of other.now)) }
 {
     let Some(limit) = settings.layout.line_columns else {
         return Ok(None);
     };
     let text = text_in(settings, line);
-    let wide = is_wide(&text, limit)?;
+    let wide = exceeds_limit(&text, limit)?;
     if !wide {
         return Ok(None);
     }
     let reach = reach_of_pair(settings, line, other, limit)?;
     let ends = line_ends(settings, line)?;
-    let room = Room {
+    let room = CutSettings {
         limit,
-        dots: dots_in(settings.theme),
+        dots: dots_width(settings.theme),
         reach,
     };
-    cut_in_room(settings.alloc, &text, &ends, &room)
+    cut_line_with(settings.alloc, &text, &ends, &room)
 }
 
-// What stands before a changed line's text: ` 12 - `.
-fn push_sign_start<O: Canvas>(page: &mut Page<O>, frame: &Frame, line: &ChangedLine) -> Outcome
+// Prints what comes before the text of a changed line: ` 12 - `.
+fn push_sign_start<O: Canvas>(
+    page: &mut RowPrinter<O>,
+    frame: &Frame,
+    line: &ChangedLine,
+) -> PushResult
     ensures { OnOk result (page.new ≡ page.old ⊕ row_tokens (sign_start (settings_of frame.now.settings)
         frame.now.number_width (changed_line_of line.now))) }
 {
@@ -120,19 +133,19 @@ fn push_sign_start<O: Canvas>(page: &mut Page<O>, frame: &Frame, line: &ChangedL
     page.push_blank(1)
 }
 
-// The row of a changed line, which is cut so: ` 12 - text`.
+// Prints the row of a changed line: ` 12 - text`.
 fn push_text_row<O: Canvas>(
-    page: &mut Page<O>,
+    page: &mut RowPrinter<O>,
     frame: &Frame,
     line: &ChangedLine,
     other: &Option<ChangedLine>,
-    cut: &Cut,
-) -> Outcome
+    cut: &LineCut,
+) -> PushResult
     requires within { line.now.start + length line.now.text.now < 2 ^ 64 }
     requires apart { AreApart line.now.spans.now }
-    requires cut { option_map (λ made. made.items) cut.now ≡ line_cut (settings_of frame.now.settings)
+    requires cut { option_map (λ made. made.items) cut.now ≡ changed_line_cut (settings_of frame.now.settings)
         (changed_line_of line.now) (option_map changed_line_of other.now) }
-    ensures { OnOk result (page.new ≡ page.old ⊕ rows_tokens (text_row (settings_of frame.now.settings)
+    ensures { OnOk result (page.new ≡ page.old ⊕ rows_tokens (changed_text_row (settings_of frame.now.settings)
         frame.now.number_width (changed_line_of line.now) (option_map changed_line_of other.now) ∷ [])) }
 {
     let text = text_in(&frame.settings, line);
@@ -142,28 +155,28 @@ fn push_text_row<O: Canvas>(
     page.end_row()
 }
 
-// The row of marks below a changed line, which is cut so.
-fn push_line_marks<O: Canvas>(
-    page: &mut Page<O>,
+// Prints the underline row of a changed line.
+fn push_line_underlines<O: Canvas>(
+    page: &mut RowPrinter<O>,
     frame: &Frame,
     line: &ChangedLine,
     other: &Option<ChangedLine>,
-    cut: &Cut,
-) -> Outcome
+    cut: &LineCut,
+) -> PushResult
     requires within { line.now.start + length line.now.text.now < 2 ^ 64 }
     requires apart { AreApart line.now.spans.now }
-    requires cut { option_map (λ made. made.items) cut.now ≡ line_cut (settings_of frame.now.settings)
+    requires cut { option_map (λ made. made.items) cut.now ≡ changed_line_cut (settings_of frame.now.settings)
         (changed_line_of line.now) (option_map changed_line_of other.now) }
-    ensures { OnOk result (page.new ≡ page.old ⊕ rows_tokens (marks_row (settings_of frame.now.settings)
+    ensures { OnOk result (page.new ≡ page.old ⊕ rows_tokens (edit_underline_row (settings_of frame.now.settings)
         frame.now.number_width (changed_line_of line.now) (option_map changed_line_of other.now))) }
 {
-    let marks = edit_marks(&frame.settings, line)?;
-    let dots = dots_in(frame.settings.theme);
-    let shown = marks_shown(frame.settings.alloc, cut, marks, dots)?;
-    push_marks_row(page, frame, line.sign, &shown)
+    let marks = edit_underlines(&frame.settings, line)?;
+    let dots = dots_width(frame.settings.theme);
+    let shown = underlines_in_row(frame.settings.alloc, cut, marks, dots)?;
+    push_edit_underlines(page, frame, line.sign, &shown)
 }
 
-// The bytes of a line that goes with another.
+// Returns the bytes of the counterpart.
 fn bytes_beside<'a>(other: &Option<ChangedLine<'a>>) -> Option<&'a [u8]>
     ensures { option_copied result ≡ option_map (λ it. it.text) (option_map changed_line_of other.now) }
 {
@@ -173,13 +186,13 @@ fn bytes_beside<'a>(other: &Option<ChangedLine<'a>>) -> Option<&'a [u8]>
     }
 }
 
-// The rows of a changed line whose spans are those that may touch it, and so of the one that goes with it.
+// Prints the rows of a changed line. The spans of the line and of its counterpart are only those that may touch them.
 fn push_near_rows<O: Canvas>(
-    page: &mut Page<O>,
+    page: &mut RowPrinter<O>,
     frame: &Frame,
     line: &ChangedLine,
     other: &Option<ChangedLine>,
-) -> Outcome
+) -> PushResult
     requires within { line.now.start + length line.now.text.now < 2 ^ 64 }
     requires apart { AreApart line.now.spans.now }
     requires other { IfSome other.now IsReadable }
@@ -190,23 +203,23 @@ fn push_near_rows<O: Canvas>(
     push_text_row(page, frame, line, other, &cut)?;
     let alike = look_alike(&frame.settings, line.text, bytes_beside(other))?;
     if alike {
-        return push_line_marks(page, frame, line, other, &cut);
+        return push_line_underlines(page, frame, line, other, &cut);
     }
     Ok(())
 }
 
-// A line with the spans alone that may touch it.
+// Returns the line with only the spans that may touch it.
 fn near_line<'a>(line: &ChangedLine<'a>) -> ChangedLine<'a>
     requires { AreApart line.now.spans.now }
     ensures { IsNear line.now result }
 {
     ChangedLine {
-        spans: spans_from(line.spans, line.start),
+        spans: spans_not_ending_before(line.spans, line.start),
         ..*line
     }
 }
 
-// The same, if there is one.
+// Returns the counterpart with only the spans that may touch it.
 fn near_other<'a>(other: &Option<ChangedLine<'a>>) -> Option<ChangedLine<'a>>
     requires { IfSome other.now (λ it. AreApart it.spans.now) }
     ensures { AreBothNear other.now result }
@@ -217,14 +230,14 @@ fn near_other<'a>(other: &Option<ChangedLine<'a>>) -> Option<ChangedLine<'a>>
     }
 }
 
-/// The rows of a changed line, with the one that goes with it. `AllocError` where memory is refused, or a number or a
-/// column is past the largest `usize`.
+/// Prints the rows of a changed line. `other` is its counterpart. `AllocError` if allocation fails, or if a number or a
+/// column exceeds `usize::MAX`.
 pub(crate) fn push_changed_rows<O: Canvas>(
-    page: &mut Page<O>,
+    page: &mut RowPrinter<O>,
     frame: &Frame,
     line: &ChangedLine,
     other: Option<ChangedLine>,
-) -> Outcome
+) -> PushResult
     requires apart { AreApart line.now.spans.now }
     requires within { line.now.start + length line.now.text.now < 2 ^ 64 }
     requires other { IfSome other IsReadable }

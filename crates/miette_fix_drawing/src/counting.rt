@@ -1,14 +1,14 @@
-//! The first and the last of lines.
+//! The first and the last lines of some bytes.
 
 ghost use Rattle.std.specs.Prelude.{◌≡◌, ◌≤◌, ◌-◌, length, nat_le, take};
 ghost use Rattle.miette_fix_rows.specs.rules.Blocks.{bytes_of, line_texts};
 
-use miette_source_lines::lines::first_line;
-use miette_source_lines::scan::start_before;
+use miette_lines::lines::first_line;
+use miette_lines::scan::start_before;
 
-/// How many bytes the first `many` lines have.
+/// Returns the number of bytes of the first `many` lines.
 #[tactic(auto, using(crate::proofs::LineCounts::no_bytes, crate::proofs::LineCounts::no_lines))]
-pub fn first_lines(bytes: &[u8], many: usize) -> usize
+pub fn len_of_first_lines(bytes: &[u8], many: usize) -> usize
     ensures size { result ≡ bytes_of (take many (line_texts bytes.now)) }
     ensures within { result ≤ length bytes.now }
 {
@@ -27,8 +27,8 @@ pub fn first_lines(bytes: &[u8], many: usize) -> usize
     size
 }
 
-/// How many bytes stand before the last `many` lines, found from the end back.
-pub fn before_last_lines(bytes: &[u8], many: usize) -> usize
+/// Returns the offset at which the last `many` lines begin, searching from the end.
+pub fn last_lines_start(bytes: &[u8], many: usize) -> usize
     ensures size { result ≡ bytes_of (take (length (line_texts bytes.now) - many) (line_texts bytes.now)) }
     ensures within { result ≤ length bytes.now }
 {
@@ -38,9 +38,9 @@ pub fn before_last_lines(bytes: &[u8], many: usize) -> usize
     start_before(bytes, bytes.len() - 1, many - 1).0
 }
 
-/// Whether bytes have at most `many` lines: no more are looked at, from the end back.
-pub fn has_at_most(bytes: &[u8], many: usize) -> bool
+/// Returns whether the bytes have at most `many` lines. Reads no more than that, from the end.
+pub fn has_at_most_lines(bytes: &[u8], many: usize) -> bool
     ensures { result ≡ nat_le (length (line_texts bytes.now)) many }
 {
-    before_last_lines(bytes, many) == 0
+    last_lines_start(bytes, many) == 0
 }

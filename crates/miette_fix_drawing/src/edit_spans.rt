@@ -1,15 +1,15 @@
-//! What edits delete of the source, and where their texts stand in the applied text.
+//! The spans that edits delete from the source and insert into the applied text.
 
 ghost use Rattle.std.specs.Prelude.{◌≡◌, IfOk};
 ghost use Rattle.miette_fixes.specs.views.Ordered.{edits_of};
 ghost use Rattle.miette_fix_rows.specs.rules.DiffTexts.{deleted_spans, inserted_spans};
 
-use miette_basics::sums::sum;
 use miette_fixes::fix::Edit;
+use miette_lines::sums::sum;
 use miette_protocol::protocol::SourceSpan;
 use std::alloc::{AllocError, Global};
 
-/// What edits in their order delete.
+/// Returns the spans that edits, in order, delete from the source.
 pub(crate) fn deleted_spans(alloc: Global, edits: &[&Edit]) -> Result<Vec<SourceSpan>, AllocError>
     ensures { IfOk result (λ spans. spans.items ≡ deleted_spans (edits_of edits.now)) }
 {
@@ -20,7 +20,7 @@ pub(crate) fn deleted_spans(alloc: Global, edits: &[&Edit]) -> Result<Vec<Source
     Ok(list)
 }
 
-/// Where the texts of edits in their order stand in the applied text.
+/// Returns the spans of the applied text that edits, in order, insert.
 pub(crate) fn inserted_spans(alloc: Global, edits: &[&Edit]) -> Result<Vec<SourceSpan>, AllocError>
     ensures { IfOk result (λ spans. spans.items ≡ inserted_spans (edits_of edits.now)) }
 {

@@ -3,44 +3,43 @@
 ghost use Rattle.std.specs.Prelude.{◌≡◌, ◌≢◌, ◌∷◌, [], IsTrue, length, nat_lt, option_copied, None, true, false, OnOk};
 ghost use Rattle.std.specs.List.{list_all};
 ghost use Rattle.miette_protocol.specs.rules.Reading.{Source};
-ghost use Rattle.miette_page.specs.views.Printouts.{◌⊕◌};
-ghost use Rattle.miette_page.specs.views.Tokens.{rows_tokens, styled_tokens};
-ghost use Rattle.miette_snippet_rules.specs.views.Settings.{settings_of};
+ghost use Rattle.miette_style.specs.views.Printouts.{◌⊕◌};
+ghost use Rattle.miette_style.specs.views.Tokens.{rows_tokens, styled_tokens};
+ghost use Rattle.miette_snippet_rules.specs.views.SnippetSettings.{settings_of};
 ghost use Rattle.miette_fixes.specs.declared.error.FixError.TheVariants.{Memory};
-ghost use Rattle.miette_fixes.specs.rules.Applying.{by_offset, refusal};
+ghost use Rattle.miette_fixes.specs.rules.Applying.{by_offset, edits_error};
 ghost use Rattle.miette_fixes.specs.views.Ordered.{edits_of};
 ghost use Rattle.miette_fix_rows.specs.rules.DiffFrames.{frames_of};
-ghost use Rattle.miette_fix_rows.specs.rules.DiffRows.{error_name, fix_rows, refused_row, rows_of_frames};
+ghost use Rattle.miette_fix_rows.specs.rules.DiffRows.{error_name, fix_rows, refused_fix_row, rows_of_frames};
 ghost use Rattle.miette_fix_rows.specs.rules.Hunks.{diff};
 
-use crate::digits::Outcome;
 use crate::edit_spans::{deleted_spans, inserted_spans};
 use crate::frames::{FixDrawing, push_frames};
 use crate::hunks::hunks_of;
+use crate::line_starts::PushResult;
 use miette_fix_rows::changes::changes;
-use miette_fixes::apply::checked;
+use miette_fixes::apply::check_edits;
 use miette_fixes::fix::{Edit, Fix, FixError};
-use miette_page::canvas::Canvas;
-use miette_page::page::{PLAIN, Page};
 use miette_protocol::source::SourceCode;
 use miette_snippet_rules::options::SnippetSettings;
+use miette_style::canvas::Canvas;
+use miette_style::page::{PLAIN, RowPrinter};
 use miette_style::style::Style;
 use std::alloc::AllocError;
 
-/// A source as its fixes are drawn over it: all its bytes, what it is called, if it has a name, and the source itself,
-/// which is asked for the numbers of lines.
+/// A source over which fixes are drawn.
 #[derive_where(Clone, Copy)]
 pub struct WholeSource<'a, S> {
     /// All its bytes.
     pub bytes: &'a [u8],
-    /// What it is called, if it has a name.
+    /// Its name, if it has one.
     pub name: Option<&'a str>,
-    /// The source itself: where it keeps an index of its lines, no bytes are gone through in front of a change.
+    /// The source itself, which is asked for line numbers. If it has a line index, no bytes before a change are read.
     pub asked: &'a S,
 }
 
-// A run of ASCII characters.
-fn push_ascii<O: Canvas>(page: &mut Page<O>, style: Style, text: &str) -> Outcome
+// Prints a run of ASCII characters.
+fn push_ascii<O: Canvas>(page: &mut RowPrinter<O>, style: Style, text: &str) -> PushResult
     requires { IsTrue (list_all (λ b. nat_lt b 128) text.now) }
     ensures { OnOk result (page.new ≡ page.old ⊕ styled_tokens style text.now) }
 {
@@ -48,16 +47,16 @@ fn push_ascii<O: Canvas>(page: &mut Page<O>, style: Style, text: &str) -> Outcom
     page.push_str(text)
 }
 
-/// The row in place of a fix's frames, with the name of what refuses it: "  [Failed to apply fix: Overlap]".
-/// `AllocError` where memory is refused.
+/// Prints the row that replaces the frames of a fix that can't be applied: "  [Failed to apply fix: Overlap]".
+/// `AllocError` if allocation fails.
 pub fn push_refused_fix<O: Canvas>(
-    page: &mut Page<O>,
+    page: &mut RowPrinter<O>,
     settings: &SnippetSettings<'_>,
     name: &str,
 ) -> Result<(), AllocError>
     requires { IsTrue (list_all (λ b. nat_lt b 128) name.now) }
     ensures { OnOk result (page.new ≡ page.old
-        ⊕ rows_tokens (refused_row (settings_of settings.now) name.now ∷ [])) }
+        ⊕ rows_tokens (refused_fix_row (settings_of settings.now) name.now ∷ [])) }
 {
     let styles = &settings.theme.styles;
     push_ascii(page, PLAIN, "  [")?;
@@ -68,10 +67,10 @@ pub fn push_refused_fix<O: Canvas>(
     page.end_row()
 }
 
-/// The row in place of a fix's frames where the source can't be read; none where the fix has no edits. `AllocError`
-/// where memory is refused.
+/// Prints the row that replaces the frames of a fix if the source can't be read. Prints nothing if the fix has no
+/// edits. `AllocError` if allocation fails.
 pub fn push_unread_fix<O: Canvas>(
-    page: &mut Page<O>,
+    page: &mut RowPrinter<O>,
     settings: &SnippetSettings<'_>,
     fix: &Fix,
 ) -> Result<(), AllocError>
@@ -84,14 +83,14 @@ pub fn push_unread_fix<O: Canvas>(
     push_refused_fix(page, settings, "IoError")
 }
 
-// The row of a refusal.
+// Prints the row of a fix that can't be applied.
 fn push_refusal<O: Canvas>(
-    page: &mut Page<O>,
+    page: &mut RowPrinter<O>,
     settings: &SnippetSettings<'_>,
     error: FixError,
-) -> Outcome
+) -> PushResult
     ensures { OnOk result ((error ≢ Memory) × (page.new ≡ page.old
-        ⊕ rows_tokens (refused_row (settings_of settings.now) (error_name error) ∷ []))) }
+        ⊕ rows_tokens (refused_fix_row (settings_of settings.now) (error_name error) ∷ []))) }
 {
     match error {
         FixError::OutOfBounds => push_refused_fix(page, settings, "OutOfBounds"),
@@ -100,16 +99,16 @@ fn push_refusal<O: Canvas>(
     }
 }
 
-// The frames of a fix that nothing refuses, whose edits in their order are these.
+// Prints the frames of a fix that can be applied. `edits` are its edits in order.
 fn push_ordered_fix<O: Canvas, S: SourceCode>(
-    page: &mut Page<O>,
+    page: &mut RowPrinter<O>,
     settings: &SnippetSettings<'_>,
     source: &WholeSource<'_, S>,
     fix: &Fix,
     edits: &[&Edit],
-) -> Outcome
+) -> PushResult
     requires asked { (S.source source.now.asked.now).bytes ≡ source.now.bytes.now }
-    requires unrefused { refusal (length source.now.bytes.now) fix.now.edits ≡ None }
+    requires unrefused { edits_error (length source.now.bytes.now) fix.now.edits ≡ None }
     requires order { edits_of edits.now ≡ by_offset fix.now.edits }
     ensures { OnOk result ((whole : Source) → whole.bytes ≡ source.now.bytes.now →
         whole.name ≡ option_copied source.now.name →
@@ -134,11 +133,11 @@ fn push_ordered_fix<O: Canvas, S: SourceCode>(
     push_frames(page, &drawing, source.asked, &hunks, after)
 }
 
-/// The rows below a fix's message: none without edits or where nothing changes, the row of a refusal, or the frames.
-/// The source that is asked has these bytes; where it can't be read again, lines are counted. `AllocError` where memory
-/// is refused, or a number is past the largest `usize`.
+/// Prints the rows below a fix's message: its frames, or why it can't be applied. Prints nothing if the fix has no
+/// edits or changes nothing. If the source can't be read again, lines are counted. `AllocError` if allocation fails or
+/// a number exceeds `usize::MAX`.
 pub fn push_fix_rows<O: Canvas, S: SourceCode>(
-    page: &mut Page<O>,
+    page: &mut RowPrinter<O>,
     settings: &SnippetSettings<'_>,
     source: &WholeSource<'_, S>,
     fix: &Fix,
@@ -151,7 +150,7 @@ pub fn push_fix_rows<O: Canvas, S: SourceCode>(
     if fix.edits().is_empty() {
         return Ok(());
     }
-    match checked(settings.alloc, source.bytes.len(), fix.edits()) {
+    match check_edits(settings.alloc, source.bytes.len(), fix.edits()) {
         Ok(edits) => push_ordered_fix(page, settings, source, fix, &edits),
         Err(error) => push_refusal(page, settings, error),
     }

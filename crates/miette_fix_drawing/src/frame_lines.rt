@@ -2,40 +2,41 @@
 
 ghost use Rattle.std.specs.Prelude.{◌≡◌, ◌≤◌, ◌++◌, ℕ, List, drop, length, take, true, false, IfOk, OnOk};
 ghost use Rattle.miette_fix_rows.specs.rules.Blocks.{bytes_of, line_texts};
-ghost use Rattle.miette_fix_rows.specs.rules.DiffFrames.{Standing as RuledStanding};
-ghost use Rattle.miette_fix_rows.specs.rules.DiffFrames.{added_from, after_hunk, changed_lines, frames_from, is_near};
+ghost use Rattle.miette_fix_rows.specs.rules.DiffFrames.{DiffPosition as RuledStanding};
+ghost use Rattle.miette_fix_rows.specs.rules.DiffFrames.{added_from, after_hunk, changed_lines, frames_from};
+ghost use Rattle.miette_fix_rows.specs.rules.DiffFrames.{is_near_hunk};
 ghost use Rattle.miette_fix_rows.specs.rules.DiffFrames.{kept_lines, past_kept, removed_from};
 ghost use Rattle.miette_fix_rows.specs.rules.Hunks.{removed_lines};
-ghost use Rattle.miette_fix_rows.specs.rules.DiffRows.{largest};
+ghost use Rattle.miette_fix_rows.specs.rules.DiffRows.{largest_number};
 ghost use Rattle.miette_fix_rows.specs.laws.Frames.{past_lines};
 ghost use Rattle.miette_fix_drawing.specs.steps.Framing.{IsFar};
 ghost use Rattle.miette_fix_drawing.specs.views.Hunks.{hunk_of, hunks_of};
 ghost use Rattle.miette_fix_drawing.specs.views.ShownLines.{lines_of_segment, lines_of_segments};
-ghost use Rattle.miette_fix_drawing.specs.views.Standings.{standing_of};
+ghost use Rattle.miette_fix_drawing.specs.views.DiffPositions.{diff_position_of};
 
-use crate::counting::{first_lines, has_at_most};
-use crate::digits::Outcome;
+use crate::counting::{has_at_most_lines, len_of_first_lines};
+use crate::diff_position::DiffPosition;
 use crate::hunks::Hunk;
-use crate::segments::{Kind, Segment, measured};
-use crate::standing::Standing;
-use miette_basics::sums::sum;
+use crate::line_starts::PushResult;
+use crate::segments::{DiffLineKind, Segment, measure_segment};
 use miette_fix_rows::changes::Change;
+use miette_lines::sums::sum;
 use std::alloc::AllocError;
 
-// Lines that stay.
+// Returns a segment of unchanged lines.
 fn kept<'a>(lines: &'a [u8]) -> Segment<'a>
     ensures { lines_of_segment result ≡ kept_lines (line_texts lines.now) }
 {
     Segment {
-        kind: Kind::Kept,
+        kind: DiffLineKind::Kept,
         lines,
         others: &[],
         away: 0,
     }
 }
 
-// Puts the removed lines of changes after others.
-fn push_removed<'a>(list: &mut Vec<Segment<'a>>, changes: &'a [Change<'a>]) -> Outcome
+// Appends the removed lines of changes.
+fn push_removed<'a>(list: &mut Vec<Segment<'a>>, changes: &'a [Change<'a>]) -> PushResult
     ensures { OnOk result (lines_of_segments list.new.items ≡ lines_of_segments list.old.items
         ++ removed_from 0 changes.now) }
 {
@@ -43,7 +44,7 @@ fn push_removed<'a>(list: &mut Vec<Segment<'a>>, changes: &'a [Change<'a>]) -> O
     for change in changes {
         let others = change.added();
         list.push(Segment {
-            kind: Kind::Removed,
+            kind: DiffLineKind::Removed,
             lines: change.removed(),
             others,
             away,
@@ -53,7 +54,7 @@ fn push_removed<'a>(list: &mut Vec<Segment<'a>>, changes: &'a [Change<'a>]) -> O
     Ok(())
 }
 
-// How many bytes the removed lines of changes have.
+// Returns the number of bytes of the removed lines.
 fn removed_bytes(changes: &[Change<'_>]) -> Result<usize, AllocError>
     ensures { IfOk result (λ size. size ≡ bytes_of (removed_lines changes.now)) }
 {
@@ -64,8 +65,8 @@ fn removed_bytes(changes: &[Change<'_>]) -> Result<usize, AllocError>
     Ok(size)
 }
 
-// Puts the added lines of changes after others.
-fn push_added<'a>(list: &mut Vec<Segment<'a>>, changes: &'a [Change<'a>]) -> Outcome
+// Appends the added lines of changes.
+fn push_added<'a>(list: &mut Vec<Segment<'a>>, changes: &'a [Change<'a>]) -> PushResult
     ensures { OnOk result (lines_of_segments list.new.items ≡ lines_of_segments list.old.items
         ++ added_from (bytes_of (removed_lines changes.now)) changes.now) }
 {
@@ -73,7 +74,7 @@ fn push_added<'a>(list: &mut Vec<Segment<'a>>, changes: &'a [Change<'a>]) -> Out
     for change in changes {
         let others = change.removed();
         list.push(Segment {
-            kind: Kind::Added,
+            kind: DiffLineKind::Added,
             lines: change.added(),
             others,
             away,
@@ -83,12 +84,12 @@ fn push_added<'a>(list: &mut Vec<Segment<'a>>, changes: &'a [Change<'a>]) -> Out
     Ok(())
 }
 
-/// Puts lines that stay after others, and then those of changes, the removed ones first.
+/// Appends a hunk: its unchanged lines, then the removed and the added lines of its changes.
 pub(crate) fn push_hunk<'a>(
     list: &mut Vec<Segment<'a>>,
     kept_before: &'a [u8],
     changes: &'a [Change<'a>],
-) -> Outcome
+) -> PushResult
     ensures { OnOk result (lines_of_segments list.new.items ≡ lines_of_segments list.old.items
         ++ (kept_lines (line_texts kept_before.now) ++ changed_lines changes.now)) }
 {
@@ -97,32 +98,35 @@ pub(crate) fn push_hunk<'a>(
     push_added(list, changes)
 }
 
-/// Where stands what comes after lines, and the largest of their numbers.
+/// Returns the position after the segments and the largest line number in them.
 #[tactic(auto, using(crate::proofs::Framing::past_of_segments, crate::proofs::Framing::largest_of_segments))]
-pub(crate) fn measured_all(at: &Standing, list: &[Segment]) -> Result<(Standing, usize), AllocError>
+pub(crate) fn measure_segments(
+    at: &DiffPosition,
+    list: &[Segment],
+) -> Result<(DiffPosition, usize), AllocError>
     ensures behind { IfOk result (λ it.
-        standing_of it.0 ≡ past_lines (standing_of at.now) (lines_of_segments list.now)) }
-    ensures most { IfOk result (λ it. it.1 ≡ largest (standing_of at.now) (lines_of_segments list.now)) }
+        diff_position_of it.0 ≡ past_lines (diff_position_of at.now) (lines_of_segments list.now)) }
+    ensures most { IfOk result (λ it. it.1 ≡ largest_number (diff_position_of at.now) (lines_of_segments list.now)) }
 {
     let mut at = *at;
     let mut most = 0;
     for segment in list {
-        let next = measured(&at, segment, most)?;
+        let next = measure_segment(&at, segment, most)?;
         at = next.0;
         most = next.1;
     }
     Ok((at, most))
 }
 
-// Whether all lines before a hunk are shown after the one before it.
-fn is_near(context: usize, hunk: &Hunk) -> bool
-    ensures { result ≡ is_near context (hunk_of hunk.now) }
+// Returns whether all lines between this hunk and the previous one are shown.
+fn is_near_hunk(context: usize, hunk: &Hunk) -> bool
+    ensures { result ≡ is_near_hunk context (hunk_of hunk.now) }
 {
     let _size = hunk.kept.len();
-    has_at_most(hunk.kept, context.saturating_add(context))
+    has_at_most_lines(hunk.kept, context.saturating_add(context))
 }
 
-/// How many of hunks go on with a frame; their lines are put after others.
+/// Appends the hunks that continue the current frame. Returns how many there are.
 #[tactic(auto, using(crate::proofs::Framing::near_lines, crate::proofs::Framing::near_standing))]
 pub(crate) fn take_near<'a>(
     list: &mut Vec<Segment<'a>>,
@@ -140,7 +144,7 @@ pub(crate) fn take_near<'a>(
     ensures within { IfOk result (λ taken. taken ≤ length hunks.now) }
 {
     for (i, hunk) in hunks.iter().enumerate() {
-        if !is_near(context, hunk) {
+        if !is_near_hunk(context, hunk) {
             return Ok(i);
         }
         push_hunk(list, hunk.kept, hunk.changes)?;
@@ -148,30 +152,34 @@ pub(crate) fn take_near<'a>(
     Ok(hunks.len())
 }
 
-// The first of lines that stay, as many as are shown beside a change.
-fn kept_front<'a>(context: usize, lines: &'a [u8]) -> Segment<'a>
+// Returns the unchanged lines that are shown after a change, at most `context` many.
+fn first_kept_lines<'a>(context: usize, lines: &'a [u8]) -> Segment<'a>
     ensures { lines_of_segment result ≡ kept_lines (take context (line_texts lines.now)) }
 {
-    kept(&lines[..first_lines(lines, context)])
+    kept(&lines[..len_of_first_lines(lines, context)])
 }
 
-/// The unchanged lines after a frame that are shown in it.
+/// Returns the unchanged lines at the end of a frame.
 pub(crate) fn lines_after<'a>(context: usize, rest: &[Hunk<'a>], after: &'a [u8]) -> Segment<'a>
     requires { IsFar context (hunks_of rest.now) }
     ensures { lines_of_segment result ≡ after_hunk context (line_texts after.now) (hunks_of rest.now) }
 {
     match rest {
-        [] => kept_front(context, after),
-        [hunk, ..] => kept_front(context, hunk.kept),
+        [] => first_kept_lines(context, after),
+        [hunk, ..] => first_kept_lines(context, hunk.kept),
     }
 }
 
-/// Where stands what comes after unchanged lines, told how many there are and how many bytes they have.
-pub(crate) fn past_kept(at: &Standing, lines: usize, bytes: usize) -> Result<Standing, AllocError>
+/// Returns the position after unchanged lines. `lines` and `bytes` are their numbers of lines and bytes.
+pub(crate) fn past_kept(
+    at: &DiffPosition,
+    lines: usize,
+    bytes: usize,
+) -> Result<DiffPosition, AllocError>
     ensures { IfOk result (λ after. (kept : List (List ℕ)) → lines ≡ length kept → bytes ≡ bytes_of kept →
-        standing_of after ≡ past_kept (standing_of at.now) kept) }
+        diff_position_of after ≡ past_kept (diff_position_of at.now) kept) }
 {
-    Ok(Standing {
+    Ok(DiffPosition {
         old_line: sum(at.old_line, lines)?,
         new_line: sum(at.new_line, lines)?,
         old_offset: sum(at.old_offset, bytes)?,

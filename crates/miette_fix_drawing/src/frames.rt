@@ -3,35 +3,35 @@
 ghost use Rattle.std.specs.Prelude.{◌≡◌, ◌≤◌, ◌<◌, ◌+◌, ◌-◌, ◌++◌, ◌∷◌, length, decimal, drop, take};
 ghost use Rattle.std.specs.Prelude.{true, false, IfOk, OnOk};
 ghost use Rattle.std.specs.List.{AllByRecursion};
-ghost use Rattle.miette_page.specs.views.Printouts.{◌⊕◌};
-ghost use Rattle.miette_page.specs.views.Tokens.{rows_tokens};
+ghost use Rattle.miette_style.specs.views.Printouts.{◌⊕◌};
+ghost use Rattle.miette_style.specs.views.Tokens.{rows_tokens};
 ghost use Rattle.miette_fix_rows.specs.rules.Blocks.{line_texts};
 ghost use Rattle.miette_fix_rows.specs.rules.DiffFrames.{after_hunk, changed_lines, first_place, frame_at};
 ghost use Rattle.miette_fix_rows.specs.rules.DiffFrames.{frames_from, kept_lines, left_before, past_hunk, past_kept};
-ghost use Rattle.miette_fix_rows.specs.rules.DiffRows.{largest, rows_of_lines};
+ghost use Rattle.miette_fix_rows.specs.rules.DiffRows.{largest_number, rows_of_diff_lines};
 ghost use Rattle.miette_fix_drawing.specs.steps.Framing.{PointsWithin, drawn_frame, drawn_frames};
-ghost use Rattle.miette_fix_drawing.specs.steps.Places.{IsCursor, StandsIn};
+ghost use Rattle.miette_fix_drawing.specs.steps.Places.{IsCursor, HunkIsIn};
 ghost use Rattle.miette_fix_drawing.specs.steps.Spans.{AreApart};
 ghost use Rattle.miette_fix_drawing.specs.views.Contexts.{context_with};
-ghost use Rattle.miette_fix_drawing.specs.views.Frames.{frame_of, start_standing};
+ghost use Rattle.miette_fix_drawing.specs.views.Frames.{frame_of, first_position};
 ghost use Rattle.miette_fix_drawing.specs.views.Hunks.{hunk_of, hunks_of};
 ghost use Rattle.miette_fix_drawing.specs.views.ShownLines.{lines_of_segments};
-ghost use Rattle.miette_fix_drawing.specs.views.Standings.{standing_of};
+ghost use Rattle.miette_fix_drawing.specs.views.DiffPositions.{diff_position_of};
 
-use crate::counting::before_last_lines;
-use crate::digits::Outcome;
-use crate::frame_lines::{lines_after, measured_all, past_kept, push_hunk, take_near};
+use crate::counting::last_lines_start;
+use crate::cursor::{Cursor, count_lines, place_of};
+use crate::diff_position::DiffPosition;
+use crate::frame_lines::{lines_after, measure_segments, past_kept, push_hunk, take_near};
 use crate::hunks::Hunk;
-use crate::places::{Cursor, count_lines, place_of};
-use crate::segments::{DiffDrawing, Segment, measured, push_segment};
-use crate::standing::Standing;
+use crate::line_starts::PushResult;
+use crate::segments::{DiffDrawing, Segment, measure_segment, push_segment};
 use itoa::Buffer;
-use miette_frames::frame::{Frame, Heading, push_bottom_row, push_top_row};
-use miette_page::canvas::Canvas;
-use miette_page::page::Page;
 use miette_protocol::protocol::SourceSpan;
 use miette_protocol::source::SourceCode;
+use miette_snippet_frames::frame::{Frame, SnippetHeader, push_frame_bottom, push_frame_top};
 use miette_snippet_rules::options::SnippetSettings;
+use miette_style::canvas::Canvas;
+use miette_style::page::RowPrinter;
 use std::alloc::AllocError;
 
 /// What the frames of a fix are drawn with.
@@ -44,31 +44,31 @@ pub(crate) struct FixDrawing<'a> {
     pub(crate) inserted: &'a [SourceSpan],
 }
 
-// A frame: where its first line stands, the offset that it points to, its lines, and the largest of their numbers.
+// A frame: the position of its first line, the offset it points to, its lines, and the largest line number.
 #[derive(Drop)]
 struct FrameLines<'a> {
-    at: Standing,
+    at: DiffPosition,
     place: usize,
     lines: Vec<Segment<'a>>,
-    largest: usize,
+    largest_number: usize,
 }
 
-// How far frames are put: where stands what comes after the last change of them, and a place before the next one.
+// How far frames are printed: the position after the last change, and a cursor before the next one.
 #[derive_where(Clone, Copy)]
 struct Progress<'a, S> {
-    at: Standing,
+    at: DiffPosition,
     cursor: Cursor<'a, S>,
 }
 
-// Where the first line of a source stands.
-const FIRST: Standing = Standing {
+// The position of the first line of a source.
+const FIRST: DiffPosition = DiffPosition {
     old_line: 0,
     new_line: 0,
     old_offset: 0,
     new_offset: 0,
 };
 
-// How many decimal digits a number has.
+// Returns the number of decimal digits.
 fn digits(number: usize) -> usize
     ensures { result ≡ length (decimal number) }
 {
@@ -76,7 +76,7 @@ fn digits(number: usize) -> usize
     buffer.format(number).len()
 }
 
-// One of the segments.
+// Returns segment `i`.
 fn segment_at<'a>(list: &[Segment<'a>], i: usize) -> Segment<'a>
     requires { i < length list.now }
     ensures { drop i list.now ≡ result ∷ drop (i + 1) list.now }
@@ -84,17 +84,17 @@ fn segment_at<'a>(list: &[Segment<'a>], i: usize) -> Segment<'a>
     list[i]
 }
 
-// The rows of lines.
+// Prints the rows of segments.
 fn push_lines<O: Canvas>(
-    page: &mut Page<O>,
+    page: &mut RowPrinter<O>,
     drawing: &DiffDrawing,
-    at: &Standing,
+    at: &DiffPosition,
     list: &[Segment],
-) -> Outcome
+) -> PushResult
     requires deleted { AreApart drawing.now.deleted.now }
     requires inserted { AreApart drawing.now.inserted.now }
-    ensures { OnOk result (page.new ≡ page.old ⊕ rows_tokens (rows_of_lines (context_with drawing.now)
-        (standing_of at.now) (lines_of_segments list.now))) }
+    ensures { OnOk result (page.new ≡ page.old ⊕ rows_tokens (rows_of_diff_lines (context_with drawing.now)
+        (diff_position_of at.now) (lines_of_segments list.now))) }
 {
     let mut at = *at;
     for i in 0..list.len() {
@@ -104,39 +104,40 @@ fn push_lines<O: Canvas>(
     Ok(())
 }
 
-// The rows of a frame.
+// Prints a frame.
 fn push_frame<O: Canvas, S: SourceCode>(
-    page: &mut Page<O>,
+    page: &mut RowPrinter<O>,
     drawing: &FixDrawing,
     cursor: &Cursor<'_, S>,
     frame: &FrameLines,
-) -> Outcome
+) -> PushResult
     requires deleted { AreApart drawing.now.deleted.now }
     requires inserted { AreApart drawing.now.inserted.now }
     requires place { frame.now.place ≤ length drawing.now.source.now }
-    requires largest { frame.now.largest ≡ largest (frame_of frame.now).at (frame_of frame.now).lines }
+    requires largest_number { frame.now.largest_number ≡ largest_number (frame_of frame.now).at
+        (frame_of frame.now).lines }
     requires cursor { IsCursor S.source drawing.now.source.now cursor.now }
     ensures { OnOk result (page.new ≡ page.old ⊕ rows_tokens (drawn_frame drawing.now (frame_of frame.now))) }
 {
     let lines = DiffDrawing {
         frame: Frame {
             settings: drawing.settings,
-            number_width: digits(frame.largest),
+            number_width: digits(frame.largest_number),
         },
         deleted: drawing.deleted,
         inserted: drawing.inserted,
     };
-    let heading = Heading {
+    let heading = SnippetHeader {
         name: drawing.name,
         several: true,
         place: Some(place_of(drawing.source, cursor, frame.place)),
     };
-    push_top_row(page, &lines.frame, &heading)?;
+    push_frame_top(page, &lines.frame, &heading)?;
     push_lines(page, &lines, &frame.at, &frame.lines)?;
-    push_bottom_row(page, &lines.frame)
+    push_frame_bottom(page, &lines.frame)
 }
 
-// The offset that a hunk points to.
+// Returns the offset to which a hunk's frame points.
 fn place_in(hunk: &Hunk) -> usize
     ensures { result ≡ first_place (hunk_of hunk.now).changes }
 {
@@ -146,15 +147,15 @@ fn place_in(hunk: &Hunk) -> usize
     }
 }
 
-// Where the first line of a frame stands that begins with a hunk, and its lines up to the end of that hunk.
+// Begins a frame with a hunk. Returns the position of its first line, and its lines up to the end of the hunk.
 fn first_hunk<'a, S: SourceCode>(
     drawing: &FixDrawing,
     progress: &mut Progress<'_, S>,
     hunk: &'a Hunk<'a>,
-) -> Result<(Standing, Vec<Segment<'a>>), AllocError>
-    requires stands { StandsIn drawing.now.source.now hunk.now }
+) -> Result<(DiffPosition, Vec<Segment<'a>>), AllocError>
+    requires stands { HunkIsIn drawing.now.source.now hunk.now }
     requires cursor { IsCursor S.source drawing.now.source.now progress.old.cursor }
-    ensures at { IfOk result (λ it. standing_of it.0 ≡ past_kept (standing_of progress.old.at)
+    ensures at { IfOk result (λ it. diff_position_of it.0 ≡ past_kept (diff_position_of progress.old.at)
         (take (left_before drawing.now.settings.layout.now.context_lines (hunk_of hunk.now)) (hunk_of hunk.now).kept)) }
     ensures lines { IfOk result (λ it. lines_of_segments it.1.items
         ≡ kept_lines (drop (left_before drawing.now.settings.layout.now.context_lines (hunk_of hunk.now))
@@ -162,7 +163,7 @@ fn first_hunk<'a, S: SourceCode>(
         ++ changed_lines (hunk_of hunk.now).changes) }
     ensures cursor { IsCursor S.source drawing.now.source.now progress.new.cursor }
 {
-    let left = before_last_lines(hunk.kept, drawing.settings.layout.context_lines);
+    let left = last_lines_start(hunk.kept, drawing.settings.layout.context_lines);
     let lines_left = count_lines(drawing.source, &mut progress.cursor, hunk, left);
     let from = past_kept(&progress.at, lines_left, left)?;
     let mut lines = Vec::new(drawing.settings.alloc);
@@ -170,8 +171,8 @@ fn first_hunk<'a, S: SourceCode>(
     Ok((from, lines))
 }
 
-// A frame that begins with a hunk, before others and lines after the last of them; gives how many of the others go on
-// with it, and sets where stands what comes after its last change.
+// Makes the frame that begins with a hunk. Returns how many of the following hunks it contains. Sets the position after
+// its last change.
 fn next_frame<'a, S: SourceCode>(
     drawing: &FixDrawing,
     progress: &mut Progress<'_, S>,
@@ -179,41 +180,41 @@ fn next_frame<'a, S: SourceCode>(
     more: &'a [Hunk<'a>],
     kept_after: &'a [u8],
 ) -> Result<(FrameLines<'a>, usize), AllocError>
-    requires stands { StandsIn drawing.now.source.now hunk.now }
+    requires stands { HunkIsIn drawing.now.source.now hunk.now }
     requires cursor { IsCursor S.source drawing.now.source.now progress.old.cursor }
     ensures frame { IfOk result (λ it. frame_of it.0 ≡ frame_at drawing.now.settings.layout.now.context_lines
-        (standing_of progress.old.at) (hunk_of hunk.now)
+        (diff_position_of progress.old.at) (hunk_of hunk.now)
         (after_hunk drawing.now.settings.layout.now.context_lines (line_texts kept_after.now) (hunks_of more.now))) }
-    ensures largest { IfOk result (λ it. it.0.largest ≡ largest (frame_of it.0).at (frame_of it.0).lines) }
+    ensures largest_number { IfOk result (λ it. it.0.largest_number ≡ largest_number (frame_of it.0).at
+        (frame_of it.0).lines) }
     ensures rest { IfOk result (λ it. frames_from drawing.now.settings.layout.now.context_lines
-        (line_texts kept_after.now) true (past_hunk (standing_of progress.old.at) (hunk_of hunk.now))
+        (line_texts kept_after.now) true (past_hunk (diff_position_of progress.old.at) (hunk_of hunk.now))
         (hunks_of more.now)
         ≡ frames_from drawing.now.settings.layout.now.context_lines (line_texts kept_after.now) false
-        (standing_of progress.new.at) (hunks_of (drop it.1 more.now))) }
+        (diff_position_of progress.new.at) (hunks_of (drop it.1 more.now))) }
     ensures within { IfOk result (λ it. it.1 ≤ length more.now) }
     ensures cursor { IsCursor S.source drawing.now.source.now progress.new.cursor }
 {
     let context = drawing.settings.layout.context_lines;
     let (from, mut lines) = first_hunk(drawing, progress, hunk)?;
     let taken = take_near(&mut lines, context, more)?;
-    let (end, most) = measured_all(&from, &lines)?;
+    let (end, most) = measure_segments(&from, &lines)?;
     let after = lines_after(context, &more[taken..], kept_after);
-    let most = measured(&end, &after, most)?.1;
+    let most = measure_segment(&end, &after, most)?.1;
     lines.push(after)?;
     let frame = FrameLines {
         at: from,
         place: place_in(hunk),
         lines,
-        largest: most,
+        largest_number: most,
     };
     progress.at = end;
     Ok((frame, taken))
 }
 
-// The rows of the first frame of hunks; gives how many hunks it has, and sets where stands what comes after the last of
-// them.
+// Prints the first frame. Returns how many hunks it contains. Sets the position after the last of them.
 fn push_next<'a, O: Canvas, S: SourceCode>(
-    page: &mut Page<O>,
+    page: &mut RowPrinter<O>,
     drawing: &FixDrawing,
     progress: &mut Progress<'_, S>,
     hunks: &'a [Hunk<'a>],
@@ -222,15 +223,15 @@ fn push_next<'a, O: Canvas, S: SourceCode>(
     requires some { 0 < length hunks.now }
     requires deleted { AreApart drawing.now.deleted.now }
     requires inserted { AreApart drawing.now.inserted.now }
-    requires stand { AllByRecursion (StandsIn drawing.now.source.now) hunks.now }
+    requires stand { AllByRecursion (HunkIsIn drawing.now.source.now) hunks.now }
     requires places { AllByRecursion (PointsWithin (length drawing.now.source.now)) (hunks_of hunks.now) }
     requires cursor { IsCursor S.source drawing.now.source.now progress.old.cursor }
     ensures rows { IfOk result (λ many. page.new ⊕ rows_tokens (drawn_frames drawing.now
         (frames_from drawing.now.settings.layout.now.context_lines (line_texts kept_after.now) false
-        (standing_of progress.new.at) (hunks_of (drop many hunks.now))))
+        (diff_position_of progress.new.at) (hunks_of (drop many hunks.now))))
         ≡ page.old ⊕ rows_tokens (drawn_frames drawing.now
         (frames_from drawing.now.settings.layout.now.context_lines (line_texts kept_after.now) false
-        (standing_of progress.old.at) (hunks_of hunks.now)))) }
+        (diff_position_of progress.old.at) (hunks_of hunks.now)))) }
     ensures cursor { IsCursor S.source drawing.now.source.now progress.new.cursor }
     ensures some { IfOk result (λ many. 0 < many) }
     ensures within { IfOk result (λ many. many ≤ length hunks.now) }
@@ -240,22 +241,22 @@ fn push_next<'a, O: Canvas, S: SourceCode>(
     Ok(taken + 1)
 }
 
-/// The rows of the frames of hunks, and of the unchanged lines after the last of them. The source that is asked has the
-/// bytes that are drawn.
+/// Prints all frames. `kept_after` are the unchanged lines after the last hunk. `asked` must have the bytes that are
+/// drawn.
 pub(crate) fn push_frames<'a, O: Canvas, S: SourceCode>(
-    page: &mut Page<O>,
+    page: &mut RowPrinter<O>,
     drawing: &FixDrawing,
     asked: &S,
     hunks: &'a [Hunk<'a>],
     kept_after: &'a [u8],
-) -> Outcome
+) -> PushResult
     requires deleted { AreApart drawing.now.deleted.now }
     requires inserted { AreApart drawing.now.inserted.now }
     requires asked { (S.source asked.now).bytes ≡ drawing.now.source.now }
-    requires stand { AllByRecursion (StandsIn drawing.now.source.now) hunks.now }
+    requires stand { AllByRecursion (HunkIsIn drawing.now.source.now) hunks.now }
     requires places { AllByRecursion (PointsWithin (length drawing.now.source.now)) (hunks_of hunks.now) }
     ensures { OnOk result (page.new ≡ page.old ⊕ rows_tokens (drawn_frames drawing.now
-        (frames_from drawing.now.settings.layout.now.context_lines (line_texts kept_after.now) false start_standing
+        (frames_from drawing.now.settings.layout.now.context_lines (line_texts kept_after.now) false first_position
         (hunks_of hunks.now)))) }
 {
     let mut progress = Progress {

@@ -1,38 +1,38 @@
-//! The changes of blocks with no unchanged line between them, after unchanged lines.
+//! Hunks: adjacent changes with the unchanged lines before them.
 
 ghost use Rattle.std.specs.Prelude.{◌≡◌, ◌≤◌, length, IfOk};
 ghost use Rattle.std.specs.List.{AllByRecursion};
 ghost use Rattle.miette_fix_rows.specs.rules.Blocks.{line_texts};
 ghost use Rattle.miette_fix_rows.specs.rules.Hunks.{diff_from};
-ghost use Rattle.miette_fix_drawing.specs.steps.Places.{StandsIn};
+ghost use Rattle.miette_fix_drawing.specs.steps.Places.{HunkIsIn};
 ghost use Rattle.miette_fix_drawing.specs.steps.Rising.{AreRising, joined, joined_end};
 ghost use Rattle.miette_fix_drawing.specs.views.Hunks.{hunks_of};
 
 use miette_fix_rows::changes::Change;
 use std::alloc::{AllocError, Global};
 
-/// Changes with no unchanged line between them, after unchanged lines.
+/// Adjacent changes, and the unchanged lines before them.
 #[derive(Clone, Copy)]
 pub(crate) struct Hunk<'a> {
-    /// Where the unchanged lines begin in the source.
+    /// The offset in the source at which the unchanged lines begin.
     pub(crate) at: usize,
     /// The unchanged lines.
     pub(crate) kept: &'a [u8],
-    /// The changes.
+    /// The changes, with no unchanged line between them.
     pub(crate) changes: &'a [Change<'a>],
 }
 
-// Where the removed lines of a change end.
+// Returns the end of a change's removed lines.
 fn end_of(source: &[u8], change: &Change) -> usize
     requires { change.now.to ≤ length source.now }
     ensures { result ≡ change.now.to }
 {
     let size = change.removed().len();
     let _all = source.len();
-    change.from() + size
+    change.start() + size
 }
 
-// How many of the first of some changes have no unchanged line before them, from an offset on, and where these end.
+// Returns how many changes from the first on are adjacent, the first one beginning at `at`, and where they end.
 fn joined(source: &[u8], at: usize, changes: &[Change]) -> (usize, usize)
     requires { AreRising (length source.now) at changes.now }
     ensures many { result.0 ≡ joined at changes.now }
@@ -42,7 +42,7 @@ fn joined(source: &[u8], at: usize, changes: &[Change]) -> (usize, usize)
     let mut end = at;
     let mut many = 0;
     for change in changes {
-        if change.from() != end {
+        if change.start() != end {
             return (many, end);
         }
         end = end_of(source, change);
@@ -51,7 +51,7 @@ fn joined(source: &[u8], at: usize, changes: &[Change]) -> (usize, usize)
     (many, end)
 }
 
-/// The hunks of changes, and the unchanged lines after the last of them.
+/// Returns the hunks of changes, and the unchanged lines after the last one.
 pub(crate) fn hunks_of<'a>(
     alloc: Global,
     source: &'a [u8],
@@ -59,14 +59,14 @@ pub(crate) fn hunks_of<'a>(
 ) -> Result<(Vec<Hunk<'a>>, &'a [u8]), AllocError>
     requires { AreRising (length source.now) 0 changes.now }
     ensures hunks { IfOk result (λ it. hunks_of it.0.items ≡ (diff_from source.now 0 changes.now).hunks) }
-    ensures stand { IfOk result (λ it. AllByRecursion (StandsIn source.now) it.0.items) }
+    ensures stand { IfOk result (λ it. AllByRecursion (HunkIsIn source.now) it.0.items) }
     ensures behind { IfOk result (λ it. line_texts it.1.now ≡ (diff_from source.now 0 changes.now).after_hunks) }
 {
     let mut list = Vec::new(alloc);
     let mut low = 0;
     let mut at = 0;
     while low < changes.len() {
-        let from = changes[low].from();
+        let from = changes[low].start();
         let (many, end) = joined(source, from, &changes[low..]);
         list.push(Hunk {
             at,

@@ -1,26 +1,26 @@
-//! The ends of a changed line: the columns around which it is cut.
+//! The columns of a changed line around which it is cut.
 
 ghost use Rattle.std.specs.Prelude.{◌≡◌, ◌+◌, [], ◌++◌, ◌<◌, ◌^◌, length, if◌then◌else◌, IfOk, OnOk};
 ghost use Rattle.std.specs.List.{filter};
-ghost use Rattle.miette_snippet_rules.specs.views.Settings.{settings_of};
-ghost use Rattle.miette_fix_rows.specs.rules.DiffTexts.{is_on, line_ends, text_of_line};
+ghost use Rattle.miette_snippet_rules.specs.views.SnippetSettings.{settings_of};
+ghost use Rattle.miette_fix_rows.specs.rules.DiffTexts.{is_on, line_ends, without_terminator};
 ghost use Rattle.miette_fix_drawing.specs.steps.Ends.{all_ends, span_ends};
 ghost use Rattle.miette_fix_drawing.specs.steps.Spans.{AreApart};
 
 use crate::changed_line::ChangedLine;
-use crate::digits::Outcome;
-use crate::marks_row::part_in;
-use crate::texts::text_of;
-use miette_marks::marks::Columns;
+use crate::edit_underline_row::part_in;
+use crate::line_starts::PushResult;
+use crate::texts::strip_terminator;
+use miette_lines::lines::LineOfText;
 use miette_protocol::protocol::SourceSpan;
+use miette_snippet_rules::line_underlines::ColumnMap;
 use miette_snippet_rules::options::SnippetSettings;
-use miette_source_lines::lines::LineOfText;
 use std::alloc::{AllocError, Global};
 
-// Whether an edit is one of a line's, whose text is given: it touches the line, unless it begins after a terminator.
+// Returns whether an edit belongs to a line: it touches the line and doesn't begin after its terminator.
 fn is_on(line: &ChangedLine, text: &[u8], span: &SourceSpan) -> bool
     requires within { line.now.start + length line.now.text.now < 2 ^ 64 }
-    requires text { text.now ≡ text_of_line line.now.text.now }
+    requires text { text.now ≡ without_terminator line.now.text.now }
     ensures { result ≡ is_on line.now.start line.now.text.now span.now }
 {
     let end = line.start + line.text.len();
@@ -28,13 +28,13 @@ fn is_on(line: &ChangedLine, text: &[u8], span: &SourceSpan) -> bool
         && (span.offset() < end || (span.offset() == end && text.len() == line.text.len()))
 }
 
-// Puts the ends of what a span has in a line after others, by the columns of the line's text.
+// Appends the first and last column of a span in the line.
 fn push_ends(
     ends: &mut Vec<usize>,
-    columns: &Columns,
+    columns: &ColumnMap,
     line: &ChangedLine,
     span: &SourceSpan,
-) -> Outcome
+) -> PushResult
     requires { line.now.start + length line.now.text.now < 2 ^ 64 }
     ensures { OnOk result (ends.new.items ≡ ends.old.items
         ++ span_ends columns.now line.now.start (length line.now.text.now) span.now) }
@@ -49,16 +49,16 @@ fn push_ends(
     Ok(())
 }
 
-// The same where the span is of an edit of that line, whose text is given; nothing where it isn't.
+// Appends these columns if the span's edit belongs to the line.
 fn push_ends_on(
     ends: &mut Vec<usize>,
-    columns: &Columns,
+    columns: &ColumnMap,
     line: &ChangedLine,
     text: &[u8],
     span: &SourceSpan,
-) -> Outcome
+) -> PushResult
     requires within { line.now.start + length line.now.text.now < 2 ^ 64 }
-    requires text { text.now ≡ text_of_line line.now.text.now }
+    requires text { text.now ≡ without_terminator line.now.text.now }
     ensures { OnOk result (ends.new.items ≡ ends.old.items ++ (if is_on line.now.start line.now.text.now span.now
         then span_ends columns.now line.now.start (length line.now.text.now) span.now else [])) }
 {
@@ -68,16 +68,16 @@ fn push_ends_on(
     Ok(())
 }
 
-// The ends of a line by the columns of its text, whose bytes are given.
+// Returns the columns around which a line is cut. `text` are the bytes of its text.
 fn ends_in(
     alloc: Global,
-    columns: &Columns,
+    columns: &ColumnMap,
     line: &ChangedLine,
     text: &[u8],
 ) -> Result<Vec<usize>, AllocError>
     requires within { line.now.start + length line.now.text.now < 2 ^ 64 }
     requires apart { AreApart line.now.spans.now }
-    requires text { text.now ≡ text_of_line line.now.text.now }
+    requires text { text.now ≡ without_terminator line.now.text.now }
     ensures { IfOk result (λ ends. ends.items ≡ all_ends columns.now line.now.start (length line.now.text.now)
         (filter (is_on line.now.start line.now.text.now) line.now.spans.now)) }
 {
@@ -92,7 +92,8 @@ fn ends_in(
     Ok(ends)
 }
 
-/// The ends of a changed line. `AllocError` where memory is refused, or a column is past the largest `usize`.
+/// Returns the columns around which a changed line is cut. `AllocError` if allocation fails or a column exceeds
+/// `usize::MAX`.
 pub(crate) fn line_ends(
     settings: &SnippetSettings<'_>,
     line: &ChangedLine,
@@ -102,12 +103,12 @@ pub(crate) fn line_ends(
     ensures { IfOk result (λ ends. ends.items ≡ line_ends (settings_of settings.now) line.now.start line.now.text.now
         line.now.spans.now) }
 {
-    let text = text_of(line.text);
+    let text = strip_terminator(line.text);
     let bounds = LineOfText {
         start: line.start,
         text_end: line.start + text.len(),
         end: line.start + line.text.len(),
     };
-    let columns = Columns::new(settings.alloc, &bounds, text, settings.layout.tab_width)?;
+    let columns = ColumnMap::new(settings.alloc, &bounds, text, settings.layout.tab_width)?;
     ends_in(settings.alloc, &columns, line, text)
 }

@@ -1,38 +1,39 @@
-//! Lines that stand one after the other in a frame.
+//! Segments: consecutive lines of a frame that are all unchanged, removed or added.
 
 ghost use Rattle.std.specs.Prelude.{◌≡◌, ◌<◌, length, max, option_copied, [], None, IfOk, IfSome, OnOk};
 ghost use Rattle.std.specs.Option.{option_map};
-ghost use Rattle.miette_page.specs.views.Printouts.{◌⊕◌};
-ghost use Rattle.miette_page.specs.views.Tokens.{rows_tokens};
+ghost use Rattle.miette_style.specs.views.Printouts.{◌⊕◌};
+ghost use Rattle.miette_style.specs.views.Tokens.{rows_tokens};
 ghost use Rattle.miette_fix_rows.specs.rules.Blocks.{line_texts};
-ghost use Rattle.miette_fix_rows.specs.rules.DiffRows.{added_beside, added_line, largest, number_of, past};
-ghost use Rattle.miette_fix_rows.specs.rules.DiffRows.{removed_beside, removed_line, rows_of_line, rows_of_lines};
-ghost use Rattle.miette_fix_rows.specs.rules.DiffFrames.{other_line};
+ghost use Rattle.miette_fix_rows.specs.rules.DiffRows.{added_beside, added_line, largest_number, number_of, past};
+ghost use Rattle.miette_fix_rows.specs.rules.DiffRows.{removed_beside, removed_line, rows_of_diff_line};
+ghost use Rattle.miette_fix_rows.specs.rules.DiffRows.{rows_of_diff_lines};
+ghost use Rattle.miette_fix_rows.specs.rules.DiffFrames.{paired_line};
 ghost use Rattle.miette_fix_drawing.specs.views.ChangedLines.{IsReadable, changed_line_of};
 ghost use Rattle.miette_fix_rows.specs.laws.Frames.{past_lines};
 ghost use Rattle.miette_fix_drawing.specs.steps.Spans.{AreApart};
 ghost use Rattle.miette_fix_drawing.specs.views.Contexts.{context_with};
-ghost use Rattle.miette_fix_drawing.specs.views.ShownLines.{Fits, line_of_shown, lines_of_segment, shown_before};
-ghost use Rattle.miette_fix_drawing.specs.views.ShownLines.{away_after, away_past, other_of, text_before};
-ghost use Rattle.miette_fix_drawing.specs.views.Standings.{standing_of};
+ghost use Rattle.miette_fix_drawing.specs.views.ShownLines.{LineFits, line_of_shown, lines_of_segment, shown_before};
+ghost use Rattle.miette_fix_drawing.specs.views.ShownLines.{away_after, away_past, paired_line_of, text_before};
+ghost use Rattle.miette_fix_drawing.specs.views.DiffPositions.{diff_position_of};
 
 use crate::changed_line::ChangedLine;
 use crate::changed_rows::push_changed_rows;
-use crate::digits::Outcome;
+use crate::diff_position::DiffPosition;
 use crate::kept_row::push_kept_row;
-use crate::standing::Standing;
-use miette_basics::sums::sum;
-use miette_frames::frame::Frame;
-use miette_page::canvas::Canvas;
-use miette_page::page::Page;
+use crate::line_starts::PushResult;
+use miette_lines::lines::first_line;
+use miette_lines::sums::sum;
 use miette_protocol::protocol::SourceSpan;
-use miette_source_lines::lines::first_line;
+use miette_snippet_frames::frame::Frame;
+use miette_style::canvas::Canvas;
+use miette_style::page::RowPrinter;
 use std::alloc::AllocError;
 
-/// What becomes of a line.
+/// What happens to a line.
 #[derive(Clone, Copy, Debug, PartialEq, Eq, Drop)]
-pub(crate) enum Kind {
-    /// It stays.
+pub(crate) enum DiffLineKind {
+    /// It is unchanged.
     Kept,
     /// It is removed.
     Removed,
@@ -40,27 +41,27 @@ pub(crate) enum Kind {
     Added,
 }
 
-/// A line that is shown, with its terminator, and the line that goes with it, if there is one.
+/// A shown line with its terminator, and its counterpart if it has one.
 #[derive(Clone, Copy)]
 pub(crate) struct SegmentLine<'a> {
-    pub(crate) kind: Kind,
+    pub(crate) kind: DiffLineKind,
     pub(crate) text: &'a [u8],
-    pub(crate) other: Option<OtherText<'a>>,
+    pub(crate) other: Option<PairedText<'a>>,
 }
 
-/// The line that goes with a changed one, and where it stands among the changes: an added one after `away` bytes of
-/// added lines, a removed one `away` bytes before the end of the removed ones.
+/// The counterpart of a changed line. An added one comes after `away` bytes of added lines. A removed one begins `away`
+/// bytes before the end of the removed lines.
 #[derive(Clone, Copy)]
-pub(crate) struct OtherText<'a> {
+pub(crate) struct PairedText<'a> {
     pub(crate) text: &'a [u8],
     pub(crate) away: usize,
 }
 
-/// Lines one after the other, and those of which the first goes with the first, and so on, with where the first of
-/// these stands among the changes.
+/// Consecutive lines of one kind. `others` are their counterparts in order, and `away` is the position of the first
+/// counterpart.
 #[derive(Clone, Copy)]
 pub(crate) struct Segment<'a> {
-    pub(crate) kind: Kind,
+    pub(crate) kind: DiffLineKind,
     pub(crate) lines: &'a [u8],
     pub(crate) others: &'a [u8],
     pub(crate) away: usize,
@@ -74,7 +75,7 @@ pub(crate) struct DiffDrawing<'a> {
     pub(crate) inserted: &'a [SourceSpan],
 }
 
-// Takes the first line off bytes, if there is one.
+// Takes the first line off the bytes, if there is one.
 fn next_line<'a>(bytes: &mut &'a [u8]) -> Option<&'a [u8]>
     ensures lines { line_texts bytes.old.now ≡ text_before (option_copied result) (line_texts bytes.new.now) }
     ensures none { option_copied result ≡ None → line_texts bytes.new.now ≡ [] }
@@ -89,19 +90,19 @@ fn next_line<'a>(bytes: &mut &'a [u8]) -> Option<&'a [u8]>
     Some(&all[..end])
 }
 
-// Where the next of the others stands, after one of `size` bytes.
-fn away_after(kind: Kind, away: usize, size: usize) -> Result<usize, AllocError>
+// Returns the position of the next counterpart, after one of `size` bytes.
+fn away_after(kind: DiffLineKind, away: usize, size: usize) -> Result<usize, AllocError>
     ensures { IfOk result (λ next. next ≡ away_after kind away size) }
 {
     match kind {
-        Kind::Kept => Ok(away),
-        Kind::Removed => sum(away, size),
-        Kind::Added => Ok(away.saturating_sub(size)),
+        DiffLineKind::Kept => Ok(away),
+        DiffLineKind::Removed => sum(away, size),
+        DiffLineKind::Added => Ok(away.saturating_sub(size)),
     }
 }
 
-// Where they stand after one of them, if there is one.
-fn away_past(kind: Kind, away: usize, other: Option<&[u8]>) -> Result<usize, AllocError>
+// Returns the position of the next counterpart, if there is one.
+fn away_past(kind: DiffLineKind, away: usize, other: Option<&[u8]>) -> Result<usize, AllocError>
     ensures { IfOk result (λ next. next ≡ away_past kind away (option_copied other.entry)) }
 {
     match other {
@@ -110,18 +111,18 @@ fn away_past(kind: Kind, away: usize, other: Option<&[u8]>) -> Result<usize, All
     }
 }
 
-// A line that goes with another, and where it stands.
-fn other_text(other: Option<&[u8]>, away: usize) -> Option<OtherText<'_>>
-    ensures { option_map other_of result ≡ option_map (λ text. other_line text away) (option_copied other.entry) }
+// Returns a counterpart with its position.
+fn paired_text(other: Option<&[u8]>, away: usize) -> Option<PairedText<'_>>
+    ensures { option_map paired_line_of result ≡ option_map (λ text. paired_line text away) (option_copied other.entry) }
 {
     match other {
-        Some(text) => Some(OtherText { text, away }),
+        Some(text) => Some(PairedText { text, away }),
         None => None,
     }
 }
 
 impl<'a> Segment<'a> {
-    /// Takes the first line off, if there is one. `AllocError` where a count of bytes is past the largest `usize`.
+    /// Takes off the first line, if there is one. `AllocError` if a byte count exceeds `usize::MAX`.
     pub(crate) fn next(&mut self) -> Result<Option<SegmentLine<'a>>, AllocError>
         ensures lines { IfOk result (λ line.
             lines_of_segment self.old ≡ shown_before line (lines_of_segment self.new)) }
@@ -138,46 +139,46 @@ impl<'a> Segment<'a> {
         Ok(Some(SegmentLine {
             kind,
             text,
-            other: other_text(other, away),
+            other: paired_text(other, away),
         }))
     }
 }
 
-/// Where stands what comes after a line.
-pub(crate) fn past(at: &Standing, line: &SegmentLine) -> Result<Standing, AllocError>
-    ensures { IfOk result (λ after. standing_of after ≡ past (standing_of at.now) (line_of_shown line.now)) }
+/// Returns the position after a line.
+pub(crate) fn past(at: &DiffPosition, line: &SegmentLine) -> Result<DiffPosition, AllocError>
+    ensures { IfOk result (λ after. diff_position_of after ≡ past (diff_position_of at.now) (line_of_shown line.now)) }
 {
     let size = line.text.len();
     let mut after = *at;
-    if line.kind != Kind::Added {
+    if line.kind != DiffLineKind::Added {
         after.old_line = sum(at.old_line, 1)?;
         after.old_offset = sum(at.old_offset, size)?;
     }
-    if line.kind != Kind::Removed {
+    if line.kind != DiffLineKind::Removed {
         after.new_line = sum(at.new_line, 1)?;
         after.new_offset = sum(at.new_offset, size)?;
     }
     Ok(after)
 }
 
-// The number of a line.
-fn number_of(at: &Standing, line: &SegmentLine) -> Result<usize, AllocError>
-    ensures { IfOk result (λ number. number ≡ number_of (standing_of at.now) (line_of_shown line.now)) }
+// Returns the one-based number of a line.
+fn number_of(at: &DiffPosition, line: &SegmentLine) -> Result<usize, AllocError>
+    ensures { IfOk result (λ number. number ≡ number_of (diff_position_of at.now) (line_of_shown line.now)) }
 {
     match line.kind {
-        Kind::Kept | Kind::Removed => sum(at.old_line, 1),
-        Kind::Added => sum(at.new_line, 1),
+        DiffLineKind::Kept | DiffLineKind::Removed => sum(at.old_line, 1),
+        DiffLineKind::Added => sum(at.new_line, 1),
     }
 }
 
-// A removed line that stands there.
+// Returns the removed line at a position.
 fn removed_line<'a>(
     drawing: &DiffDrawing<'a>,
-    at: &Standing,
+    at: &DiffPosition,
     text: &'a [u8],
 ) -> Result<ChangedLine<'a>, AllocError>
     ensures { IfOk result (λ line. changed_line_of line
-        ≡ removed_line (context_with drawing.now) (standing_of at.now) text.now) }
+        ≡ removed_line (context_with drawing.now) (diff_position_of at.now) text.now) }
 {
     Ok(ChangedLine {
         sign: '-',
@@ -189,14 +190,14 @@ fn removed_line<'a>(
     })
 }
 
-// An added line that stands there.
+// Returns the added line at a position.
 fn added_line<'a>(
     drawing: &DiffDrawing<'a>,
-    at: &Standing,
+    at: &DiffPosition,
     text: &'a [u8],
 ) -> Result<ChangedLine<'a>, AllocError>
     ensures { IfOk result (λ line. changed_line_of line
-        ≡ added_line (context_with drawing.now) (standing_of at.now) text.now) }
+        ≡ added_line (context_with drawing.now) (diff_position_of at.now) text.now) }
 {
     Ok(ChangedLine {
         sign: '+',
@@ -208,15 +209,15 @@ fn added_line<'a>(
     })
 }
 
-// The added line that goes with a removed one that stands there, if there is one.
+// Returns the added counterpart of the removed line at a position.
 fn added_beside<'a>(
     drawing: &DiffDrawing<'a>,
-    at: &Standing,
-    other: Option<OtherText<'a>>,
+    at: &DiffPosition,
+    other: Option<PairedText<'a>>,
 ) -> Result<Option<ChangedLine<'a>>, AllocError>
     requires { AreApart drawing.now.inserted.now }
     ensures lines { IfOk result (λ line. option_map changed_line_of line ≡ option_map
-        (added_beside (context_with drawing.now) (standing_of at.now)) (option_map other_of other.entry)) }
+        (added_beside (context_with drawing.now) (diff_position_of at.now)) (option_map paired_line_of other.entry)) }
     ensures readable { IfOk result (λ line. IfSome line IsReadable) }
 {
     let Some(other) = other else {
@@ -228,15 +229,15 @@ fn added_beside<'a>(
     Ok(Some(ChangedLine { start, ..line }))
 }
 
-// The removed line that goes with an added one that stands there, if there is one.
+// Returns the removed counterpart of the added line at a position.
 fn removed_beside<'a>(
     drawing: &DiffDrawing<'a>,
-    at: &Standing,
-    other: Option<OtherText<'a>>,
+    at: &DiffPosition,
+    other: Option<PairedText<'a>>,
 ) -> Result<Option<ChangedLine<'a>>, AllocError>
     requires { AreApart drawing.now.deleted.now }
     ensures lines { IfOk result (λ line. option_map changed_line_of line ≡ option_map
-        (removed_beside (context_with drawing.now) (standing_of at.now)) (option_map other_of other.entry)) }
+        (removed_beside (context_with drawing.now) (diff_position_of at.now)) (option_map paired_line_of other.entry)) }
     ensures readable { IfOk result (λ line. IfSome line IsReadable) }
 {
     let Some(other) = other else {
@@ -248,27 +249,27 @@ fn removed_beside<'a>(
     Ok(Some(ChangedLine { start, ..line }))
 }
 
-// The rows of a line that is removed or added, where what comes after it stands so.
+// Prints the rows of a removed or added line.
 fn push_changed_line<O: Canvas>(
-    page: &mut Page<O>,
+    page: &mut RowPrinter<O>,
     drawing: &DiffDrawing,
-    at: &Standing,
+    at: &DiffPosition,
     line: &SegmentLine,
-) -> Outcome
+) -> PushResult
     requires deleted { AreApart drawing.now.deleted.now }
     requires inserted { AreApart drawing.now.inserted.now }
-    requires within { Fits (standing_of at.now) line.now }
-    ensures { OnOk result (page.new ≡ page.old ⊕ rows_tokens (rows_of_line (context_with drawing.now)
-        (standing_of at.now) (line_of_shown line.now))) }
+    requires within { LineFits (diff_position_of at.now) line.now }
+    ensures { OnOk result (page.new ≡ page.old ⊕ rows_tokens (rows_of_diff_line (context_with drawing.now)
+        (diff_position_of at.now) (line_of_shown line.now))) }
 {
     match line.kind {
-        Kind::Kept => push_kept_row(page, &drawing.frame, at, line.text),
-        Kind::Removed => {
+        DiffLineKind::Kept => push_kept_row(page, &drawing.frame, at, line.text),
+        DiffLineKind::Removed => {
             let changed = removed_line(drawing, at, line.text)?;
             let other = added_beside(drawing, at, line.other)?;
             push_changed_rows(page, &drawing.frame, &changed, other)
         }
-        Kind::Added => {
+        DiffLineKind::Added => {
             let changed = added_line(drawing, at, line.text)?;
             let other = removed_beside(drawing, at, line.other)?;
             push_changed_rows(page, &drawing.frame, &changed, other)
@@ -276,37 +277,38 @@ fn push_changed_line<O: Canvas>(
     }
 }
 
-// The rows of a line; gives where stands what comes after it.
+// Prints the rows of a line and returns the position after it.
 fn push_line<O: Canvas>(
-    page: &mut Page<O>,
+    page: &mut RowPrinter<O>,
     drawing: &DiffDrawing,
-    at: &Standing,
+    at: &DiffPosition,
     line: &SegmentLine,
-) -> Result<Standing, AllocError>
+) -> Result<DiffPosition, AllocError>
     requires deleted { AreApart drawing.now.deleted.now }
     requires inserted { AreApart drawing.now.inserted.now }
-    ensures rows { OnOk result (page.new ≡ page.old ⊕ rows_tokens (rows_of_line (context_with drawing.now)
-        (standing_of at.now) (line_of_shown line.now))) }
-    ensures behind { IfOk result (λ after. standing_of after ≡ past (standing_of at.now) (line_of_shown line.now)) }
+    ensures rows { OnOk result (page.new ≡ page.old ⊕ rows_tokens (rows_of_diff_line (context_with drawing.now)
+        (diff_position_of at.now) (line_of_shown line.now))) }
+    ensures behind { IfOk result (λ after. diff_position_of after ≡ past (diff_position_of at.now)
+        (line_of_shown line.now)) }
 {
     let after = past(at, line)?;
     push_changed_line(page, drawing, at, line)?;
     Ok(after)
 }
 
-/// The rows of lines one after the other; gives where stands what comes after them.
+/// Prints the rows of a segment and returns the position after it.
 pub(crate) fn push_segment<O: Canvas>(
-    page: &mut Page<O>,
+    page: &mut RowPrinter<O>,
     drawing: &DiffDrawing,
-    at: &Standing,
+    at: &DiffPosition,
     segment: &Segment,
-) -> Result<Standing, AllocError>
+) -> Result<DiffPosition, AllocError>
     requires deleted { AreApart drawing.now.deleted.now }
     requires inserted { AreApart drawing.now.inserted.now }
-    ensures rows { OnOk result (page.new ≡ page.old ⊕ rows_tokens (rows_of_lines (context_with drawing.now)
-        (standing_of at.now) (lines_of_segment segment.now))) }
+    ensures rows { OnOk result (page.new ≡ page.old ⊕ rows_tokens (rows_of_diff_lines (context_with drawing.now)
+        (diff_position_of at.now) (lines_of_segment segment.now))) }
     ensures behind { IfOk result (λ after.
-        standing_of after ≡ past_lines (standing_of at.now) (lines_of_segment segment.now)) }
+        diff_position_of after ≡ past_lines (diff_position_of at.now) (lines_of_segment segment.now)) }
 {
     let mut at = *at;
     let mut left = *segment;
@@ -316,16 +318,16 @@ pub(crate) fn push_segment<O: Canvas>(
     Ok(at)
 }
 
-/// Where stands what comes after lines, and the largest of their numbers, if that is larger than this.
-pub(crate) fn measured(
-    at: &Standing,
+/// Returns the position after a segment, and the largest of `least` and its line numbers.
+pub(crate) fn measure_segment(
+    at: &DiffPosition,
     segment: &Segment,
     least: usize,
-) -> Result<(Standing, usize), AllocError>
+) -> Result<(DiffPosition, usize), AllocError>
     ensures behind { IfOk result (λ it.
-        standing_of it.0 ≡ past_lines (standing_of at.now) (lines_of_segment segment.now)) }
+        diff_position_of it.0 ≡ past_lines (diff_position_of at.now) (lines_of_segment segment.now)) }
     ensures most { IfOk result (λ it.
-        it.1 ≡ max least (largest (standing_of at.now) (lines_of_segment segment.now))) }
+        it.1 ≡ max least (largest_number (diff_position_of at.now) (lines_of_segment segment.now))) }
 {
     let mut at = *at;
     let mut left = *segment;

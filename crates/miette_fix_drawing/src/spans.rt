@@ -1,24 +1,24 @@
-//! What edits delete of the source, and insert in the applied text.
+//! The spans that edits delete from the source or insert into the applied text.
 
 ghost use Rattle.std.specs.Prelude.{◌≡◌, ◌+◌, ◌≤◌, ℕ, List, nat_le, nat_lt};
 ghost use Rattle.std.specs.List.{filter, list_any};
-ghost use Rattle.miette_cells.specs.rules.Cells.{Cell as TextCell};
-ghost use Rattle.miette_cells.specs.views.Walking.{cell_of};
+ghost use Rattle.miette_columns.specs.rules.Cells.{Cell as TextCell};
+ghost use Rattle.miette_columns.specs.views.Walking.{cell_of};
 ghost use Rattle.miette_style.specs.declared.style.Style.{Style};
 ghost use Rattle.miette_fix_rows.specs.rules.DiffTexts.{holds_byte, is_on, parts_in};
 ghost use Rattle.miette_fix_drawing.specs.steps.Spans.{AreApart};
 
-use miette_cells::cells::Cell;
+use miette_columns::cells::Cell;
 use miette_protocol::protocol::SourceSpan;
 
-// Whether a span ends at an offset or before.
+// Returns whether a span ends at the offset or before it.
 fn ends_by(span: &SourceSpan, offset: usize) -> bool
     ensures { result ≡ nat_le (span.now.offset + span.now.len) offset }
 {
     span.offset() <= offset && span.len() <= offset - span.offset()
 }
 
-// Whether a span has a byte of a cell.
+// Returns whether a span has a byte of the cell.
 fn holds_byte(cell: &Cell, span: &SourceSpan) -> bool
     ensures { result ≡ holds_byte (cell_of cell.now) span.now }
 {
@@ -27,8 +27,8 @@ fn holds_byte(cell: &Cell, span: &SourceSpan) -> bool
         && span.offset() < cell.after
 }
 
-/// Spans without those in front that end at an offset or before.
-pub fn spans_past(spans: &[SourceSpan], offset: usize) -> &[SourceSpan]
+/// Skips the first spans as long as they end at the offset or before it.
+pub fn spans_ending_after(spans: &[SourceSpan], offset: usize) -> &[SourceSpan]
     requires { AreApart spans.now }
     ensures apart { AreApart result.now }
     ensures same { (cell : TextCell) → offset ≤ cell.start →
@@ -44,7 +44,7 @@ pub fn spans_past(spans: &[SourceSpan], offset: usize) -> &[SourceSpan]
     &[]
 }
 
-/// Whether one of some spans has a byte of a cell.
+/// Returns whether one of the spans has a byte of the cell.
 #[tactic(auto, using(crate::proofs::Apart::any_at, crate::proofs::Apart::held_at, crate::proofs::Apart::none_at))]
 pub fn some_holds_byte(spans: &[SourceSpan], cell: &Cell) -> bool
     requires { AreApart spans.now }
@@ -61,15 +61,15 @@ pub fn some_holds_byte(spans: &[SourceSpan], cell: &Cell) -> bool
     false
 }
 
-// Whether a span ends before an offset.
+// Returns whether a span ends before the offset.
 fn ends_before(span: &SourceSpan, offset: usize) -> bool
     ensures { result ≡ nat_lt (span.now.offset + span.now.len) offset }
 {
     span.offset() < offset && span.len() < offset - span.offset()
 }
 
-/// Spans without those in front that end before an offset, where a line begins.
-pub fn spans_from(spans: &[SourceSpan], offset: usize) -> &[SourceSpan]
+/// Skips the first spans as long as they end before the offset, at which a line begins.
+pub fn spans_not_ending_before(spans: &[SourceSpan], offset: usize) -> &[SourceSpan]
     requires { AreApart spans.now }
     ensures apart { AreApart result.now }
     ensures held { (cell : TextCell) → offset ≤ cell.start →

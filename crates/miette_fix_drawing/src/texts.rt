@@ -1,18 +1,18 @@
-//! The text of a line.
+//! Texts of lines.
 
 ghost use Rattle.std.specs.Prelude.{◌≡◌, ◌≤◌, length};
 ghost use Rattle.std.specs.List.{prefix_len};
-ghost use Rattle.miette_source_lines.specs.rules.Lines.{is_text};
-ghost use Rattle.miette_fix_rows.specs.rules.DiffTexts.{text_of_line};
+ghost use Rattle.miette_lines.specs.rules.Lines.{is_text};
+ghost use Rattle.miette_fix_rows.specs.rules.DiffTexts.{without_terminator};
 
-// Whether a byte is no part of a terminator.
+// Returns whether a byte isn't part of a terminator.
 fn is_text(byte: u8) -> bool
     ensures { result ≡ is_text byte }
 {
     byte != b'\n' && byte != b'\r'
 }
 
-// How many bytes a line's text has.
+// Returns the number of bytes of a line's text.
 fn text_len(line: &[u8]) -> usize
     ensures len { result ≡ prefix_len is_text line.now }
     ensures within { result ≤ length line.now }
@@ -24,9 +24,9 @@ fn text_len(line: &[u8]) -> usize
     len
 }
 
-/// A line's text, without its terminator.
-pub fn text_of(line: &[u8]) -> &[u8]
-    ensures text { result.now ≡ text_of_line line.now }
+/// Returns a line without its terminator.
+pub fn strip_terminator(line: &[u8]) -> &[u8]
+    ensures text { result.now ≡ without_terminator line.now }
     ensures within { length result.now ≤ length line.now }
 {
     let len = text_len(line);

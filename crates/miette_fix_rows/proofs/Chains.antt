@@ -2,10 +2,10 @@
 use Rattle.std.proofs.Common.{ℕ, ◌+◌, ◌-◌, ◌<◌, ◌≤◌, ◌≡◌, leb, inl, inr, List, [], ◌∷◌}
 use Rattle.std.proofs.Common.{length, refl, sym, ◌∙◌, subst, arith}
 use Rattle.std.proofs.lemmas.Bool.{cases_lt, leb-false}
-use Rattle.miette_basics.proofs.Cases.{by_cases}
-use Rattle.miette_source_lines.specs.rules.Lines.{line_of, line_start, line_end}
-use Rattle.miette_source_lines.proofs.Places.{line_end_after, line_end_le, line_start_le, line_start_mono}
-use Rattle.miette_source_lines.proofs.Places.{line_start_next}
+use Rattle.miette_lines.proofs.Cases.{by_cases}
+use Rattle.miette_lines.specs.rules.Lines.{line_of, line_start, line_end}
+use Rattle.miette_lines.proofs.Places.{line_end_after, line_end_le, line_start_le, line_start_mono}
+use Rattle.miette_lines.proofs.Places.{line_start_next}
 use Rattle.miette_fixes.specs.rules.Edits.{Replacement, end_of}
 use Rattle.miette_fixes.specs.views.Ordered.{FitFrom}
 use Rattle.miette_fix_rows.specs.rules.Blocks.{block_from, block_to, blocks, joins_terminator, onto_blocks}

@@ -6,7 +6,7 @@ use Rattle.std.specs.Str.{bytes_eq}
 use Rattle.std.proofs.lemmas.Bool.{cases_lt}
 use Rattle.std.proofs.lemmas.List.{drop_all, get_or-reverse, length-map, length-reverse}
 use Rattle.miette_fix_rows.specs.rules.Hunks.{common}
-use Rattle.miette_fix_rows.specs.views.LineLists.{met_from, texts_of}
+use Rattle.miette_fix_rows.specs.views.LineLists.{met_from, borrowed_lines}
 use Rattle.miette_fix_rows.specs.declared.line_lists.Side.{Side}
 use Rattle.miette_fix_rows.specs.declared.line_lists.Side.TheVariants.{Front, Back}
 use denote.Ref.{Bor}
@@ -59,7 +59,7 @@ common_within_other (l ∷ ls) (m ∷ ms) =
 abbrev none : Bor (List ℕ)
 none = record { ref_ptr = (0, 0); now = [] }
 
-pub text_at : (ls : List (Bor (List ℕ))) (i : ℕ) → get_or (texts_of ls) i [] ≡ (get_or ls i none).now
+pub text_at : (ls : List (Bor (List ℕ))) (i : ℕ) → get_or (borrowed_lines ls) i [] ≡ (get_or ls i none).now
 text_at [] zero = refl
 text_at [] (suc i) = refl
 text_at (l ∷ ls) zero = refl
@@ -92,18 +92,18 @@ stands_stop i n ls ms lt e h =
 -- ---- met from a side
 
 abbrev met : Side → List (Bor (List ℕ)) → List (List ℕ)
-met side ls = met_from side (texts_of ls)
+met side ls = met_from side (borrowed_lines ls)
 
 met_length : (side : Side) (ls : List (Bor (List ℕ))) → length (met side ls) ≡ length ls
 met_length Front ls = length-map ls (λ l. l.now)
-met_length Back ls = length-reverse (texts_of ls) ∙ length-map ls (λ l. l.now)
+met_length Back ls = length-reverse (borrowed_lines ls) ∙ length-map ls (λ l. l.now)
 
 pub back_at : (ls : List (Bor (List ℕ))) (i : ℕ) → i < length ls
-    → get_or (reverse (texts_of ls)) i [] ≡ (get_or ls (length ls - 1 - i) none).now
+    → get_or (reverse (borrowed_lines ls)) i [] ≡ (get_or ls (length ls - 1 - i) none).now
 back_at ls i lt =
-    let n : length (texts_of ls) ≡ length ls = length-map ls (λ l. l.now) in
-    get_or-reverse (texts_of ls) i [] (omega (arith, lt, n))
-    ∙ ap (λ m. get_or (texts_of ls) (m - 1 - i) []) n ∙ text_at ls (length ls - 1 - i)
+    let n : length (borrowed_lines ls) ≡ length ls = length-map ls (λ l. l.now) in
+    get_or-reverse (borrowed_lines ls) i [] (omega (arith, lt, n))
+    ∙ ap (λ m. get_or (borrowed_lines ls) (m - 1 - i) []) n ∙ text_at ls (length ls - 1 - i)
 
 -- a place at which a sweep from a side stands
 abbrev StandsFrom : Side → List (Bor (List ℕ)) → List (Bor (List ℕ)) → ℕ → Type 0

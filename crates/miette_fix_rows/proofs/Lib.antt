@@ -10,3 +10,12 @@ pub mod Sources
 pub mod Texts
 pub mod Told
 pub mod NearHunks
+pub mod CleanLines
+pub mod PlainFixes
+pub mod ShownContext
+pub mod Applied
+pub mod AppliedBlocks
+pub mod AppliedLines
+pub mod AppliedSeams
+pub mod Frames
+pub mod Trimmed

@@ -5,9 +5,9 @@ use Rattle.std.specs.Prelude.{slice_range}
 use Rattle.std.proofs.lemmas.List.{length-map, length-take, take-map, take-take}
 use Rattle.miette_fix_rows.specs.declared.changes.Sizes.{Sizes}
 use Rattle.miette_fix_rows.specs.rules.Blocks.{bytes_of, line_texts}
-use Rattle.miette_fix_rows.specs.rules.Hunks.{Change, Parted, change_at, common, common_after, parted}
+use Rattle.miette_fix_rows.specs.rules.Hunks.{Change, BlockDiff, change_at, common, common_after, block_diff}
 use Rattle.miette_fix_rows.specs.steps.Parting.{AreSizes, IsSized, new_until, old_until, staying}
-use Rattle.miette_fix_rows.specs.views.LineLists.{texts_of}
+use Rattle.miette_fix_rows.specs.views.LineLists.{borrowed_lines}
 use Rattle.miette_fix_rows.proofs.Commons.{common_within, common_within_other}
 use Rattle.miette_fix_rows.proofs.Texts.{bytes_of-take, bytes_of_texts, texts_slice}
 use denote.Ref.{Bor}
@@ -60,34 +60,34 @@ sized old new sizes h =
     }
 
 -- bytes of the first of some lines
-pub total_of : (ls : List (Bor (List ℕ))) (i n : ℕ) → n ≡ bytes_of (texts_of (take i ls))
-    → n ≡ bytes_of (take i (texts_of ls))
+pub total_of : (ls : List (Bor (List ℕ))) (i n : ℕ) → n ≡ bytes_of (borrowed_lines (take i ls))
+    → n ≡ bytes_of (take i (borrowed_lines ls))
 total_of ls i n e = e ∙ ap bytes_of (sym (take-map (λ (l : Bor (List ℕ)). l.now) i ls))
 
-pub total_fits : (ls : List (Bor (List ℕ))) (i n : ℕ) → bytes_of (texts_of ls) < n
-    → bytes_of (texts_of (take i ls)) < n
+pub total_fits : (ls : List (Bor (List ℕ))) (i n : ℕ) → bytes_of (borrowed_lines ls) < n
+    → bytes_of (borrowed_lines (take i ls)) < n
 total_fits ls i n h =
-    let e : take i (texts_of ls) ≡ texts_of (take i ls) = take-map (λ (l : Bor (List ℕ)). l.now) i ls in
-    omega (arith, h, bytes_of-take i (texts_of ls), ap bytes_of e)
+    let e : take i (borrowed_lines ls) ≡ borrowed_lines (take i ls) = take-map (λ (l : Bor (List ℕ)). l.now) i ls in
+    omega (arith, h, bytes_of-take i (borrowed_lines ls), ap bytes_of e)
 
 until_is : (ls : List (Bor (List ℕ))) (after : ℕ)
-    → texts_of (take (length ls - after) ls) ≡ take (length (texts_of ls) - after) (texts_of ls)
+    → borrowed_lines (take (length ls - after) ls) ≡ take (length (borrowed_lines ls) - after) (borrowed_lines ls)
 until_is ls after =
     sym (take-map (λ (l : Bor (List ℕ)). l.now) (length ls - after) ls)
-    ∙ ap (λ n. take (n - after) (texts_of ls)) (sym (length-map ls (λ l. l.now)))
+    ∙ ap (λ n. take (n - after) (borrowed_lines ls)) (sym (length-map ls (λ l. l.now)))
 
 -- what a sweep over two lists finds
 pub sizes_are : (ls ms : List (Bor (List ℕ))) (sizes : Sizes) (after before : ℕ)
-    → after ≡ common_after (texts_of ls) (texts_of ms)
-    → before ≡ common (texts_of (take (length ls - after) ls)) (texts_of (take (length ms - after) ms))
-    → sizes.removed_from ≡ bytes_of (texts_of (take before ls))
-    → sizes.removed_to ≡ bytes_of (texts_of (take (length ls - after) ls))
-    → sizes.added_from ≡ bytes_of (texts_of (take before ms))
-    → sizes.added_to ≡ bytes_of (texts_of (take (length ms - after) ms))
-    → AreSizes (texts_of ls) (texts_of ms) sizes
+    → after ≡ common_after (borrowed_lines ls) (borrowed_lines ms)
+    → before ≡ common (borrowed_lines (take (length ls - after) ls)) (borrowed_lines (take (length ms - after) ms))
+    → sizes.removed_from ≡ bytes_of (borrowed_lines (take before ls))
+    → sizes.removed_to ≡ bytes_of (borrowed_lines (take (length ls - after) ls))
+    → sizes.added_from ≡ bytes_of (borrowed_lines (take before ms))
+    → sizes.added_to ≡ bytes_of (borrowed_lines (take (length ms - after) ms))
+    → AreSizes (borrowed_lines ls) (borrowed_lines ms) sizes
 sizes_are ls ms sizes after before e f a b d g =
-    let olds : List (List ℕ) = texts_of ls in
-    let news : List (List ℕ) = texts_of ms in
+    let olds : List (List ℕ) = borrowed_lines ls in
+    let news : List (List ℕ) = borrowed_lines ms in
     let at : before ≡ staying olds news =
     f ∙ ap₂ common (until_is ls after) (until_is ms after)
     ∙ ap (λ n. common (take (length olds - n) olds) (take (length news - n) news)) e in
@@ -98,11 +98,12 @@ sizes_are ls ms sizes after before e f a b d g =
       added_to = g ∙ ap bytes_of (until_is ms after) ∙ ap (λ n. bytes_of (take (length news - n) news)) e;
     }
 
-pub sized_by : (old new : List ℕ) (ls ms : List (Bor (List ℕ))) (sizes : Sizes) → texts_of ls ≡ line_texts old
-    → texts_of ms ≡ line_texts new → AreSizes (texts_of ls) (texts_of ms) sizes → IsSized old new sizes
+pub sized_by : (old new : List ℕ) (ls ms : List (Bor (List ℕ))) (sizes : Sizes) → borrowed_lines ls ≡ line_texts old
+    → borrowed_lines ms ≡ line_texts new → AreSizes (borrowed_lines ls) (borrowed_lines ms) sizes
+    → IsSized old new sizes
 sized_by old new ls ms sizes e f h =
     sized old new sizes (subst (λ p. AreSizes p (line_texts new) sizes) e
-    (subst (λ q. AreSizes (texts_of ls) q sizes) f h))
+    (subst (λ q. AreSizes (borrowed_lines ls) q sizes) f h))
 
 -- what a block changes, by these sizes
 pub change_is : (from first start place : ℕ) (old new removed : List ℕ) (sizes : Sizes) → IsSized old new sizes
@@ -110,9 +111,9 @@ pub change_is : (from first start place : ℕ) (old new removed : List ℕ) (siz
     → removed ≡ slice_range old sizes.removed_from sizes.removed_to
     → made start (start + length removed) place (line_texts removed)
     (line_texts (slice_range new sizes.added_from sizes.added_to))
-    ≡ change_at from first (parted (line_texts old) (line_texts new))
+    ≡ change_at from first (block_diff (line_texts old) (line_texts new))
 change_is from first start place old new removed sizes h e f g =
-    let p : Parted = parted (line_texts old) (line_texts new) in
+    let p : BlockDiff = block_diff (line_texts old) (line_texts new) in
     let a : start ≡ from + bytes_of p.front = e ∙ ap (λ n. from + n) h.front in
     let t : line_texts removed ≡ p.removed = ap line_texts g ∙ h.removed in
     let b : start + length removed ≡ from + bytes_of p.front + bytes_of p.removed =

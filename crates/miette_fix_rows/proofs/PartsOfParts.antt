@@ -4,8 +4,8 @@ use Rattle.std.proofs.Common.{◌∙◌, subst, inl, inr, arith}
 use Rattle.std.specs.Prelude.{slice_index, slice_range}
 use Rattle.std.proofs.lemmas.Bool.{cases_lt}
 use Rattle.std.proofs.lemmas.List.{drop-drop, drop-take, get_or-drop, get_or-take, take-append-drop, take-take}
-use Rattle.miette_source_lines.specs.rules.Lines.{ends_line}
-use Rattle.miette_source_lines.proofs.Parts.{part_length}
+use Rattle.miette_lines.specs.rules.Lines.{ends_line}
+use Rattle.miette_lines.proofs.Parts.{part_length}
 use Rattle.miette_fix_rows.proofs.Seams.{Ended}
 
 pub slice_slice : (bs : List ℕ) (x y a e : ℕ) → a ≤ e → x + e ≤ y

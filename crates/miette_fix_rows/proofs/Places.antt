@@ -3,13 +3,13 @@ use Rattle.std.proofs.Common.{ℕ, zero, suc, ◌+◌, ◌-◌, ◌≤◌, ◌�
 use Rattle.std.proofs.Common.{length, drop, refl, sym, ap, ◌∙◌, arith}
 use Rattle.std.specs.Prelude.{slice_index, slice_get}
 use Rattle.std.specs.Option.{option_map_or}
-use Rattle.miette_source_lines.specs.rules.Lines.{ends_line, line_of, line_start, line_end}
-use Rattle.miette_source_lines.specs.declared.lines.LineOfText.{LineOfText}
-use Rattle.miette_source_lines.specs.views.Walking.{IsFirst}
-use Rattle.miette_source_lines.proofs.Places.{line_end-is, line_end_past, line_of-is, line_of_all, line_of_mono}
-use Rattle.miette_source_lines.proofs.Places.{line_of_start, line_start_le}
-use Rattle.miette_basics.proofs.Cases.{by_cases}
-use Rattle.miette_source_lines.proofs.Scans.{after, end_at-lines_from, ends_before}
+use Rattle.miette_lines.specs.rules.Lines.{ends_line, line_of, line_start, line_end}
+use Rattle.miette_lines.specs.declared.lines.LineOfText.{LineOfText}
+use Rattle.miette_lines.specs.views.Walking.{IsFirst}
+use Rattle.miette_lines.proofs.Places.{line_end-is, line_end_past, line_of-is, line_of_all, line_of_mono}
+use Rattle.miette_lines.proofs.Places.{line_of_start, line_start_le}
+use Rattle.miette_lines.proofs.Cases.{by_cases}
+use Rattle.miette_lines.proofs.Scans.{after, end_at-lines_from, ends_before}
 use Rattle.miette_fixes.specs.rules.Edits.{Replacement}
 use Rattle.miette_fix_rows.specs.rules.Blocks.{block_from, joins_terminator, touched_from}
 

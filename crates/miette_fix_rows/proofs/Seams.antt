@@ -3,12 +3,12 @@ use Rattle.std.proofs.Common.{ℕ, zero, suc, ◌+◌, ◌-◌, ◌<◌, ◌≤�
 use Rattle.std.proofs.Common.{length, map, take, drop, refl, sym, ap, ap₂, ◌∙◌, subst, arith}
 use Rattle.std.specs.Prelude.{slice_index, slice_range}
 use Rattle.std.proofs.lemmas.List.{append-nil, drop-drop, get_or-drop, length-drop, take-append-drop}
-use Rattle.miette_source_lines.specs.rules.Lines.{Line, IsCut, ends_line, lines_of, line_start}
-use Rattle.miette_source_lines.proofs.Cuts.{cut_from}
-use Rattle.miette_source_lines.proofs.Places.{line_start-is}
-use Rattle.miette_source_lines.proofs.Scans.{after}
+use Rattle.miette_lines.specs.rules.Lines.{Line, IsCut, ends_line, lines_of, line_start}
+use Rattle.miette_lines.proofs.Cuts.{cut_from}
+use Rattle.miette_lines.proofs.Places.{line_start-is}
+use Rattle.miette_lines.proofs.Scans.{after}
 use Rattle.miette_fix_rows.specs.rules.Blocks.{bytes_of, line_texts, onto_line}
-use Rattle.miette_fix_rows.specs.rules.Hunks.{is_nil}
+use Rattle.miette_fix_rows.specs.rules.Hunks.{has_no_lines}
 use Rattle.miette_fix_rows.proofs.Texts.{bytes_of_texts, first_some, some_lines, texts_at, texts_by_place}
 
 -- ---- where two texts meet
@@ -23,7 +23,7 @@ one_step : (x : Bool) (b : ℕ) → cond x ((b ∷ []) ∷ []) (onto_line b []) 
 one_step true b = refl
 one_step false b = refl
 
-onto_both : (x : Bool) (b : ℕ) (ls ms : List (List ℕ)) → is_nil ls ≡ false
+onto_both : (x : Bool) (b : ℕ) (ls ms : List (List ℕ)) → has_no_lines ls ≡ false
     → cond x ((b ∷ []) ∷ (ls ++ ms)) (onto_line b (ls ++ ms)) ≡ cond x ((b ∷ []) ∷ ls) (onto_line b ls) ++ ms
 onto_both x b [] ms h = absurd (cc)
 onto_both true b (l ∷ ls) ms h = refl

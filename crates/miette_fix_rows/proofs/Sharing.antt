@@ -3,7 +3,7 @@ use Rattle.std.proofs.Common.{ℕ, zero, suc, ◌+◌, ◌-◌, ◌<◌, ◌≤�
 use Rattle.std.proofs.Common.{length, min, take, drop, get_or, refl, sym, ap, ap₂, ◌∙◌, subst, arith}
 use Rattle.std.proofs.lemmas.List.{drop-append-le, drop-map, drop-take, drop_all, drop_more, length-map}
 use Rattle.std.proofs.lemmas.List.{length-take, take-append-drop, take-map, take-take, take_rest}
-use Rattle.miette_source_lines.specs.rules.Lines.{line_of, line_start, line_end}
+use Rattle.miette_lines.specs.rules.Lines.{line_of, line_start, line_end}
 use Rattle.miette_fixes.specs.rules.Edits.{Replacement, end_of}
 use Rattle.miette_fixes.specs.views.Ordered.{FitFrom, edits_of}
 use Rattle.miette_fix_rows.specs.rules.Blocks.{block_from, blocks, onto_blocks}
@@ -88,10 +88,10 @@ pub joined : (source : List ℕ) (e : Replacement) (rest later : List Replacemen
     → blocks source (e ∷ (rest ++ later)) ≡ (e ∷ rest) ∷ blocks source later
 joined source e rest later t h = ap (onto_blocks source e) h ∙ rw t refl
 
-pub parted : (source : List ℕ) (e : Replacement) (rest later : List Replacement)
+pub block_diff : (source : List ℕ) (e : Replacement) (rest later : List Replacement)
     → leb (block_from source rest) (end_of e) ≡ false → blocks source (rest ++ later) ≡ rest ∷ blocks source later
     → IsApart source e (rest ++ later)
-parted source e rest later f h =
+block_diff source e rest later f h =
     ap (onto_blocks source e) h ∙ rw f (ap (λ bs. (e ∷ []) ∷ bs) (sym h))
 
 -- ---- what is last

@@ -4,14 +4,14 @@ use Rattle.std.proofs.Common.{length, take, drop, refl, sym, ap, ap₂, ◌∙�
 use Rattle.std.specs.Prelude.{None, slice_range}
 use Rattle.std.proofs.lemmas.List.{take-append-drop}
 use Rattle.std.proofs.lemmas.List.{take-take}
-use Rattle.miette_basics.proofs.Cases.{by_cases}
-use Rattle.miette_source_lines.proofs.Parts.{part_length}
+use Rattle.miette_lines.proofs.Cases.{by_cases}
+use Rattle.miette_lines.proofs.Parts.{part_length}
 use Rattle.miette_fixes.specs.rules.Edits.{Replacement}
-use Rattle.miette_fixes.specs.rules.Applying.{by_offset, refusal}
+use Rattle.miette_fixes.specs.rules.Applying.{by_offset, edits_error}
 use Rattle.miette_fixes.proofs.Overlaps.{fit_unrefused}
 use Rattle.miette_fix_rows.specs.rules.Blocks.{block_from, block_to, blocks, bytes_of, line_texts, new_lines, old_lines}
 use Rattle.miette_fix_rows.specs.rules.Hunks.{Change, change_of, changes_of, diff, diff_from}
-use Rattle.miette_fix_rows.specs.rules.Hunks.{is_nil, lines_before, onto_changes}
+use Rattle.miette_fix_rows.specs.rules.Hunks.{has_no_lines, lines_before, onto_changes}
 use Rattle.miette_fix_rows.proofs.Chains.{Chain, block_order, block_within, chain, from_ended, last_end, next_after}
 use Rattle.miette_fix_rows.proofs.Chains.{to_ended}
 use Rattle.miette_fix_rows.proofs.Parting.{staying_old}
@@ -86,12 +86,12 @@ at_next source before at block [] h le = tt
 at_next source before at block (next ∷ bs) h le = omega (arith, le, next_after source before block next bs h)
 
 pub without : (source : List ℕ) (at : ℕ) (change : Change) (list : List Change)
-    → (is_nil change.removed && is_nil change.added) ≡ true
+    → (has_no_lines change.removed && has_no_lines change.added) ≡ true
     → diff_from source at (onto_changes change list) ≡ diff_from source at list
 without source at change list t = rw t refl
 
 pub with_one : (source : List ℕ) (at : ℕ) (change : Change) (list : List Change)
-    → (is_nil change.removed && is_nil change.added) ≡ false
+    → (has_no_lines change.removed && has_no_lines change.added) ≡ false
     → diff_from source at (onto_changes change list) ≡ diff_from source at (change ∷ list)
 with_one source at change list f = rw f refl
 
@@ -103,7 +103,7 @@ source_from source before at (block ∷ bs) h low =
     let order : block_from source block ≤ block_to source block = block_order source before block h.0 h.1 in
     let p : IsPart source (block_from source block) (block_to source block) c = part_of source block h.0 order in
     by_cases {C = lines_before (diff_from source at (onto_changes c (changes_of source bs)))
-    ≡ line_texts (drop at source)} (is_nil c.removed && is_nil c.added)
+    ≡ line_texts (drop at source)} (has_no_lines c.removed && has_no_lines c.added)
     (λ t. ap lines_before (without source at c (changes_of source bs) t)
     ∙ source_from source (last_end block) at bs h.3
     (at_next source before at block bs h (omega (arith, low, order))))
@@ -120,7 +120,7 @@ pub first_at : (source : List ℕ) (bs : List (List Replacement)) → At source 
 first_at source [] = tt
 first_at source (block ∷ bs) = omega arith
 
-pub source_lines : (source : List ℕ) (edits : List Replacement) → refusal (length source) edits ≡ None
+pub source_lines : (source : List ℕ) (edits : List Replacement) → edits_error (length source) edits ≡ None
     → lines_before (diff source edits) ≡ line_texts source
 source_lines source edits h =
     source_from source 0 0 (blocks source (by_offset edits))

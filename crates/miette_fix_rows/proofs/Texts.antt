@@ -2,16 +2,16 @@
 use Rattle.std.proofs.Common.{ℕ, zero, suc, ◌+◌, ◌-◌, ◌<◌, ◌≤◌, ◌≡◌, Bool, true, false, cond, List, [], ◌∷◌, ◌++◌}
 use Rattle.std.proofs.Common.{length, take, drop, refl, sym, ap, ◌∙◌, arith, rules}
 use Rattle.std.specs.Prelude.{nat_eq, slice_index, slice_range}
-use Rattle.miette_fix_rows.specs.rules.Hunks.{is_nil}
+use Rattle.miette_fix_rows.specs.rules.Hunks.{has_no_lines}
 use Rattle.std.proofs.lemmas.Bool.Decides.{nat_tests}
 use Rattle.std.proofs.lemmas.List.{append-nil, append_assoc, drop-take, length-drop, map_push, nil_from_length}
 use Rattle.std.proofs.lemmas.List.{take_rest, take-take, take_all}
-use Rattle.miette_source_lines.specs.rules.Lines.{Line, IsCut, ends_line, with_byte, lines_from}
-use Rattle.miette_source_lines.specs.declared.lines.LineOfText.{LineOfText}
-use Rattle.miette_source_lines.specs.views.Walking.{IsFirst}
-use Rattle.miette_source_lines.proofs.Cuts.{cut_from}
+use Rattle.miette_lines.specs.rules.Lines.{Line, IsCut, ends_line, with_byte, lines_from}
+use Rattle.miette_lines.specs.declared.lines.LineOfText.{LineOfText}
+use Rattle.miette_lines.specs.views.Walking.{IsFirst}
+use Rattle.miette_lines.proofs.Cuts.{cut_from}
 use Rattle.miette_fix_rows.specs.rules.Blocks.{line_texts, onto_line, bytes_of}
-use Rattle.miette_fix_rows.specs.views.LineLists.{texts_of}
+use Rattle.miette_fix_rows.specs.views.LineLists.{borrowed_lines}
 use denote.Ref.{Bor}
 
 -- ---- bytes of lines
@@ -40,21 +40,21 @@ bytes_of-take zero ls = omega arith
 bytes_of-take (suc k) [] = omega arith
 bytes_of-take (suc k) (l ∷ ls) = omega (arith, bytes_of-take k ls)
 
-nil-step : (x : Bool) (b : ℕ) (ls : List (List ℕ)) → is_nil (cond x ((b ∷ []) ∷ ls) (onto_line b ls)) ≡ false
+nil-step : (x : Bool) (b : ℕ) (ls : List (List ℕ)) → has_no_lines (cond x ((b ∷ []) ∷ ls) (onto_line b ls)) ≡ false
 nil-step true b ls = refl
 nil-step false b [] = refl
 nil-step false b (l ∷ ls) = refl
 
-pub no_line : (bs : List ℕ) → length bs ≡ 0 → is_nil (line_texts bs) ≡ true
+pub no_line : (bs : List ℕ) → length bs ≡ 0 → has_no_lines (line_texts bs) ≡ true
 no_line [] e = refl
 no_line (b ∷ bs) e = absurd (omega (arith, e))
 
-pub some_lines : (bs : List ℕ) → 0 < length bs → is_nil (line_texts bs) ≡ false
+pub some_lines : (bs : List ℕ) → 0 < length bs → has_no_lines (line_texts bs) ≡ false
 some_lines [] e = absurd (omega (arith, e))
 some_lines (b ∷ bs) e = nil-step (ends_line b (slice_index bs 0)) b (line_texts bs)
 
 -- there is a line where there is a byte
-pub nil_is : (bs : List ℕ) → is_nil (line_texts bs) ≡ nat_eq (length bs) 0
+pub nil_is : (bs : List ℕ) → has_no_lines (line_texts bs) ≡ nat_eq (length bs) 0
 nil_is [] = refl
 nil_is (b ∷ bs) =
     let n : nat_eq (length (b ∷ bs)) 0 ≡ false = search rules in
@@ -225,17 +225,17 @@ first_text bs line h =
 -- one line more
 pub lines_more : (list new : List (Bor (List ℕ))) (piece : Bor (List ℕ)) (rest all : List ℕ) (line : LineOfText)
     → IsFirst (record { start = 0; bytes = rest }) line → new ≡ list ++ piece ∷ [] → piece.now ≡ take line.end rest
-    → texts_of list ++ line_texts rest ≡ line_texts all
-    → texts_of new ++ line_texts (take (length rest - line.end) (drop line.end rest)) ≡ line_texts all
+    → borrowed_lines list ++ line_texts rest ≡ line_texts all
+    → borrowed_lines new ++ line_texts (take (length rest - line.end) (drop line.end rest)) ≡ line_texts all
 lines_more list new piece rest all line first e f h =
     let left : take (length rest - line.end) (drop line.end rest) ≡ drop line.end rest = take_rest rest line.end in
-    let texts : texts_of new ≡ texts_of list ++ piece.now ∷ [] =
-    ap texts_of e ∙ map_push (λ (l : Bor (List ℕ)). l.now) list piece in
-    ap (λ ms. texts_of new ++ line_texts ms) left
+    let texts : borrowed_lines new ≡ borrowed_lines list ++ piece.now ∷ [] =
+    ap borrowed_lines e ∙ map_push (λ (l : Bor (List ℕ)). l.now) list piece in
+    ap (λ ms. borrowed_lines new ++ line_texts ms) left
     ∙ ap (λ ms. ms ++ line_texts (drop line.end rest)) texts
-    ∙ append_assoc (texts_of list) (piece.now ∷ []) (line_texts (drop line.end rest))
-    ∙ ap (λ p. texts_of list ++ p ∷ line_texts (drop line.end rest)) f
-    ∙ ap (λ ms. texts_of list ++ ms) (sym (first_text rest line first)) ∙ h
+    ∙ append_assoc (borrowed_lines list) (piece.now ∷ []) (line_texts (drop line.end rest))
+    ∙ ap (λ p. borrowed_lines list ++ p ∷ line_texts (drop line.end rest)) f
+    ∙ ap (λ ms. borrowed_lines list ++ ms) (sym (first_text rest line first)) ∙ h
 
 pub left_more : (left n : ℕ) (rest : List ℕ) → left ≡ length rest
     → left - n ≡ length (take (length rest - n) (drop n rest))
@@ -245,6 +245,7 @@ left_more left n rest e =
 
 -- no line more
 pub lines_end : (list : List (Bor (List ℕ))) (rest all : List ℕ) → length rest ≡ 0
-    → texts_of list ++ line_texts rest ≡ line_texts all → texts_of list ≡ line_texts all
+    → borrowed_lines list ++ line_texts rest ≡ line_texts all → borrowed_lines list ≡ line_texts all
 lines_end list rest all e h =
-    sym (append-nil (texts_of list)) ∙ ap (λ r. texts_of list ++ line_texts r) (sym (nil_from_length rest e)) ∙ h
+    sym (append-nil (borrowed_lines list)) ∙ ap (λ r. borrowed_lines list ++ line_texts r)
+    (sym (nil_from_length rest e)) ∙ h

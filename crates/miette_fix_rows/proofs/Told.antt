@@ -2,8 +2,9 @@
 use Rattle.std.proofs.Common.{ℕ, ◌≡◌, true, List, [], ◌∷◌, ◌++◌, refl, sym, ap, ◌∙◌, append_assoc}
 use Rattle.std.specs.List.{flat_map}
 use Rattle.std.proofs.lemmas.List.{append-nil}
-use Rattle.miette_basics.proofs.Cases.{by_cases}
-use Rattle.miette_fix_rows.specs.rules.Hunks.{Change, Diff, Hunk, is_nil, onto_hunks, onto_kept, with_change, with_kept}
+use Rattle.miette_lines.proofs.Cases.{by_cases}
+use Rattle.miette_fix_rows.specs.rules.Hunks.{Change, Diff, Hunk, has_no_lines, onto_hunks, onto_kept, with_change}
+use Rattle.miette_fix_rows.specs.rules.Hunks.{with_kept}
 
 abbrev of_hunks : (Change → List (List ℕ)) → List Hunk → List (List ℕ)
 of_hunks f hunks = flat_map (λ hunk. hunk.kept ++ flat_map f hunk.changes) hunks
@@ -22,7 +23,7 @@ kept_told f lines (hunk ∷ hunks) after =
     (append_assoc lines (hunk.kept ++ flat_map f hunk.changes) (of_hunks f hunks))
     ∙ append_assoc lines ((hunk.kept ++ flat_map f hunk.changes) ++ of_hunks f hunks) after
 
-pub nil_of : (ls : List (List ℕ)) → is_nil ls ≡ true → ls ≡ []
+pub nil_of : (ls : List (List ℕ)) → has_no_lines ls ≡ true → ls ≡ []
 nil_of [] h = refl
 nil_of (l ∷ ls) h = absurd (cc)
 
@@ -31,7 +32,7 @@ change_told : (f : Change → List (List ℕ)) (change : Change) (hunks : List H
 change_told f change [] = append-nil (f change ++ [])
 change_told f change (hunk ∷ hunks) =
     by_cases {C = of_hunks f (onto_hunks change (hunk ∷ hunks)) ≡ f change ++ of_hunks f (hunk ∷ hunks)}
-    (is_nil hunk.kept)
+    (has_no_lines hunk.kept)
     (λ t. rw t (append_assoc (f change) (flat_map f hunk.changes) (of_hunks f hunks)
     ∙ ap (λ ls. f change ++ ((ls ++ flat_map f hunk.changes) ++ of_hunks f hunks)) (sym (nil_of hunk.kept t))))
     (λ n. rw n (ap (λ ls. ls ++ of_hunks f (hunk ∷ hunks)) (append-nil (f change))))

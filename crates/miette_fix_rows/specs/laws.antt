@@ -1,4 +1,5 @@
--- What holds of the rules.
+-- The statements of theorems.
 pub mod Frames
 pub mod Whole
 pub mod Worked
+pub mod Context

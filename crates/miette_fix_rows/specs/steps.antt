@@ -1,3 +1,3 @@
--- The code's own steps; no public call cites one.
+-- Steps of the code; no public function cites one.
 pub mod Parting
 pub mod Sharing

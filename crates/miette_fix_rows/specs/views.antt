@@ -1,2 +1,2 @@
--- What a value of the code stands for.
+-- What the values of the code represent.
 pub mod LineLists

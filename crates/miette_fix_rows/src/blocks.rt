@@ -1,17 +1,17 @@
-//! Where the blocks of a fix's edits begin and end in the source.
+//! Blocks of a fix: which lines of the source its edits touch.
 
 ghost use Rattle.std.specs.Prelude.{◌≡◌, ◌<◌, ◌≤◌, ◌==◌, drop, length, slice_index, nat_le};
-ghost use Rattle.miette_source_lines.specs.rules.Lines.{LF, line_of, line_start, line_end};
+ghost use Rattle.miette_lines.specs.rules.Lines.{LF, line_of, line_start, line_end};
 ghost use Rattle.miette_fixes.specs.rules.Applying.{text_from};
 ghost use Rattle.miette_fixes.specs.views.Ordered.{FitFrom, edits_of};
 ghost use Rattle.miette_fix_rows.specs.rules.Blocks.{block_from, touched_from, touched_to};
 ghost use Rattle.miette_fix_rows.specs.steps.Sharing.{IsBlock, IsLastBlock};
 
 use miette_fixes::fix::Edit;
-use miette_source_lines::lines::first_line;
-use miette_source_lines::scan::start_before;
+use miette_lines::lines::first_line;
+use miette_lines::scan::start_before;
 
-/// Where the line of an offset begins.
+/// Returns the start of the line of an offset.
 pub(crate) fn start_of_line(source: &[u8], offset: usize) -> usize
     requires { offset ≤ length source.now }
     ensures start { result ≡ line_start source.now (line_of source.now offset) }
@@ -20,7 +20,7 @@ pub(crate) fn start_of_line(source: &[u8], offset: usize) -> usize
     start_before(source, offset, 0).0
 }
 
-/// The same, where the line of a later offset is known to begin at a place.
+/// Returns the start of the line of an offset. `next` is a later offset, whose line begins at `start`.
 fn start_before_next(source: &[u8], start: usize, next: usize, offset: usize) -> usize
     requires known { start ≡ line_start source.now (line_of source.now next) }
     requires order { offset ≤ next }
@@ -34,7 +34,7 @@ fn start_before_next(source: &[u8], start: usize, next: usize, offset: usize) ->
     start_of_line(source, offset)
 }
 
-/// Where the line of an offset ends.
+/// Returns the end of the line of an offset.
 pub(crate) fn end_of_line(source: &[u8], offset: usize) -> usize
     requires { offset ≤ length source.now }
     ensures end { result ≡ line_end source.now (line_of source.now offset) }
@@ -47,7 +47,7 @@ pub(crate) fn end_of_line(source: &[u8], offset: usize) -> usize
     first_line(&source[offset..], offset).end
 }
 
-// Whether the text from an offset on begins with LF after edits.
+// Returns whether the text from an offset on begins with LF once the edits are applied.
 fn begins_with_lf(bytes: &[u8], from: usize, edits: &[&Edit]) -> bool
     requires { FitFrom (length bytes.now) from (edits_of edits.now) }
     ensures { result ≡ (slice_index (text_from bytes.now from (edits_of edits.now)) 0 == LF) }
@@ -65,7 +65,7 @@ fn begins_with_lf(bytes: &[u8], from: usize, edits: &[&Edit]) -> bool
     at < bytes.len() && bytes[at] == b'\n'
 }
 
-/// Where a block begins, of which the touched lines are known.
+/// Returns the start of a block. `start` and `to` are the bounds of the lines its edits touch.
 pub(crate) fn block_start(source: &[u8], start: usize, to: usize, edits: &[&Edit]) -> usize
     requires { IsBlock source.now start to (edits_of edits.now) }
     ensures start { result ≡ block_from source.now (edits_of edits.now) }
@@ -80,7 +80,7 @@ pub(crate) fn block_start(source: &[u8], start: usize, to: usize, edits: &[&Edit
     start
 }
 
-/// Whether an edit that ends at an offset shares a line with a block after it.
+/// Returns whether an edit that ends at the offset `end` shares a line with the block after it.
 pub(crate) fn shares(source: &[u8], start: usize, to: usize, edits: &[&Edit], end: usize) -> bool
     requires { IsBlock source.now start to (edits_of edits.now) }
     ensures { result ≡ nat_le (block_from source.now (edits_of edits.now)) end }
@@ -88,18 +88,18 @@ pub(crate) fn shares(source: &[u8], start: usize, to: usize, edits: &[&Edit], en
     start <= end || block_start(source, start, to, edits) <= end
 }
 
-/// The last block of some edits: where in their list it begins, and where the lines begin and end that it touches.
+/// The last block of a list of edits.
 #[derive(Clone, Copy)]
 pub(crate) struct Block {
     /// The index of its first edit.
     pub(crate) low: usize,
-    /// Where the first touched line begins.
+    /// The start of the first touched line.
     pub(crate) start: usize,
-    /// Where the last touched line ends.
+    /// The end of the last touched line.
     pub(crate) to: usize,
 }
 
-/// The last block of some edits, if none after them is in it.
+/// Returns the last block of the edits. No later edit may belong to it.
 pub(crate) fn last_block(source: &[u8], edits: &[&Edit]) -> Block
     requires some { 0 < length edits.now }
     requires fit { FitFrom (length source.now) 0 (edits_of edits.now) }

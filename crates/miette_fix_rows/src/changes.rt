@@ -1,26 +1,26 @@
-//! What a fix changes, block by block: the removed lines and the added ones.
+//! What a fix changes, block by block: removed lines and added lines.
 
 ghost use Rattle.std.specs.Prelude.{◌≡◌, ◌≢◌, ◌≤◌, ◌<◌, ◌+◌, ◌^◌, ◌&&◌, length, reverse, slice_range, IfOk, IfErr};
 ghost use Rattle.std.specs.Prelude.{None, Some};
 ghost use Rattle.miette_fixes.specs.declared.error.FixError.TheVariants.{Memory};
-ghost use Rattle.miette_fixes.specs.rules.Applying.{refusal};
+ghost use Rattle.miette_fixes.specs.rules.Applying.{edits_error};
 ghost use Rattle.miette_fixes.specs.views.Ordered.{FitFrom, edits_of};
 ghost use Rattle.miette_fix_rows.specs.rules.Blocks.{blocks, bytes_of, line_texts};
-ghost use Rattle.miette_fix_rows.specs.rules.Hunks.{change_at, change_of, changes, changes_of, is_nil, onto_changes};
-ghost use Rattle.miette_fix_rows.specs.rules.Hunks.{parted};
+ghost use Rattle.miette_fix_rows.specs.rules.Hunks.{change_at, change_of, changes, changes_of, has_no_lines};
+ghost use Rattle.miette_fix_rows.specs.rules.Hunks.{onto_changes};
+ghost use Rattle.miette_fix_rows.specs.rules.Hunks.{block_diff};
 ghost use Rattle.miette_fix_rows.specs.steps.Parting.{AreSizes, IsSized};
 ghost use Rattle.miette_fix_rows.specs.steps.Sharing.{IsBlock};
-ghost use Rattle.miette_fix_rows.specs.views.LineLists.{texts_of};
+ghost use Rattle.miette_fix_rows.specs.views.LineLists.{borrowed_lines};
 
 use crate::blocks::{block_start, last_block};
 use crate::line_lists::{Side, common, lines, total};
-use miette_fixes::apply::{checked, spliced};
+use miette_fixes::apply::{check_edits, splice_edits};
 use miette_fixes::fix::{Edit, Fix, FixError};
 use std::alloc::{AllocError, Global};
 use std::marker::Model;
 
-/// What a block of edits changes: whole lines that are removed from the source, and whole lines that are added in their
-/// place.
+/// What one block of edits changes: whole lines removed from the source, and whole lines added in their place.
 #[derive(Debug, Drop)]
 pub struct Change<'a> {
     from: usize,
@@ -49,29 +49,29 @@ impl<'a> Model for Change<'a> {
     } };
 }
 
-// Whether bytes have no line.
+// Returns whether the bytes contain no line.
 fn has_no_line(bytes: &[u8]) -> bool
-    ensures { result ≡ is_nil (line_texts bytes.now) }
+    ensures { result ≡ has_no_lines (line_texts bytes.now) }
 {
     bytes.is_empty()
 }
 
 impl<'a> Change<'a> {
-    /// The offset in the source of the first removed line; where none is, of the line that the added ones stand before.
-    pub fn from(&self) -> usize
+    /// The offset in the source of the first removed line. If none is removed, the offset before which lines are added.
+    pub fn start(&self) -> usize
         ensures { result ≡ self.now.from }
     {
         self.from
     }
 
-    /// The offset in the source to which it points, in bytes.
+    /// The offset in the source to which the frame of this change points.
     pub fn place(&self) -> usize
         ensures { result ≡ self.now.place }
     {
         self.place
     }
 
-    /// The removed lines, with their terminators: bytes of the source.
+    /// The removed lines with their terminators, as bytes of the source.
     pub fn removed(&self) -> &'a [u8]
         ensures lines { line_texts result.now ≡ self.now.removed }
         ensures place { self.now.from + length result.now ≡ self.now.to }
@@ -79,22 +79,22 @@ impl<'a> Change<'a> {
         self.removed
     }
 
-    /// The added lines, with their terminators.
+    /// The added lines with their terminators.
     pub fn added(&self) -> &[u8]
         ensures { line_texts result.now ≡ self.now.added }
     {
         &self.text[self.added_from..self.added_to]
     }
 
-    // Whether no line is removed or added.
+    // Returns whether no line is removed or added.
     fn is_none(&self) -> bool
-        ensures { result ≡ (is_nil self.now.removed && is_nil self.now.added) }
+        ensures { result ≡ (has_no_lines self.now.removed && has_no_lines self.now.added) }
     {
         has_no_line(self.removed()) && has_no_line(self.added())
     }
 }
 
-// The bytes of a block's old and new text from and up to which the removed lines stand, and the added ones.
+// The bounds of the removed lines in a block's old text, and of the added lines in its new text, in bytes.
 #[derive(Clone, Copy)]
 struct Sizes {
     removed_from: usize,
@@ -103,11 +103,11 @@ struct Sizes {
     added_to: usize,
 }
 
-// Where the lines stand that two lists don't have in common at their ends and then at their fronts.
+// Returns the bounds of the lines in which two lists differ, after their common end and then their common start.
 fn sizes_of(olds: &[&[u8]], news: &[&[u8]]) -> Sizes
-    requires old { bytes_of (texts_of olds.now) < 2 ^ 64 }
-    requires new { bytes_of (texts_of news.now) < 2 ^ 64 }
-    ensures { AreSizes (texts_of olds.now) (texts_of news.now) result }
+    requires old { bytes_of (borrowed_lines olds.now) < 2 ^ 64 }
+    requires new { bytes_of (borrowed_lines news.now) < 2 ^ 64 }
+    ensures { AreSizes (borrowed_lines olds.now) (borrowed_lines news.now) result }
 {
     let after = common(Side::Back, olds, news);
     let old_kept = &olds[..olds.len() - after];
@@ -121,7 +121,7 @@ fn sizes_of(olds: &[&[u8]], news: &[&[u8]]) -> Sizes
     }
 }
 
-// The same of two texts.
+// Returns the bounds of the lines in which two texts differ.
 fn text_sizes(alloc: Global, old: &[u8], new: &[u8]) -> Result<Sizes, AllocError>
     requires old { length old.now < 2 ^ 64 }
     requires new { length new.now < 2 ^ 64 }
@@ -132,7 +132,8 @@ fn text_sizes(alloc: Global, old: &[u8], new: &[u8]) -> Result<Sizes, AllocError
     Ok(sizes_of(&olds, &news))
 }
 
-// What stands in a block from an offset on, whose first edit has an offset: its old text, and its new one.
+// Returns the change of a block that begins at the offset `from`. `first` is the offset of its first edit, `old` and
+// `text` its old and new text.
 fn change_at<'a>(
     alloc: Global,
     from: usize,
@@ -141,7 +142,7 @@ fn change_at<'a>(
     text: Vec<u8>,
 ) -> Result<Change<'a>, AllocError>
     requires { from + length old.now < 2 ^ 64 }
-    ensures { IfOk result (λ it. it ≡ change_at from first (parted (line_texts old.now) (line_texts text.items))) }
+    ensures { IfOk result (λ it. it ≡ change_at from first (block_diff (line_texts old.now) (line_texts text.items))) }
 {
     let sizes = text_sizes(alloc, old, &text)?;
     let removed = &old[sizes.removed_from..sizes.removed_to];
@@ -156,7 +157,7 @@ fn change_at<'a>(
     })
 }
 
-// What a block changes, of which the touched lines are known.
+// Returns the change of a block. `start` and `to` are the bounds of the lines its edits touch.
 fn block_change<'a>(
     alloc: Global,
     source: &'a [u8],
@@ -168,11 +169,11 @@ fn block_change<'a>(
     ensures { IfOk result (λ it. it ≡ change_of source.now (edits_of edits.now)) }
 {
     let from = block_start(source, start, to, edits);
-    let text = spliced(alloc, &source[..to], from, edits)?;
+    let text = splice_edits(alloc, &source[..to], from, edits)?;
     change_at(alloc, from, edits[0].offset(), &source[from..to], text)
 }
 
-// With one change more in front, unless no line is removed or added; the first one stands last.
+// Appends a change unless it is empty. The list is in reverse order: the first change comes last.
 fn with_change<'a>(
     mut list: Vec<Change<'a>>,
     change: Change<'a>,
@@ -186,7 +187,7 @@ fn with_change<'a>(
     Ok(list)
 }
 
-// What edits in their order change.
+// Returns the changes made by edits that are in order.
 fn ordered_changes<'a>(
     alloc: Global,
     source: &'a [u8],
@@ -213,18 +214,19 @@ fn ordered_changes<'a>(
     Ok(list)
 }
 
-/// What a fix changes of a source, block by block: edits that share a line are one block, and the lines that its old
-/// and its new text have in common at the end, and then at the front, aren't told. Takes as long as the blocks have
-/// lines.
+/// Returns what a fix changes in a source, block by block. Edits that share a line form a block. Lines that its old and
+/// new text have in common at the end, and then at the start, are left out. The time is linear in the size of the
+/// blocks.
 ///
 /// # Errors
-/// `OutOfBounds` where an edit ends after the source's end, else `Overlap` where two edits overlap; `Memory` where
-/// memory is refused.
+/// - `OutOfBounds` if an edit ends after the end of the source
+/// - `Overlap` if two edits overlap
+/// - `Memory` if allocation fails
 pub fn changes<'a>(alloc: Global, source: &'a [u8], fix: &Fix) -> Result<Vec<Change<'a>>, FixError>
     ensures ok { IfOk result (λ made.
-        (refusal (length source.now) fix.now.edits ≡ None) × (made.items ≡ changes source.now fix.now.edits)) }
-    ensures refused { IfErr result (λ e. e ≢ Memory → refusal (length source.now) fix.now.edits ≡ Some e) }
+        (edits_error (length source.now) fix.now.edits ≡ None) × (made.items ≡ changes source.now fix.now.edits)) }
+    ensures refused { IfErr result (λ e. e ≢ Memory → edits_error (length source.now) fix.now.edits ≡ Some e) }
 {
-    let list = checked(alloc, source.len(), fix.edits())?;
+    let list = check_edits(alloc, source.len(), fix.edits())?;
     Ok(ordered_changes(alloc, source, &list)?)
 }

@@ -1,17 +1,17 @@
-//! Lines in lists.
+//! Lists of lines.
 
 ghost use Rattle.std.specs.Prelude.{◌≡◌, ◌<◌, ◌≤◌, ◌^◌, [], get_or, length, IfOk};
 ghost use Rattle.std.specs.Str.{bytes_eq};
 ghost use Rattle.miette_fix_rows.specs.rules.Blocks.{bytes_of, line_texts};
 ghost use Rattle.miette_fix_rows.specs.rules.Hunks.{common};
-ghost use Rattle.miette_fix_rows.specs.views.LineLists.{met_from, texts_of};
+ghost use Rattle.miette_fix_rows.specs.views.LineLists.{met_from, borrowed_lines};
 
-use miette_source_lines::lines::first_line;
+use miette_lines::lines::first_line;
 use std::alloc::{AllocError, Global};
 
-/// The lines of bytes, each with its terminator. `AllocError` where memory is refused.
+/// Returns the lines of the bytes, each with its terminator. `AllocError` if allocation fails.
 pub(crate) fn lines<'a>(alloc: Global, bytes: &'a [u8]) -> Result<Vec<&'a [u8]>, AllocError>
-    ensures { IfOk result (λ list. texts_of list.items ≡ line_texts bytes.now) }
+    ensures { IfOk result (λ list. borrowed_lines list.items ≡ line_texts bytes.now) }
 {
     let mut list = Vec::new(alloc);
     let mut rest = bytes;
@@ -25,24 +25,24 @@ pub(crate) fn lines<'a>(alloc: Global, bytes: &'a [u8]) -> Result<Vec<&'a [u8]>,
     Ok(list)
 }
 
-// Whether two lines are the same, their terminators too.
+// Returns whether two lines are equal, including their terminators.
 fn are_same(line: &[u8], other: &[u8]) -> bool
     ensures { result ≡ bytes_eq line.now other.now }
 {
     line == other
 }
 
-/// From which side of a list its lines are met.
+/// From which end of a list the lines are counted.
 #[derive(Clone, Copy)]
 pub(crate) enum Side {
     Front,
     Back,
 }
 
-// The line of a list that is met after `i` others.
+// Returns line `i` of a list, counted from this side.
 fn line_from<'a>(side: Side, lines: &[&'a [u8]], i: usize) -> &'a [u8]
     requires { i < length lines.now }
-    ensures { result.now ≡ get_or (met_from side (texts_of lines.now)) i [] }
+    ensures { result.now ≡ get_or (met_from side (borrowed_lines lines.now)) i [] }
 {
     match side {
         Side::Front => lines[i],
@@ -50,9 +50,10 @@ fn line_from<'a>(side: Side, lines: &[&'a [u8]], i: usize) -> &'a [u8]
     }
 }
 
-/// How many lines two lists have in common from a side on.
+/// Returns how many lines two lists have in common, counted from this side.
 pub(crate) fn common(side: Side, lines: &[&[u8]], others: &[&[u8]]) -> usize
-    ensures common { result ≡ common (met_from side (texts_of lines.now)) (met_from side (texts_of others.now)) }
+    ensures common { result ≡ common (met_from side (borrowed_lines lines.now))
+        (met_from side (borrowed_lines others.now)) }
     ensures within { result ≤ length lines.now }
     ensures other { result ≤ length others.now }
 {
@@ -67,10 +68,10 @@ pub(crate) fn common(side: Side, lines: &[&[u8]], others: &[&[u8]]) -> usize
     most
 }
 
-/// How many bytes lines have.
+/// Returns the number of bytes of the lines.
 pub(crate) fn total(lines: &[&[u8]]) -> usize
-    requires { bytes_of (texts_of lines.now) < 2 ^ 64 }
-    ensures { result ≡ bytes_of (texts_of lines.now) }
+    requires { bytes_of (borrowed_lines lines.now) < 2 ^ 64 }
+    ensures { result ≡ bytes_of (borrowed_lines lines.now) }
 {
     let mut bytes = 0;
     for line in lines {

@@ -1,25 +1,25 @@
-//! Worked pictures, computed by the definitions.
+//! Examples of fixes, computed by the definitions.
 
 ghost use Rattle.std.specs.Prelude.{◌≡◌, [], ◌∷◌, ◌++◌, codes};
-ghost use Rattle.miette_fix_rows.specs.laws.Worked.{edit, han, picture};
+ghost use Rattle.miette_fix_rows.specs.laws.Worked.{one_edit, han, worked_rows};
 
-/// The definitions give the pictures of these fixes.
-pub fn worked_pictures()
-    ensures a_word { picture (codes "let a = lenght;\nb\n") (edit 8 6 (codes "len") ∷ [])
+/// The definitions give these rows for these fixes.
+pub fn worked_examples()
+    ensures a_word { worked_rows (codes "let a = lenght;\nb\n") (one_edit 8 6 (codes "len") ∷ [])
         ≡ codes "   ╭─[f:1:9]"
         ∷ codes " 1 - let a = lenght;"
         ∷ codes " 1 + let a = len;"
         ∷ codes " 2 │ b"
         ∷ codes "   ╰────"
         ∷ [] }
-    ensures deleted_lines { picture (codes "use a;\nuse b;\n\nc();\n") (edit 0 14 (codes "") ∷ [])
+    ensures deleted_lines { worked_rows (codes "use a;\nuse b;\n\nc();\n") (one_edit 0 14 (codes "") ∷ [])
         ≡ codes "   ╭─[f:1:1]"
         ∷ codes " 1 - use a;"
         ∷ codes " 2 - use b;"
         ∷ codes " 3 │ "
         ∷ codes "   ╰────"
         ∷ [] }
-    ensures inserted_lines { picture (codes "a\nb\n") (edit 2 0 (codes "x\ny\n") ∷ [])
+    ensures inserted_lines { worked_rows (codes "a\nb\n") (one_edit 2 0 (codes "x\ny\n") ∷ [])
         ≡ codes "   ╭─[f:2:1]"
         ∷ codes " 1 │ a"
         ∷ codes " 2 + x"
@@ -27,7 +27,8 @@ pub fn worked_pictures()
         ∷ codes " 2 │ b"
         ∷ codes "   ╰────"
         ∷ [] }
-    ensures two_edits_near { picture (codes "a\nb\nc\nd\n") (edit 2 2 (codes "") ∷ edit 6 1 (codes "D") ∷ [])
+    ensures two_edits_near { worked_rows (codes "a\nb\nc\nd\n") (one_edit 2 2 (codes "") ∷ one_edit 6 1 (codes "D")
+        ∷ [])
         ≡ codes "   ╭─[f:2:1]"
         ∷ codes " 1 │ a"
         ∷ codes " 2 - b"
@@ -36,8 +37,8 @@ pub fn worked_pictures()
         ∷ codes " 3 + D"
         ∷ codes "   ╰────"
         ∷ [] }
-    ensures far_apart { picture (codes "1\n2\n3\n4\n5\n6\n7\n8\n9\n10\n")
-        (edit 2 0 (codes "b\n") ∷ edit 18 2 (codes "x") ∷ [])
+    ensures far_apart { worked_rows (codes "1\n2\n3\n4\n5\n6\n7\n8\n9\n10\n")
+        (one_edit 2 0 (codes "b\n") ∷ one_edit 18 2 (codes "x") ∷ [])
         ≡ codes "   ╭─[f:2:1]"
         ∷ codes " 1 │ 1"
         ∷ codes " 2 + b"
@@ -49,7 +50,7 @@ pub fn worked_pictures()
         ∷ codes " 11 + x"
         ∷ codes "    ╰────"
         ∷ [] }
-    ensures neighbours { picture (codes "a\nb\nc\n") (edit 0 1 (codes "A") ∷ edit 2 1 (codes "B") ∷ [])
+    ensures neighbours { worked_rows (codes "a\nb\nc\n") (one_edit 0 1 (codes "A") ∷ one_edit 2 1 (codes "B") ∷ [])
         ≡ codes "   ╭─[f:1:1]"
         ∷ codes " 1 - a"
         ∷ codes " 2 - b"
@@ -58,7 +59,7 @@ pub fn worked_pictures()
         ∷ codes " 3 │ c"
         ∷ codes "   ╰────"
         ∷ [] }
-    ensures no_final_terminator { picture (codes "a\nend") (edit 5 0 (codes "\nmore\n") ∷ [])
+    ensures no_final_terminator { worked_rows (codes "a\nend") (one_edit 5 0 (codes "\nmore\n") ∷ [])
         ≡ codes "   ╭─[f:2:4]"
         ∷ codes " 1 │ a"
         ∷ codes " 2 - end"
@@ -67,13 +68,13 @@ pub fn worked_pictures()
         ∷ codes " 3 + more"
         ∷ codes "   ╰────"
         ∷ [] }
-    ensures in_a_word { picture (codes "ab\n") (edit 1 0 (codes "x") ∷ [])
+    ensures in_a_word { worked_rows (codes "ab\n") (one_edit 1 0 (codes "x") ∷ [])
         ≡ codes "   ╭─[f:1:2]"
         ∷ codes " 1 - ab"
         ∷ codes " 1 + axb"
         ∷ codes "   ╰────"
         ∷ [] }
-    ensures cr_lf { picture (codes "a\r\nb\r\n") (edit 1 1 (codes "") ∷ [])
+    ensures cr_lf { worked_rows (codes "a\r\nb\r\n") (one_edit 1 1 (codes "") ∷ [])
         ≡ codes "   ╭─[f:1:2]"
         ∷ codes " 1 - a"
         ∷ codes "   ·  -"
@@ -81,7 +82,7 @@ pub fn worked_pictures()
         ∷ codes " 2 │ b"
         ∷ codes "   ╰────"
         ∷ [] }
-    ensures a_tab { picture (codes "a\n \tb\n") (edit 2 2 (codes "    ") ∷ [])
+    ensures a_tab { worked_rows (codes "a\n \tb\n") (one_edit 2 2 (codes "    ") ∷ [])
         ≡ codes "   ╭─[f:2:1]"
         ∷ codes " 1 │ a"
         ∷ codes " 2 -     b"
@@ -90,7 +91,7 @@ pub fn worked_pictures()
         ∷ codes "   · ++++"
         ∷ codes "   ╰────"
         ∷ [] }
-    ensures a_blank_at_the_end { picture (han) (edit 6 1 (codes "") ∷ [])
+    ensures a_blank_at_the_end { worked_rows (han) (one_edit 6 1 (codes "") ∷ [])
         ≡ codes "   ╭─[f:1:7]"
         ∷ codes " 1 - 漢字 "
         ∷ codes "   ·     -"
@@ -98,15 +99,15 @@ pub fn worked_pictures()
         ∷ codes " 2 │ b"
         ∷ codes "   ╰────"
         ∷ [] }
-    ensures nothing { picture (codes "ab\nc\n") (edit 0 2 (codes "ab") ∷ [])
+    ensures nothing { worked_rows (codes "ab\nc\n") (one_edit 0 2 (codes "ab") ∷ [])
         ≡ [] }
-    ensures refused { picture (codes "ab\n") (edit 2 2 (codes "") ∷ [])
+    ensures refused { worked_rows (codes "ab\n") (one_edit 2 2 (codes "") ∷ [])
         ≡ codes "  [Failed to apply fix: OutOfBounds]"
         ∷ [] }
-    ensures overlapping { picture (codes "abc\n") (edit 0 2 (codes "x") ∷ edit 1 1 (codes "") ∷ [])
+    ensures overlapping { worked_rows (codes "abc\n") (one_edit 0 2 (codes "x") ∷ one_edit 1 1 (codes "") ∷ [])
         ≡ codes "  [Failed to apply fix: Overlap]"
         ∷ [] }
-    ensures a_pair_of_terminators { picture (codes "a\rb\nc\n") (edit 2 1 (codes "") ∷ [])
+    ensures a_pair_of_terminators { worked_rows (codes "a\rb\nc\n") (one_edit 2 1 (codes "") ∷ [])
         ≡ codes "   ╭─[f:2:1]"
         ∷ codes " 1 - a"
         ∷ codes " 2 - b"

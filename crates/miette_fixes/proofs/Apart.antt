@@ -8,11 +8,12 @@ use Rattle.std.proofs.lemmas.Bool.{and_parts, eq-eqb, eqb-false, eqb-true, ne_eq
 use Rattle.std.proofs.lemmas.Bool.{or_right}
 use Rattle.std.proofs.lemmas.Option.{same_Some}
 use Rattle.std.proofs.lemmas.List.Folds.{list_any-append}
-use Rattle.miette_basics.proofs.Cases.{by_cases}
+use Rattle.miette_lines.proofs.Cases.{by_cases}
 use Rattle.miette_protocol.specs.rules.Reading.{Span}
 use Rattle.miette_fixes.specs.laws.Conflicts.{NoTwoConflict}
-use Rattle.miette_fixes.specs.rules.Applying.{refusal}
-use Rattle.miette_fixes.specs.rules.ApplyingAll.{all_of, conflict, counted, counted_with, counts, is_among, is_taken}
+use Rattle.miette_fixes.specs.rules.Applying.{edits_error}
+use Rattle.miette_fixes.specs.rules.ApplyingAll.{all_edits, conflict, counted, counted_with, counts, equals_some_fix}
+use Rattle.miette_fixes.specs.rules.ApplyingAll.{is_taken}
 use Rattle.miette_fixes.specs.rules.ApplyingAll.{same_edit, some_conflict, taken}
 use Rattle.miette_fixes.specs.rules.Edits.{Replacement, overlap}
 use Rattle.miette_fixes.proofs.Overlaps.{overlap_turned}
@@ -60,11 +61,11 @@ free_split (e ∷ edits) xs ys h =
     )
 
 pub each_free : (edits : List Replacement) (lists : List (List Replacement))
-    → some_conflict edits (all_of lists) ≡ false → AllByRecursion (λ xs. some_conflict xs edits ≡ false) lists
+    → some_conflict edits (all_edits lists) ≡ false → AllByRecursion (λ xs. some_conflict xs edits ≡ false) lists
 each_free edits [] h = tt
 each_free edits (xs ∷ lists) h =
-    let parts : (some_conflict edits xs ≡ false) × (some_conflict edits (all_of lists) ≡ false) =
-    free_split edits xs (all_of lists) h in
+    let parts : (some_conflict edits xs ≡ false) × (some_conflict edits (all_edits lists) ≡ false) =
+    free_split edits xs (all_edits lists) h in
     (free_turned edits xs parts.0, each_free edits lists parts.1)
 
 -- ---- those that count
@@ -85,16 +86,16 @@ free_more (xs ∷ lists) edits h each =
     (each_more (λ ys. some_conflict xs ys ≡ false) lists edits h.0 each.0, free_more lists edits h.1 each.1)
 
 pub count_free : (n : ℕ) (before : List (List Replacement)) (edits : List Replacement)
-    → counts n (all_of before) edits ≡ true → some_conflict edits (all_of before) ≡ false
+    → counts n (all_edits before) edits ≡ true → some_conflict edits (all_edits before) ≡ false
 count_free n before edits h =
-    let parts : (is_none (refusal n edits) ≡ true) × (not (some_conflict edits (all_of before)) ≡ true) =
-    and_parts (is_none (refusal n edits)) (not (some_conflict edits (all_of before))) h in
-    not-true (some_conflict edits (all_of before)) parts.1
+    let parts : (is_none (edits_error n edits) ≡ true) × (not (some_conflict edits (all_edits before)) ≡ true) =
+    and_parts (is_none (edits_error n edits)) (not (some_conflict edits (all_edits before))) h in
+    not-true (some_conflict edits (all_edits before)) parts.1
 
 counted_step : (n : ℕ) (before : List (List Replacement)) (edits : List Replacement) → AreFree before
     → AreFree (counted_with n before edits)
 counted_step n before edits h =
-    by_cases {C = AreFree (counted_with n before edits)} (counts n (all_of before) edits)
+    by_cases {C = AreFree (counted_with n before edits)} (counts n (all_edits before) edits)
     (λ t. rw t (free_more before edits h (each_free edits before (count_free n before edits t)))) (λ f. rw f h)
 
 counted_free : (n : ℕ) (before fixes : List (List Replacement)) → AreFree before → AreFree (counted n before fixes)
@@ -161,63 +162,64 @@ edits_themselves (x ∷ xs) =
     rw (o, l, t) (edits_themselves xs)
 
 among_has : (P : List Replacement → Type 0) (edits : List Replacement) (lists : List (List Replacement))
-    → AllByRecursion P lists → is_among edits lists ≡ true → P edits
+    → AllByRecursion P lists → equals_some_fix edits lists ≡ true → P edits
 among_has P edits [] h t = let bad : false ≡ true = t in cc
 among_has P edits (xs ∷ lists) h t =
     by_cases {C = P edits} (pointwise same_edit edits xs)
     (λ s. subst P (sym (edits_are edits xs s)) h.0)
-    (λ f. among_has P edits lists h.1 (ap (λ b. b || is_among edits lists) (sym f) ∙ t))
+    (λ f. among_has P edits lists h.1 (ap (λ b. b || equals_some_fix edits lists) (sym f) ∙ t))
 
-among_more : (edits : List Replacement) (lists more : List (List Replacement)) → is_among edits lists ≡ true
-    → is_among edits (lists ++ more) ≡ true
+among_more : (edits : List Replacement) (lists more : List (List Replacement)) → equals_some_fix edits lists ≡ true
+    → equals_some_fix edits (lists ++ more) ≡ true
 among_more edits lists more h =
     list_any-append (pointwise same_edit edits) lists more
-    ∙ or_left (is_among edits lists) (is_among edits more) h
+    ∙ or_left (equals_some_fix edits lists) (equals_some_fix edits more) h
 
-among_step : (n : ℕ) (before : List (List Replacement)) (edits fix : List Replacement) → is_among edits before ≡ true
-    → is_among edits (counted_with n before fix) ≡ true
+among_step : (n : ℕ) (before : List (List Replacement)) (edits fix : List Replacement) → equals_some_fix edits before
+    ≡ true
+    → equals_some_fix edits (counted_with n before fix) ≡ true
 among_step n before edits fix h =
-    by_cases {C = is_among edits (counted_with n before fix) ≡ true} (counts n (all_of before) fix)
+    by_cases {C = equals_some_fix edits (counted_with n before fix) ≡ true} (counts n (all_edits before) fix)
     (λ t. rw t (among_more edits before (fix ∷ []) h)) (λ f. rw f h)
 
 -- one that is taken is among those that count then
 taken_among : (n : ℕ) (before : List (List Replacement)) (edits : List Replacement) → is_taken n before edits ≡ true
-    → is_among edits (counted_with n before edits) ≡ true
+    → equals_some_fix edits (counted_with n before edits) ≡ true
 taken_among n before edits h =
-    by_cases {C = is_among edits (counted_with n before edits) ≡ true} (counts n (all_of before) edits)
+    by_cases {C = equals_some_fix edits (counted_with n before edits) ≡ true} (counts n (all_edits before) edits)
     (λ t. rw t (list_any-append (pointwise same_edit edits) before (edits ∷ [])
-    ∙ or_right (is_among edits before) (is_among edits (edits ∷ []))
+    ∙ or_right (equals_some_fix edits before) (equals_some_fix edits (edits ∷ []))
     (or_left (pointwise same_edit edits edits) false (edits_themselves edits))))
-    (λ f. let old : is_among edits before ≡ true =
-    ap (λ b. b || is_among edits before) (sym f) ∙ h in rw f old)
+    (λ f. let old : equals_some_fix edits before ≡ true =
+    ap (λ b. b || equals_some_fix edits before) (sym f) ∙ h in rw f old)
 
 -- of lists that don't conflict two are one, or don't conflict
-two_among : (x y : List Replacement) (lists : List (List Replacement)) → AreFree lists → is_among x lists ≡ true
-    → is_among y lists ≡ true → (x ≡ y) ⊎ (some_conflict x y ≡ false)
+two_among : (x y : List Replacement) (lists : List (List Replacement)) → AreFree lists → equals_some_fix x lists ≡ true
+    → equals_some_fix y lists ≡ true → (x ≡ y) ⊎ (some_conflict x y ≡ false)
 two_among x y [] h a b = let bad : false ≡ true = a in cc
 two_among x y (xs ∷ lists) h a b =
     by_cases {C = (x ≡ y) ⊎ (some_conflict x y ≡ false)} (pointwise same_edit x xs)
     (λ s. by_cases {C = (x ≡ y) ⊎ (some_conflict x y ≡ false)} (pointwise same_edit y xs)
     (λ t. inl (edits_are x xs s ∙ sym (edits_are y xs t)))
     (λ g. inr (ap (λ (r : List Replacement). some_conflict r y) (edits_are x xs s)
-    ∙ among_has (λ r. some_conflict xs r ≡ false) y lists h.0 (ap (λ c. c || is_among y lists) (sym g) ∙ b))))
+    ∙ among_has (λ r. some_conflict xs r ≡ false) y lists h.0 (ap (λ c. c || equals_some_fix y lists) (sym g) ∙ b))))
     (λ f. by_cases {C = (x ≡ y) ⊎ (some_conflict x y ≡ false)} (pointwise same_edit y xs)
     (λ t. inr (ap (some_conflict x) (edits_are y xs t)
     ∙ free_turned xs x (among_has (λ r. some_conflict xs r ≡ false) x lists h.0
-    (ap (λ c. c || is_among x lists) (sym f) ∙ a))))
-    (λ g. two_among x y lists h.1 (ap (λ c. c || is_among x lists) (sym f) ∙ a)
-    (ap (λ c. c || is_among y lists) (sym g) ∙ b)))
+    (ap (λ c. c || equals_some_fix x lists) (sym f) ∙ a))))
+    (λ g. two_among x y lists h.1 (ap (λ c. c || equals_some_fix x lists) (sym f) ∙ a)
+    (ap (λ c. c || equals_some_fix y lists) (sym g) ∙ b)))
 
 -- one among those that count, and one that is taken then
 beside : (n : ℕ) (before : List (List Replacement)) (x y : List Replacement) → AreFree before
-    → is_among x before ≡ true → is_taken n before y ≡ true → (x ≡ y) ⊎ (some_conflict x y ≡ false)
+    → equals_some_fix x before ≡ true → is_taken n before y ≡ true → (x ≡ y) ⊎ (some_conflict x y ≡ false)
 beside n before x y h a b =
-    by_cases {C = (x ≡ y) ⊎ (some_conflict x y ≡ false)} (counts n (all_of before) y)
+    by_cases {C = (x ≡ y) ⊎ (some_conflict x y ≡ false)} (counts n (all_edits before) y)
     (λ t. inr (among_has (λ r. some_conflict r y ≡ false) x before (each_free y before (count_free n before y t)) a))
-    (λ f. two_among x y before h a (ap (λ c. c || is_among y before) (sym f) ∙ b))
+    (λ f. two_among x y before h a (ap (λ c. c || equals_some_fix y before) (sym f) ∙ b))
 
 later : (n : ℕ) (before fixes : List (List Replacement)) (x : List Replacement) (j : ℕ) → AreFree before
-    → is_among x before ≡ true → j < length fixes → slice_get (taken n before fixes) j ≡ Some true
+    → equals_some_fix x before ≡ true → j < length fixes → slice_get (taken n before fixes) j ≡ Some true
     → (x ≡ get_or fixes j []) ⊎ (some_conflict x (get_or fixes j []) ≡ false)
 later n before [] x j h a lt b = absurd (omega (arith, lt))
 later n before (f ∷ fixes) x zero h a lt b =

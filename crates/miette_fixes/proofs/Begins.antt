@@ -11,11 +11,11 @@ use Rattle.std.proofs.lemmas.Bool.{or_left, or_right}
 use Rattle.std.proofs.lemmas.Option.{same_Some}
 use Rattle.std.proofs.lemmas.List.{append-nil, length-append, take_more}
 use Rattle.std.proofs.lemmas.List.Folds.{list_any-append}
-use Rattle.miette_basics.proofs.Cases.{by_cases}
-use Rattle.miette_fixes.specs.declared.beginnings.Beginning.{Beginning}
-use Rattle.miette_fixes.specs.rules.ApplyingAll.{all_of}
+use Rattle.miette_lines.proofs.Cases.{by_cases}
+use Rattle.miette_fixes.specs.declared.edit_starts.EditStart.{EditStart}
+use Rattle.miette_fixes.specs.rules.ApplyingAll.{all_edits}
 use Rattle.miette_fixes.specs.rules.Edits.{Replacement}
-use Rattle.miette_fixes.specs.steps.Beginnings.{AreBegun, begins_at, begins_with}
+use Rattle.miette_fixes.specs.steps.EditStarts.{AreEditStarts, begins_at, begins_with}
 use Rattle.miette_fixes.proofs.Taking.{all_of_more}
 
 -- ---- one edit more in the last list
@@ -25,24 +25,24 @@ with_last lists edits = lists ++ edits ∷ []
 
 -- what one of the edits has, one of those before has or the last one
 any_last : (p : Replacement → Bool) (lists : List (List Replacement)) (front : List Replacement) (e : Replacement)
-    → list_any p (all_of (with_last lists (front ++ e ∷ [])))
-    ≡ (list_any p (all_of (with_last lists front)) || (p e || false))
+    → list_any p (all_edits (with_last lists (front ++ e ∷ [])))
+    ≡ (list_any p (all_edits (with_last lists front)) || (p e || false))
 any_last p lists front e =
-    ap (list_any p) (all_of_more lists (front ++ e ∷ []) ∙ sym (append_assoc (all_of lists) front (e ∷ []))
+    ap (list_any p) (all_of_more lists (front ++ e ∷ []) ∙ sym (append_assoc (all_edits lists) front (e ∷ []))
     ∙ ap (λ es. es ++ e ∷ []) (sym (all_of_more lists front)))
-    ∙ list_any-append p (all_of (with_last lists front)) (e ∷ [])
+    ∙ list_any-append p (all_edits (with_last lists front)) (e ∷ [])
 
 any_before : (p : Replacement → Bool) (lists : List (List Replacement)) (front : List Replacement) (e : Replacement)
-    → list_any p (all_of (with_last lists front)) ≡ true
-    → list_any p (all_of (with_last lists (front ++ e ∷ []))) ≡ true
+    → list_any p (all_edits (with_last lists front)) ≡ true
+    → list_any p (all_edits (with_last lists (front ++ e ∷ []))) ≡ true
 any_before p lists front e h =
-    any_last p lists front e ∙ or_left (list_any p (all_of (with_last lists front))) (p e || false) h
+    any_last p lists front e ∙ or_left (list_any p (all_edits (with_last lists front))) (p e || false) h
 
 any_of_last : (p : Replacement → Bool) (lists : List (List Replacement)) (front : List Replacement) (e : Replacement)
-    → p e ≡ true → list_any p (all_of (with_last lists (front ++ e ∷ []))) ≡ true
+    → p e ≡ true → list_any p (all_edits (with_last lists (front ++ e ∷ []))) ≡ true
 any_of_last p lists front e h =
     any_last p lists front e
-    ∙ or_right (list_any p (all_of (with_last lists front))) (p e || false) (or_left (p e) false h)
+    ∙ or_right (list_any p (all_edits (with_last lists front))) (p e || false) (or_left (p e) false h)
 
 -- an edit begins at an offset, and has a length
 begins_so : (offset len : ℕ) (e : Replacement) → e.span.offset ≡ offset → e.span.len ≡ len
@@ -77,7 +77,7 @@ many_with lists xs = length-append lists (xs ∷ [])
 
 -- ---- no list, and an empty list more
 
-pub begun_none : (begun : BTreeMap ℕ Beginning) → IsEmpty begun → AreBegun begun []
+pub begun_none : (begun : BTreeMap ℕ EditStart) → IsEmpty begun → AreEditStarts begun []
 begun_none begun empty =
     let none : (offset : ℕ) → get nat_cmp begun offset ≡ None =
     λ offset. ap (λ es. lookup (is_at (nat_cmp offset)) es) empty in
@@ -87,10 +87,10 @@ begun_none begun empty =
       whose = λ offset it h. let bad : None ≡ Some it = sym (none offset) ∙ h in cc;
     }
 
-pub begun_start : (begun : BTreeMap ℕ Beginning) (lists : List (List Replacement)) → AreBegun begun lists
-    → AreBegun begun (with_last lists [])
+pub begun_start : (begun : BTreeMap ℕ EditStart) (lists : List (List Replacement)) → AreEditStarts begun lists
+    → AreEditStarts begun (with_last lists [])
 begun_start begun lists h =
-    let same : all_of (with_last lists []) ≡ all_of lists = all_of_more lists [] ∙ append-nil (all_of lists) in
+    let same : all_edits (with_last lists []) ≡ all_edits lists = all_of_more lists [] ∙ append-nil (all_edits lists) in
     record {
       one = λ offset it is. ap (list_any (begins_with offset it.len)) same ∙ h.one offset it is;
       each = λ offset len there. h.each offset len (ap (list_any (begins_with offset len)) (sym same) ∙ there);
@@ -103,9 +103,9 @@ begun_start begun lists h =
 -- ---- one edit more
 
 -- what is kept of an edit's offset then: the greatest length of edits that begin there, and its list's number
-record IsPut (begun new : BTreeMap ℕ Beginning) (list : ℕ) (e : Replacement) (it : Beginning) : Type 0 where
+record IsPut (begun new : BTreeMap ℕ EditStart) (list : ℕ) (e : Replacement) (it : EditStart) : Type 0 where
   fresh : get nat_cmp begun e.span.offset ≡ None → it.len ≡ e.span.len
-  again : (old : Beginning) → get nat_cmp begun e.span.offset ≡ Some old → it.len ≡ max old.len e.span.len
+  again : (old : EditStart) → get nat_cmp begun e.span.offset ≡ Some old → it.len ≡ max old.len e.span.len
   number : it.list ≡ list
   there : get nat_cmp new e.span.offset ≡ Some it
   others : (q : ℕ) → eqb e.span.offset q ≡ false → get nat_cmp new q ≡ get nat_cmp begun q
@@ -119,53 +119,56 @@ one_of_both a b c is f = let le = ltb-false b a f in omega (arith, is, le)
 the_other : (a b c : ℕ) → c ≡ max a b → ltb b a ≡ true → c ≡ a
 the_other a b c is t = let lt = ltb-true b a t in omega (arith, is, lt)
 
-long_enough : (begun new : BTreeMap ℕ Beginning) (list : ℕ) (e : Replacement) (it : Beginning)
-    → IsPut begun new list e it → (o : Option Beginning) → get nat_cmp begun e.span.offset ≡ o → e.span.len ≤ it.len
+long_enough : (begun new : BTreeMap ℕ EditStart) (list : ℕ) (e : Replacement) (it : EditStart)
+    → IsPut begun new list e it → (o : Option EditStart) → get nat_cmp begun e.span.offset ≡ o → e.span.len ≤ it.len
 long_enough begun new list e it put None is = let l = put.fresh is in omega (arith, l)
 long_enough begun new list e it put (Some old) is = (greater old.len e.span.len it.len (put.again old is)).1
 
 -- an edit that begins there has the length
-has_one : (begun new : BTreeMap ℕ Beginning) (lists : List (List Replacement)) (front : List Replacement)
-    (e : Replacement) (it : Beginning) → AreBegun begun (with_last lists front) → IsPut begun new (length lists) e it
-    → (o : Option Beginning) → get nat_cmp begun e.span.offset ≡ o
-    → list_any (begins_with e.span.offset it.len) (all_of (with_last lists (front ++ e ∷ []))) ≡ true
+has_one : (begun new : BTreeMap ℕ EditStart) (lists : List (List Replacement)) (front : List Replacement)
+    (e : Replacement) (it : EditStart) → AreEditStarts begun (with_last lists front)
+    → IsPut begun new (length lists) e it
+    → (o : Option EditStart) → get nat_cmp begun e.span.offset ≡ o
+    → list_any (begins_with e.span.offset it.len) (all_edits (with_last lists (front ++ e ∷ []))) ≡ true
 has_one begun new lists front e it h put None is =
     any_of_last (begins_with e.span.offset it.len) lists front e
     (begins_so e.span.offset it.len e refl (sym (put.fresh is)))
 has_one begun new lists front e it h put (Some old) is =
     let most : it.len ≡ max old.len e.span.len = put.again old is in
-    by_cases {C = list_any (begins_with e.span.offset it.len) (all_of (with_last lists (front ++ e ∷ []))) ≡ true}
+    by_cases {C = list_any (begins_with e.span.offset it.len) (all_edits (with_last lists (front ++ e ∷ []))) ≡ true}
     (ltb e.span.len old.len)
     (λ t. any_before (begins_with e.span.offset it.len) lists front e
-    (ap (λ (l : ℕ). list_any (begins_with e.span.offset l) (all_of (with_last lists front)))
+    (ap (λ (l : ℕ). list_any (begins_with e.span.offset l) (all_edits (with_last lists front)))
     (the_other old.len e.span.len it.len most t) ∙ h.one e.span.offset old is))
     (λ f. any_of_last (begins_with e.span.offset it.len) lists front e
     (begins_so e.span.offset it.len e refl (sym (one_of_both old.len e.span.len it.len most f))))
 
-begun_one : (begun new : BTreeMap ℕ Beginning) (lists : List (List Replacement)) (front : List Replacement)
-    (e : Replacement) (it : Beginning) → AreBegun begun (with_last lists front) → IsPut begun new (length lists) e it
-    → (offset : ℕ) (b : Beginning) → get nat_cmp new offset ≡ Some b
-    → list_any (begins_with offset b.len) (all_of (with_last lists (front ++ e ∷ []))) ≡ true
+begun_one : (begun new : BTreeMap ℕ EditStart) (lists : List (List Replacement)) (front : List Replacement)
+    (e : Replacement) (it : EditStart) → AreEditStarts begun (with_last lists front)
+    → IsPut begun new (length lists) e it
+    → (offset : ℕ) (b : EditStart) → get nat_cmp new offset ≡ Some b
+    → list_any (begins_with offset b.len) (all_edits (with_last lists (front ++ e ∷ []))) ≡ true
 begun_one begun new lists front e it h put offset b is =
-    by_cases {C = list_any (begins_with offset b.len) (all_of (with_last lists (front ++ e ∷ []))) ≡ true}
+    by_cases {C = list_any (begins_with offset b.len) (all_edits (with_last lists (front ++ e ∷ []))) ≡ true}
     (eqb e.span.offset offset)
     (λ t. let same : e.span.offset ≡ offset = eqb-true e.span.offset offset t in
     let own : b ≡ it = same_Some b it (sym is ∙ ap (get nat_cmp new) (sym same) ∙ put.there) in
-    ap (λ (o : ℕ). list_any (begins_with o b.len) (all_of (with_last lists (front ++ e ∷ [])))) (sym same)
-    ∙ ap (λ (c : Beginning). list_any (begins_with e.span.offset c.len) (all_of (with_last lists (front ++ e ∷ []))))
+    ap (λ (o : ℕ). list_any (begins_with o b.len) (all_edits (with_last lists (front ++ e ∷ [])))) (sym same)
+    ∙ ap (λ (c : EditStart). list_any (begins_with e.span.offset c.len) (all_edits (with_last lists (front ++ e ∷ []))))
     own ∙ has_one begun new lists front e it h put (get nat_cmp begun e.span.offset) refl)
     (λ f. any_before (begins_with offset b.len) lists front e (h.one offset b (sym (put.others offset f) ∙ is)))
 
-begun_each : (begun new : BTreeMap ℕ Beginning) (lists : List (List Replacement)) (front : List Replacement)
-    (e : Replacement) (it : Beginning) → AreBegun begun (with_last lists front) → IsPut begun new (length lists) e it
-    → (offset len : ℕ) → list_any (begins_with offset len) (all_of (with_last lists (front ++ e ∷ []))) ≡ true
-    → (b : Beginning) × (get nat_cmp new offset ≡ Some b) × (len ≤ b.len)
+begun_each : (begun new : BTreeMap ℕ EditStart) (lists : List (List Replacement)) (front : List Replacement)
+    (e : Replacement) (it : EditStart) → AreEditStarts begun (with_last lists front)
+    → IsPut begun new (length lists) e it
+    → (offset len : ℕ) → list_any (begins_with offset len) (all_edits (with_last lists (front ++ e ∷ []))) ≡ true
+    → (b : EditStart) × (get nat_cmp new offset ≡ Some b) × (len ≤ b.len)
 begun_each begun new lists front e it h put offset len there =
     let long = long_enough begun new (length lists) e it put (get nat_cmp begun e.span.offset) refl in
-    by_cases {C = (b : Beginning) × (get nat_cmp new offset ≡ Some b) × (len ≤ b.len)}
-    (list_any (begins_with offset len) (all_of (with_last lists front)))
+    by_cases {C = (b : EditStart) × (get nat_cmp new offset ≡ Some b) × (len ≤ b.len)}
+    (list_any (begins_with offset len) (all_edits (with_last lists front)))
     (λ t. let own = h.each offset len t in
-    by_cases {C = (b : Beginning) × (get nat_cmp new offset ≡ Some b) × (len ≤ b.len)} (eqb e.span.offset offset)
+    by_cases {C = (b : EditStart) × (get nat_cmp new offset ≡ Some b) × (len ≤ b.len)} (eqb e.span.offset offset)
     (λ u. let same : e.span.offset ≡ offset = eqb-true e.span.offset offset u in
     let most = greater own.0.len e.span.len it.len (put.again own.0 (ap (get nat_cmp begun) same ∙ own.1)) in
     (it, ap (get nat_cmp new) (sym same) ∙ put.there, omega (arith, own.2, most.0)))
@@ -173,7 +176,7 @@ begun_each begun new lists front e it h put offset len there =
     (λ g. let last : (begins_with offset len e || false) ≡ true =
     ap (λ b. b || (begins_with offset len e || false)) (sym g) ∙ sym (any_last (begins_with offset len) lists front e)
     ∙ there in
-    by_cases {C = (b : Beginning) × (get nat_cmp new offset ≡ Some b) × (len ≤ b.len)} (begins_with offset len e)
+    by_cases {C = (b : EditStart) × (get nat_cmp new offset ≡ Some b) × (len ≤ b.len)} (begins_with offset len e)
     (λ t. let parts : (eqb e.span.offset offset ≡ true) × (eqb e.span.len len ≡ true) =
     and_parts (eqb e.span.offset offset) (eqb e.span.len len) t in
     let same : e.span.offset ≡ offset = eqb-true e.span.offset offset parts.0 in
@@ -181,9 +184,10 @@ begun_each begun new lists front e it h put offset len there =
     (it, ap (get nat_cmp new) (sym same) ∙ put.there, omega (arith, long, long_as)))
     (λ f. let bad : false ≡ true = ap (λ b. b || false) (sym f) ∙ last in cc))
 
-begun_whose : (begun new : BTreeMap ℕ Beginning) (lists : List (List Replacement)) (front : List Replacement)
-    (e : Replacement) (it : Beginning) → AreBegun begun (with_last lists front) → IsPut begun new (length lists) e it
-    → (offset : ℕ) (b : Beginning) → get nat_cmp new offset ≡ Some b
+begun_whose : (begun new : BTreeMap ℕ EditStart) (lists : List (List Replacement)) (front : List Replacement)
+    (e : Replacement) (it : EditStart) → AreEditStarts begun (with_last lists front)
+    → IsPut begun new (length lists) e it
+    → (offset : ℕ) (b : EditStart) → get nat_cmp new offset ≡ Some b
     → (b.list < length (with_last lists (front ++ e ∷ [])))
     × (list_any (begins_at offset) (get_or (with_last lists (front ++ e ∷ [])) b.list []) ≡ true)
 begun_whose begun new lists front e it h put offset b is =
@@ -195,7 +199,7 @@ begun_whose begun new lists front e it h put offset b is =
     (eqb e.span.offset offset)
     (λ t. let same : e.span.offset ≡ offset = eqb-true e.span.offset offset t in
     let own : b ≡ it = same_Some b it (sym is ∙ ap (get nat_cmp new) (sym same) ∙ put.there) in
-    let number : b.list ≡ length lists = ap (λ (c : Beginning). c.list) own ∙ put.number in (
+    let number : b.list ≡ length lists = ap (λ (c : EditStart). c.list) own ∙ put.number in (
       omega (arith, more, number),
       ap (list_any (begins_at offset)) (last_at lists (front ++ e ∷ []) b.list number) ∙ grown
           ∙ or_right (list_any (begins_at offset) front) (begins_at offset e || false)
@@ -216,9 +220,10 @@ begun_whose begun new lists front e it h put offset b is =
           ∙ or_left (list_any (begins_at offset) front) (begins_at offset e || false) was),
     ))
 
-begun_more : (begun new : BTreeMap ℕ Beginning) (lists : List (List Replacement)) (front : List Replacement)
-    (e : Replacement) (it : Beginning) → AreBegun begun (with_last lists front) → IsPut begun new (length lists) e it
-    → AreBegun new (with_last lists (front ++ e ∷ []))
+begun_more : (begun new : BTreeMap ℕ EditStart) (lists : List (List Replacement)) (front : List Replacement)
+    (e : Replacement) (it : EditStart) → AreEditStarts begun (with_last lists front)
+    → IsPut begun new (length lists) e it
+    → AreEditStarts new (with_last lists (front ++ e ∷ []))
 begun_more begun new lists front e it h put = record {
   one = begun_one begun new lists front e it h put;
   each = begun_each begun new lists front e it h put;
@@ -230,13 +235,13 @@ not_at a b f =
     by_cases {C = is_at (nat_cmp a) b ≡ false} (ltb a b) (λ t. rw t refl) (λ g. rw (g, f) refl)
 
 -- a loop's step: one more of the last list's edits
-pub begun_step : (begun new : BTreeMap ℕ Beginning) (lists : List (List Replacement)) (edits : List Replacement)
-    (i list at : ℕ) (e : Replacement) (it : Beginning) → AreBegun begun (with_last lists (take i edits))
+pub begun_step : (begun new : BTreeMap ℕ EditStart) (lists : List (List Replacement)) (edits : List Replacement)
+    (i list at : ℕ) (e : Replacement) (it : EditStart) → AreEditStarts begun (with_last lists (take i edits))
     → list ≡ length lists → i < length edits → e ≡ get_or edits i e → at ≡ e.span.offset
     → (get nat_cmp begun e.span.offset ≡ None → it.len ≡ e.span.len)
-    → ((old : Beginning) → get nat_cmp begun e.span.offset ≡ Some old → it.len ≡ max old.len e.span.len)
+    → ((old : EditStart) → get nat_cmp begun e.span.offset ≡ Some old → it.len ≡ max old.len e.span.len)
     → it.list ≡ list → Updates nat_cmp begun new at (Some it)
-    → AreBegun new (with_last lists (take (i + 1) edits))
+    → AreEditStarts new (with_last lists (take (i + 1) edits))
 begun_step begun new lists edits i list at e it h number lt is place fresh again own updates =
     let next : take (i + 1) edits ≡ take i edits ++ e ∷ [] =
     take_more edits i e lt ∙ ap (λ (x : Replacement). take i edits ++ x ∷ []) (sym is) in
@@ -247,5 +252,5 @@ begun_step begun new lists edits i list at e it h number lt is place fresh again
       there = ap (λ (k : ℕ). get nat_cmp new k) (sym place) ∙ updates.1;
       others = λ q apart. updates.2 q (ap (λ (k : ℕ). is_at (nat_cmp k) q) place ∙ not_at e.span.offset q apart);
     } in
-    subst (λ (es : List Replacement). AreBegun new (with_last lists es)) (sym next)
+    subst (λ (es : List Replacement). AreEditStarts new (with_last lists es)) (sym next)
     (begun_more begun new lists (take i edits) e it h put)

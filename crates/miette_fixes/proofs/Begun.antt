@@ -10,11 +10,11 @@ use Rattle.std.proofs.lemmas.Bool.{ltb-false, ltb-true, ne_eqb, or_left, or_part
 use Rattle.std.proofs.lemmas.Option.{same_Some}
 use Rattle.std.proofs.lemmas.List.{drop_more}
 use Rattle.std.proofs.lemmas.Map.Keys.{ge_from_not_lt, le_from_not_gt}
-use Rattle.miette_basics.proofs.Cases.{by_cases}
-use Rattle.miette_fixes.specs.declared.beginnings.Beginning.{Beginning}
-use Rattle.miette_fixes.specs.rules.ApplyingAll.{all_of, conflict, some_conflict}
+use Rattle.miette_lines.proofs.Cases.{by_cases}
+use Rattle.miette_fixes.specs.declared.edit_starts.EditStart.{EditStart}
+use Rattle.miette_fixes.specs.rules.ApplyingAll.{all_edits, conflict, some_conflict}
 use Rattle.miette_fixes.specs.rules.Edits.{Replacement, end_of, overlap, some_overlap}
-use Rattle.miette_fixes.specs.steps.Beginnings.{AreBegun, begins_with, is_inside, meets_from}
+use Rattle.miette_fixes.specs.steps.EditStarts.{AreEditStarts, begins_with, is_inside, meets_from}
 
 -- ---- one of two, and both
 
@@ -184,25 +184,27 @@ reaches e x k len met o l le =
     (lt-ltb x.span.offset e.span.offset (omega (arith, before, o)))
     (lt-ltb e.span.offset (end_of x) (omega (arith, reach, o, l, before)))))
 
-last_meets : (begun : BTreeMap ℕ Beginning) (lists : List (List Replacement)) (e : Replacement) (k : ℕ)
-    (it : Beginning) → AreBegun begun lists → some_overlap (all_of lists) ≡ false → get nat_cmp begun k ≡ Some it
+last_meets : (begun : BTreeMap ℕ EditStart) (lists : List (List Replacement)) (e : Replacement) (k : ℕ)
+    (it : EditStart) → AreEditStarts begun lists → some_overlap (all_edits lists) ≡ false → get nat_cmp begun k
+    ≡ Some it
     → k ≤ e.span.offset
     → ((q : ℕ) → q ≤ e.span.offset → IsSome (get nat_cmp begun q) → q ≤ k)
-    → (eqb k e.span.offset || ltb (e.span.offset - k) it.len) ≡ list_any (meets_from e) (all_of lists)
+    → (eqb k e.span.offset || ltb (e.span.offset - k) it.len) ≡ list_any (meets_from e) (all_edits lists)
 last_meets begun lists e k it h free is le last =
-    same_bool (eqb k e.span.offset || ltb (e.span.offset - k) it.len) (list_any (meets_from e) (all_of lists))
-    (λ met. any_from k it.len (meets_from e) (all_of lists) (λ x o l. reaches e x k it.len met o l le) (h.one k it is))
-    (λ some. let other = any_there (meets_from e) (all_of lists) some in
+    same_bool (eqb k e.span.offset || ltb (e.span.offset - k) it.len) (list_any (meets_from e) (all_edits lists))
+    (λ met. any_from k it.len (meets_from e) (all_edits lists) (λ x o l. reaches e x k it.len met o l le)
+    (h.one k it is))
+    (λ some. let other = any_there (meets_from e) (all_edits lists) some in
     let x : Replacement = other.0 in
     let parts = meets_parts e x other.1 in
     let own = h.each x.span.offset x.span.len other.2 in
     let upto : x.span.offset ≤ e.span.offset = parts.0 in
     let below : x.span.offset ≤ k =
-    last x.span.offset upto (subst (λ (o : Option Beginning). IsSome o) (sym own.1) refl) in
+    last x.span.offset upto (subst (λ (o : Option EditStart). IsSome o) (sym own.1) refl) in
     by_cases {C = (eqb k e.span.offset || ltb (e.span.offset - k) it.len) ≡ true} (eqb x.span.offset k)
     (λ t. let same = eqb-true x.span.offset k t in
     let one : own.0 ≡ it = same_Some own.0 it (sym own.1 ∙ ap (get nat_cmp begun) same ∙ is) in
-    let reach : x.span.len ≤ it.len = subst (λ (b : Beginning). x.span.len ≤ b.len) one own.2 in
+    let reach : x.span.len ≤ it.len = subst (λ (b : EditStart). x.span.len ≤ b.len) one own.2 in
     by_cases {C = (eqb k e.span.offset || ltb (e.span.offset - k) it.len) ≡ true} (eqb k e.span.offset)
     (λ u. or_left (eqb k e.span.offset) (ltb (e.span.offset - k) it.len) u)
     (λ g. let end : e.span.offset < end_of x =
@@ -212,25 +214,25 @@ last_meets begun lists e k it h free is le last =
     (λ f. let apart = eqb-false x.span.offset k f in
     let before : x.span.offset < k = omega (arith, below, apart) in
     let end : x.span.offset + x.span.len ≤ k =
-    pair_apart (all_of lists) x.span.offset x.span.len k it.len free other.2 (h.one k it is) before in
+    pair_apart (all_edits lists) x.span.offset x.span.len k it.len free other.2 (h.one k it is) before in
     let over : e.span.offset < end_of x =
     parts.1 (ne_eqb x.span.offset e.span.offset (λ at. omega (arith, before, le, at))) in
     absurd (omega (arith, over, end, le))))
 
 -- no edit of the lists passes a test where none begins at the place of one that does
-none_passes : (begun : BTreeMap ℕ Beginning) (lists : List (List Replacement)) (test : Replacement → Bool)
-    → AreBegun begun lists → ((x : Replacement) → test x ≡ true → get nat_cmp begun x.span.offset ≡ None)
-    → list_any test (all_of lists) ≡ false
+none_passes : (begun : BTreeMap ℕ EditStart) (lists : List (List Replacement)) (test : Replacement → Bool)
+    → AreEditStarts begun lists → ((x : Replacement) → test x ≡ true → get nat_cmp begun x.span.offset ≡ None)
+    → list_any test (all_edits lists) ≡ false
 none_passes begun lists test h none =
-    by_cases {C = list_any test (all_of lists) ≡ false} (list_any test (all_of lists))
-    (λ some. let other = any_there test (all_of lists) some in
+    by_cases {C = list_any test (all_edits lists) ≡ false} (list_any test (all_edits lists))
+    (λ some. let other = any_there test (all_edits lists) some in
     let own = h.each other.0.span.offset other.0.span.len other.2 in
     let bad : None ≡ Some own.0 = sym (none other.0 other.1) ∙ own.1 in cc)
     (λ f. f)
 
-none_meets : (begun : BTreeMap ℕ Beginning) (lists : List (List Replacement)) (e : Replacement)
-    → AreBegun begun lists → ((q : ℕ) → q ≤ e.span.offset → get nat_cmp begun q ≡ None)
-    → list_any (meets_from e) (all_of lists) ≡ false
+none_meets : (begun : BTreeMap ℕ EditStart) (lists : List (List Replacement)) (e : Replacement)
+    → AreEditStarts begun lists → ((q : ℕ) → q ≤ e.span.offset → get nat_cmp begun q ≡ None)
+    → list_any (meets_from e) (all_edits lists) ≡ false
 none_meets begun lists e h none =
     none_passes begun lists (meets_from e) h (λ x met. none x.span.offset (grind (arith, met)))
 
@@ -245,26 +247,26 @@ inside_from e x le lt =
     and_from (leb e.span.offset x.span.offset) (ltb x.span.offset (end_of e))
     (le-leb e.span.offset x.span.offset le) (lt-ltb x.span.offset (end_of e) lt)
 
-first_inside : (begun : BTreeMap ℕ Beginning) (lists : List (List Replacement)) (e : Replacement) (k : ℕ)
-    (it : Beginning) → AreBegun begun lists → get nat_cmp begun k ≡ Some it → e.span.offset ≤ k
+first_inside : (begun : BTreeMap ℕ EditStart) (lists : List (List Replacement)) (e : Replacement) (k : ℕ)
+    (it : EditStart) → AreEditStarts begun lists → get nat_cmp begun k ≡ Some it → e.span.offset ≤ k
     → ((q : ℕ) → e.span.offset ≤ q → IsSome (get nat_cmp begun q) → k ≤ q)
-    → ltb (k - e.span.offset) e.span.len ≡ list_any (is_inside e) (all_of lists)
+    → ltb (k - e.span.offset) e.span.len ≡ list_any (is_inside e) (all_edits lists)
 first_inside begun lists e k it h is le first =
-    same_bool (ltb (k - e.span.offset) e.span.len) (list_any (is_inside e) (all_of lists))
+    same_bool (ltb (k - e.span.offset) e.span.len) (list_any (is_inside e) (all_edits lists))
     (λ met. let near = ltb-true (k - e.span.offset) e.span.len met in
-    any_from k it.len (is_inside e) (all_of lists)
+    any_from k it.len (is_inside e) (all_edits lists)
     (λ x o l. inside_from e x (omega (arith, le, o)) (omega (arith, near, le, o))) (h.one k it is))
-    (λ some. let other = any_there (is_inside e) (all_of lists) some in
+    (λ some. let other = any_there (is_inside e) (all_edits lists) some in
     let x : Replacement = other.0 in
     let parts = inside_parts e x other.1 in
     let own = h.each x.span.offset x.span.len other.2 in
     let front : k ≤ x.span.offset =
-    first x.span.offset parts.0 (subst (λ (o : Option Beginning). IsSome o) (sym own.1) refl) in
+    first x.span.offset parts.0 (subst (λ (o : Option EditStart). IsSome o) (sym own.1) refl) in
     lt-ltb (k - e.span.offset) e.span.len (omega (arith, parts.1, front, le)))
 
-none_inside_it : (begun : BTreeMap ℕ Beginning) (lists : List (List Replacement)) (e : Replacement)
-    → AreBegun begun lists → ((q : ℕ) → e.span.offset ≤ q → get nat_cmp begun q ≡ None)
-    → list_any (is_inside e) (all_of lists) ≡ false
+none_inside_it : (begun : BTreeMap ℕ EditStart) (lists : List (List Replacement)) (e : Replacement)
+    → AreEditStarts begun lists → ((q : ℕ) → e.span.offset ≤ q → get nat_cmp begun q ≡ None)
+    → list_any (is_inside e) (all_edits lists) ≡ false
 none_inside_it begun lists e h none =
     none_passes begun lists (is_inside e) h (λ x inside. none x.span.offset (grind (arith, inside)))
 
@@ -279,61 +281,61 @@ up_to a b le =
     (λ f. let from = ltb-false a b f in
     let same : eqb a b ≡ true = eq-eqb a b (omega (arith, le, from)) in rw (f, same) refl)
 
-last_by : (begun : BTreeMap ℕ Beginning) (lists : List (List Replacement)) (e : Replacement) (at k : ℕ)
-    (it : Beginning) → AreBegun begun lists → some_overlap (all_of lists) ≡ false → at ≡ e.span.offset
+last_by : (begun : BTreeMap ℕ EditStart) (lists : List (List Replacement)) (e : Replacement) (at k : ℕ)
+    (it : EditStart) → AreEditStarts begun lists → some_overlap (all_edits lists) ≡ false → at ≡ e.span.offset
     → get nat_cmp begun k ≡ Some it → IsUpTo k at
     → ((q : ℕ) → IsUpTo q at → IsSome (get nat_cmp begun q) → is_lt (nat_cmp k q) ≡ false)
-    → (eqb k at || ltb (at - k) it.len) ≡ list_any (meets_from e) (all_of lists)
+    → (eqb k at || ltb (at - k) it.len) ≡ list_any (meets_from e) (all_edits lists)
 last_by begun lists e at k it h free place is le last =
     let low : k ≤ at = le_from_not_gt k at le in
     ap (λ (a : ℕ). eqb k a || ltb (a - k) it.len) place
     ∙ last_meets begun lists e k it h free is (omega (arith, low, place))
     (λ q upto some. ge_from_not_lt k q (last q (up_to q at (omega (arith, upto, place))) some))
 
-pub meets_there : (begun : BTreeMap ℕ Beginning) (lists : List (List Replacement)) (e : Replacement) (at k : ℕ)
-    (it : Beginning) → AreBegun begun lists → some_overlap (all_of lists) ≡ false → at ≡ e.span.offset
+pub meets_there : (begun : BTreeMap ℕ EditStart) (lists : List (List Replacement)) (e : Replacement) (at k : ℕ)
+    (it : EditStart) → AreEditStarts begun lists → some_overlap (all_edits lists) ≡ false → at ≡ e.span.offset
     → get nat_cmp begun k ≡ Some it → IsUpTo k at
     → ((q : ℕ) → IsUpTo q at → IsSome (get nat_cmp begun q) → is_lt (nat_cmp k q) ≡ false)
-    → k ≡ at → eqb k at ≡ list_any (meets_from e) (all_of lists)
+    → k ≡ at → eqb k at ≡ list_any (meets_from e) (all_edits lists)
 meets_there begun lists e at k it h free place is le last same =
     let t : eqb k at ≡ true = eq-eqb k at same in
     t ∙ sym (or_left (eqb k at) (ltb (at - k) it.len) t) ∙ last_by begun lists e at k it h free place is le last
 
-pub meets_by_length : (begun : BTreeMap ℕ Beginning) (lists : List (List Replacement)) (e : Replacement) (at k : ℕ)
-    (it : Beginning) → AreBegun begun lists → some_overlap (all_of lists) ≡ false → at ≡ e.span.offset
+pub meets_by_length : (begun : BTreeMap ℕ EditStart) (lists : List (List Replacement)) (e : Replacement) (at k : ℕ)
+    (it : EditStart) → AreEditStarts begun lists → some_overlap (all_edits lists) ≡ false → at ≡ e.span.offset
     → get nat_cmp begun k ≡ Some it → IsUpTo k at
     → ((q : ℕ) → IsUpTo q at → IsSome (get nat_cmp begun q) → is_lt (nat_cmp k q) ≡ false)
-    → k ≢ at → ltb (at - k) it.len ≡ list_any (meets_from e) (all_of lists)
+    → k ≢ at → ltb (at - k) it.len ≡ list_any (meets_from e) (all_edits lists)
 meets_by_length begun lists e at k it h free place is le last apart =
     ap (λ b. b || ltb (at - k) it.len) (sym (ne_eqb k at apart))
     ∙ last_by begun lists e at k it h free place is le last
 
-pub meets_none : (begun : BTreeMap ℕ Beginning) (lists : List (List Replacement)) (e : Replacement) (at : ℕ)
-    → AreBegun begun lists → at ≡ e.span.offset → ((q : ℕ) → IsUpTo q at → get nat_cmp begun q ≡ None)
-    → false ≡ list_any (meets_from e) (all_of lists)
+pub meets_none : (begun : BTreeMap ℕ EditStart) (lists : List (List Replacement)) (e : Replacement) (at : ℕ)
+    → AreEditStarts begun lists → at ≡ e.span.offset → ((q : ℕ) → IsUpTo q at → get nat_cmp begun q ≡ None)
+    → false ≡ list_any (meets_from e) (all_edits lists)
 meets_none begun lists e at h place none =
     sym (none_meets begun lists e h (λ q upto. none q (up_to q at (omega (arith, upto, place)))))
 
 -- the first of a list, by what is known of it there
-pub first_entry : (P : ℕ × Beginning → Type 0) (entries rest : List (ℕ × Beginning)) (entry : ℕ × Beginning)
+pub first_entry : (P : ℕ × EditStart → Type 0) (entries rest : List (ℕ × EditStart)) (entry : ℕ × EditStart)
     → entries ≡ entry ∷ rest → IfSome (slice_get entries 0) P → P entry
 first_entry P entries rest entry is h =
-    subst (λ (es : List (ℕ × Beginning)). IfSome (slice_get es 0) P) is h
+    subst (λ (es : List (ℕ × EditStart)). IfSome (slice_get es 0) P) is h
 
-pub inside_by : (begun : BTreeMap ℕ Beginning) (lists : List (List Replacement)) (e : Replacement) (at k len : ℕ)
-    (it : Beginning) → AreBegun begun lists → at ≡ e.span.offset → len ≡ e.span.len
+pub inside_by : (begun : BTreeMap ℕ EditStart) (lists : List (List Replacement)) (e : Replacement) (at k len : ℕ)
+    (it : EditStart) → AreEditStarts begun lists → at ≡ e.span.offset → len ≡ e.span.len
     → get nat_cmp begun k ≡ Some it → IsUpTo at k
     → ((q : ℕ) → IsUpTo at q → IsSome (get nat_cmp begun q) → IsUpTo k q)
-    → ltb (k - at) len ≡ list_any (is_inside e) (all_of lists)
+    → ltb (k - at) len ≡ list_any (is_inside e) (all_edits lists)
 inside_by begun lists e at k len it h place long is le first =
     let low : at ≤ k = le_from_not_gt at k le in
     ap (λ (a : ℕ). ltb (k - a) len) place ∙ ap (ltb (k - e.span.offset)) long
     ∙ first_inside begun lists e k it h is (omega (arith, low, place))
     (λ q from some. le_from_not_gt k q (first q (up_to at q (omega (arith, from, place))) some))
 
-pub inside_none : (begun : BTreeMap ℕ Beginning) (lists : List (List Replacement)) (e : Replacement) (at : ℕ)
-    → AreBegun begun lists → at ≡ e.span.offset → ((q : ℕ) → IsUpTo at q → get nat_cmp begun q ≡ None)
-    → false ≡ list_any (is_inside e) (all_of lists)
+pub inside_none : (begun : BTreeMap ℕ EditStart) (lists : List (List Replacement)) (e : Replacement) (at : ℕ)
+    → AreEditStarts begun lists → at ≡ e.span.offset → ((q : ℕ) → IsUpTo at q → get nat_cmp begun q ≡ None)
+    → false ≡ list_any (is_inside e) (all_edits lists)
 inside_none begun lists e at h place none =
     sym (none_inside_it begun lists e h (λ q from. none q (up_to at q (omega (arith, from, place)))))
 

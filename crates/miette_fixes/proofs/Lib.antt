@@ -6,3 +6,6 @@ pub mod Choosing
 pub mod Overlaps
 pub mod Sorting
 pub mod Taking
+pub mod Moving
+pub mod Permuted
+pub mod AppliedStanding

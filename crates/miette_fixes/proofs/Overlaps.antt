@@ -5,9 +5,9 @@ use Rattle.std.specs.Prelude.{None, Some}
 use Rattle.miette_fixes.specs.declared.error.FixError.TheVariants.{Overlap}
 use Rattle.std.specs.List.{AllByRecursion, list_any}
 use Rattle.std.proofs.lemmas.Bool.{le-ltb, ltb-false, or_parts}
-use Rattle.miette_basics.proofs.Cases.{by_cases}
+use Rattle.miette_lines.proofs.Cases.{by_cases}
 use Rattle.miette_fixes.specs.rules.Edits.{Replacement, end_of, ends_after, is_after, overlap, some_overlap}
-use Rattle.miette_fixes.specs.rules.Applying.{put_edit, by_offset, refusal}
+use Rattle.miette_fixes.specs.rules.Applying.{put_edit, by_offset, edits_error}
 use Rattle.miette_fixes.specs.steps.Sweeping.{crosses_from}
 use Rattle.miette_fixes.specs.views.Ordered.{FitFrom}
 use Rattle.miette_fixes.proofs.Sorting.{Climbs, less, less_order, not_after, by_offset_climbs}
@@ -141,15 +141,15 @@ pub sorted_crosses : (n : ℕ) (edits sorted : List Replacement) (found : Bool) 
 sorted_crosses n edits sorted found is h = sym (crosses_is edits) ∙ ap (crosses_from 0) (sym is) ∙ sym h
 
 pub refused_overlap : (n : ℕ) (edits : List Replacement) → list_any (ends_after n) edits ≡ false
-    → some_overlap edits ≡ true → refusal n edits ≡ Some Overlap
+    → some_overlap edits ≡ true → edits_error n edits ≡ Some Overlap
 refused_overlap n edits h k = rw (h, k) refl
 
 pub unrefused : (n : ℕ) (edits : List Replacement) → list_any (ends_after n) edits ≡ false
-    → some_overlap edits ≡ false → refusal n edits ≡ None
+    → some_overlap edits ≡ false → edits_error n edits ≡ None
 unrefused n edits h k = rw (h, k) refl
 
 -- edits that can be applied
-pub none_refused : (n : ℕ) (edits : List Replacement) → refusal n edits ≡ None
+pub none_refused : (n : ℕ) (edits : List Replacement) → edits_error n edits ≡ None
     → (list_any (ends_after n) edits ≡ false) × (some_overlap edits ≡ false)
 none_refused n edits h =
     by_cases {C = (list_any (ends_after n) edits ≡ false) × (some_overlap edits ≡ false)}
@@ -158,13 +158,13 @@ none_refused n edits h =
     (λ f. by_cases {C = (list_any (ends_after n) edits ≡ false) × (some_overlap edits ≡ false)} (some_overlap edits)
     (λ t. let bad = rw (f, t) at h in cc) (λ g. (f, g)))
 
-pub fit_unrefused : (n : ℕ) (edits : List Replacement) → refusal n edits ≡ None → FitFrom n 0 (by_offset edits)
+pub fit_unrefused : (n : ℕ) (edits : List Replacement) → edits_error n edits ≡ None → FitFrom n 0 (by_offset edits)
 fit_unrefused n edits h =
     let parts : (list_any (ends_after n) edits ≡ false) × (some_overlap edits ≡ false) = none_refused n edits h in
     fit_from n 0 (by_offset edits) (omega arith) (crosses_is edits ∙ parts.1)
     (sorted_inside n edits (by_offset edits) refl parts.0)
 
-pub sorted_fit : (n : ℕ) (edits sorted : List Replacement) → sorted ≡ by_offset edits → refusal n edits ≡ None
+pub sorted_fit : (n : ℕ) (edits sorted : List Replacement) → sorted ≡ by_offset edits → edits_error n edits ≡ None
     → FitFrom n 0 sorted
 sorted_fit n edits sorted is h =
     subst (λ (es : List Replacement). FitFrom n 0 es) (sym is) (fit_unrefused n edits h)

@@ -12,7 +12,7 @@ use Rattle.std.proofs.lemmas.List.{map-id}
 use Rattle.std.proofs.lemmas.List.Elements.{filter-append}
 use denote.Ref.{Bor}
 use Rattle.miette_protocol.specs.rules.Reading.{Span}
-use Rattle.miette_basics.proofs.Cases.{by_cases}
+use Rattle.miette_lines.proofs.Cases.{by_cases}
 use Rattle.miette_fixes.specs.rules.Edits.{Replacement, is_after}
 use Rattle.miette_fixes.specs.rules.Applying.{put_edit, by_offset}
 use Rattle.miette_fixes.specs.steps.Sweeping.{ascends_after, ascends}

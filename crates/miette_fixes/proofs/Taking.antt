@@ -11,12 +11,12 @@ use Rattle.std.proofs.lemmas.Option.{same_Some}
 use Rattle.std.proofs.lemmas.List.{append-nil, drop_more, map-append, take_more}
 use Rattle.std.proofs.lemmas.List.Elements.{filter-append}
 use Rattle.std.proofs.lemmas.List.Folds.{list_any-append}
-use Rattle.miette_basics.proofs.Cases.{by_cases}
-use Rattle.miette_fixes.specs.rules.Applying.{applied, by_offset, refusal, text_from}
-use Rattle.miette_fixes.specs.rules.ApplyingAll.{all_of, conflict, counted, counted_with, counts, is_among}
-use Rattle.miette_fixes.specs.rules.ApplyingAll.{is_taken, lists_of, some_conflict, taken}
+use Rattle.miette_lines.proofs.Cases.{by_cases}
+use Rattle.miette_fixes.specs.rules.Applying.{applied, by_offset, edits_error, text_from}
+use Rattle.miette_fixes.specs.rules.ApplyingAll.{all_edits, conflict, counted, counted_with, counts, equals_some_fix}
+use Rattle.miette_fixes.specs.rules.ApplyingAll.{is_taken, edit_lists, some_conflict, taken}
 use Rattle.miette_fixes.specs.declared.error.FixError.{FixError}
-use Rattle.miette_fixes.specs.rules.Edits.{Proposal, Replacement, ends_after, overlap, some_overlap}
+use Rattle.miette_fixes.specs.rules.Edits.{FixModel, Replacement, ends_after, overlap, some_overlap}
 use Rattle.miette_fixes.proofs.Overlaps.{none_refused, overlap_turned, unrefused}
 use Rattle.miette_fixes.proofs.Sorting.{less, not_after, same_order}
 
@@ -59,23 +59,23 @@ joined (x ∷ xs) ys h k free =
 
 -- all edits of the lists, and one list more
 pub all_of_more : (lists : List (List Replacement)) (edits : List Replacement)
-    → all_of (lists ++ edits ∷ []) ≡ all_of lists ++ edits
+    → all_edits (lists ++ edits ∷ []) ≡ all_edits lists ++ edits
 all_of_more [] edits = append-nil edits
 all_of_more (xs ∷ lists) edits =
-    ap (λ r. xs ++ r) (all_of_more lists edits) ∙ sym (append_assoc xs (all_of lists) edits)
+    ap (λ r. xs ++ r) (all_of_more lists edits) ∙ sym (append_assoc xs (all_edits lists) edits)
 
 some_none : (o : Option FixError) → is_none o ≡ true → o ≡ None
 some_none None h = refl
 some_none (Some e) h = let bad = h in cc
 
 -- what counts is applied beside what counts already
-pub counted_fit : (n : ℕ) (others edits : List Replacement) → refusal n others ≡ None → counts n others edits ≡ true
-    → refusal n (others ++ edits) ≡ None
+pub counted_fit : (n : ℕ) (others edits : List Replacement) → edits_error n others ≡ None → counts n others edits ≡ true
+    → edits_error n (others ++ edits) ≡ None
 counted_fit n others edits h may =
-    let parts : (is_none (refusal n edits) ≡ true) × (not (some_conflict edits others) ≡ true) =
-    and_parts (is_none (refusal n edits)) (not (some_conflict edits others)) may in
+    let parts : (is_none (edits_error n edits) ≡ true) × (not (some_conflict edits others) ≡ true) =
+    and_parts (is_none (edits_error n edits)) (not (some_conflict edits others)) may in
     let own : (list_any (ends_after n) edits ≡ false) × (some_overlap edits ≡ false) =
-    none_refused n edits (some_none (refusal n edits) parts.0) in
+    none_refused n edits (some_none (edits_error n edits) parts.0) in
     let before : (list_any (ends_after n) others ≡ false) × (some_overlap others ≡ false) = none_refused n others h in
     unrefused n (others ++ edits)
     (list_any-append (ends_after n) others edits
@@ -83,21 +83,21 @@ counted_fit n others edits h may =
     (joined others edits before.1 own.1 (not-true (some_conflict edits others) parts.1))
 
 -- the edits of fixes from one on
-pub lists_more : (fixes : List (Bor Proposal)) (i : ℕ) (fix : Bor Proposal) → i < length fixes
-    → fix ≡ get_or fixes i fix → lists_of (drop i fixes) ≡ fix.now.edits ∷ lists_of (drop (i + 1) fixes)
+pub lists_more : (fixes : List (Bor FixModel)) (i : ℕ) (fix : Bor FixModel) → i < length fixes
+    → fix ≡ get_or fixes i fix → edit_lists (drop i fixes) ≡ fix.now.edits ∷ edit_lists (drop (i + 1) fixes)
 lists_more fixes i fix lt is =
-    ap lists_of (drop_more fixes i fix lt)
-    ∙ ap (λ (f : Bor Proposal). f.now.edits ∷ lists_of (drop (i + 1) fixes)) (sym is)
+    ap edit_lists (drop_more fixes i fix lt)
+    ∙ ap (λ (f : Bor FixModel). f.now.edits ∷ edit_lists (drop (i + 1) fixes)) (sym is)
 
 -- all edits of fixes up to one, and it
-pub taken_more : (fixes : List (Bor Proposal)) (i : ℕ) (fix : Bor Proposal) → i < length fixes
+pub taken_more : (fixes : List (Bor FixModel)) (i : ℕ) (fix : Bor FixModel) → i < length fixes
     → fix ≡ get_or fixes i fix
-    → all_of (lists_of (take (i + 1) fixes)) ≡ all_of (lists_of (take i fixes)) ++ fix.now.edits
+    → all_edits (edit_lists (take (i + 1) fixes)) ≡ all_edits (edit_lists (take i fixes)) ++ fix.now.edits
 taken_more fixes i fix lt is =
-    ap (λ (fs : List (Bor Proposal)). all_of (lists_of fs))
-    (take_more fixes i fix lt ∙ ap (λ (f : Bor Proposal). take i fixes ++ f ∷ []) (sym is))
-    ∙ ap all_of (map-append (λ (f : Bor Proposal). f.now.edits) (take i fixes) (fix ∷ []))
-    ∙ all_of_more (lists_of (take i fixes)) fix.now.edits
+    ap (λ (fs : List (Bor FixModel)). all_edits (edit_lists fs))
+    (take_more fixes i fix lt ∙ ap (λ (f : Bor FixModel). take i fixes ++ f ∷ []) (sym is))
+    ∙ ap all_edits (map-append (λ (f : Bor FixModel). f.now.edits) (take i fixes) (fix ∷ []))
+    ∙ all_of_more (edit_lists (take i fixes)) fix.now.edits
 
 -- ---- in any order
 
@@ -166,20 +166,22 @@ turned_within z before xs ys after free =
     ∙ ap (λ r. filter p before ++ r) (two xs ys ∙ ap (λ r. r ++ filter p after) (turned z xs ys free) ∙ sym (two ys xs))
     ∙ sym (filter-append p before (ys ++ (xs ++ after)))
 
-all_of_split : (before after : List (List Replacement)) → all_of (before ++ after) ≡ all_of before ++ all_of after
+all_of_split : (before after : List (List Replacement)) → all_edits (before ++ after) ≡ all_edits before
+    ++ all_edits after
 all_of_split [] after = refl
 all_of_split (xs ∷ before) after =
-    ap (λ r. xs ++ r) (all_of_split before after) ∙ sym (append_assoc xs (all_of before) (all_of after))
+    ap (λ r. xs ++ r) (all_of_split before after) ∙ sym (append_assoc xs (all_edits before) (all_edits after))
 
 -- two neighbours that don't conflict change places
 pub neighbours : (source : List ℕ) (before after : List (List Replacement)) (xs ys : List Replacement)
     → some_conflict xs ys ≡ false
-    → applied source (all_of (before ++ xs ∷ ys ∷ after)) ≡ applied source (all_of (before ++ ys ∷ xs ∷ after))
+    → applied source (all_edits (before ++ xs ∷ ys ∷ after)) ≡ applied source (all_edits (before ++ ys ∷ xs ∷ after))
 neighbours source before after xs ys free =
-    let order : by_offset (all_of before ++ (xs ++ (ys ++ all_of after)))
-    ≡ by_offset (all_of before ++ (ys ++ (xs ++ all_of after))) =
-    same_order (all_of before ++ (xs ++ (ys ++ all_of after))) (all_of before ++ (ys ++ (xs ++ all_of after)))
-    (λ z. turned_within z (all_of before) xs ys (all_of after) free) in
+    let order : by_offset (all_edits before ++ (xs ++ (ys ++ all_edits after)))
+    ≡ by_offset (all_edits before ++ (ys ++ (xs ++ all_edits after))) =
+    same_order (all_edits before ++ (xs ++ (ys ++ all_edits after))) (all_edits before
+    ++ (ys ++ (xs ++ all_edits after)))
+    (λ z. turned_within z (all_edits before) xs ys (all_edits after) free) in
     ap (λ es. text_from source 0 (by_offset es)) (all_of_split before (xs ∷ ys ∷ after))
     ∙ ap (text_from source 0) order
     ∙ ap (λ es. text_from source 0 (by_offset es)) (sym (all_of_split before (ys ∷ xs ∷ after)))
@@ -194,19 +196,19 @@ taken_at n before (f ∷ fs) zero lt = refl
 taken_at n before (f ∷ fs) (suc k) lt = taken_at n (counted_with n before f) fs k (omega (arith, lt))
 
 not_taken : (n : ℕ) (before : List (List Replacement)) (edits : List Replacement) → is_taken n before edits ≡ false
-    → (refusal n edits ≢ None) ⊎ (some_conflict edits (all_of before) ≡ true)
+    → (edits_error n edits ≢ None) ⊎ (some_conflict edits (all_edits before) ≡ true)
 not_taken n before edits h =
-    let parts : (counts n (all_of before) edits ≡ false) × (is_among edits before ≡ false) =
-    or_parts (counts n (all_of before) edits) (is_among edits before) h in
-    by_cases {C = (refusal n edits ≢ None) ⊎ (some_conflict edits (all_of before) ≡ true)}
-    (some_conflict edits (all_of before)) (λ t. inr t)
-    (λ f. inl (λ e. let none : is_none (refusal n edits) ≡ true = ap is_none e in
+    let parts : (counts n (all_edits before) edits ≡ false) × (equals_some_fix edits before ≡ false) =
+    or_parts (counts n (all_edits before) edits) (equals_some_fix edits before) h in
+    by_cases {C = (edits_error n edits ≢ None) ⊎ (some_conflict edits (all_edits before) ≡ true)}
+    (some_conflict edits (all_edits before)) (λ t. inr t)
+    (λ f. inl (λ e. let none : is_none (edits_error n edits) ≡ true = ap is_none e in
     let bad : true ≡ false = rw (none, f) at parts.0 in true≢false bad))
 
 pub maximal : (n : ℕ) (fixes : List (List Replacement)) (k : ℕ) → k < length fixes
     → slice_get (taken n [] fixes) k ≡ Some false
-    → (refusal n (get_or fixes k []) ≢ None)
-    ⊎ (some_conflict (get_or fixes k []) (all_of (counted n [] (take k fixes))) ≡ true)
+    → (edits_error n (get_or fixes k []) ≢ None)
+    ⊎ (some_conflict (get_or fixes k []) (all_edits (counted n [] (take k fixes))) ≡ true)
 maximal n fixes k lt h =
     let e : Some (is_taken n (counted n [] (take k fixes)) (get_or fixes k [])) ≡ Some false =
     sym (taken_at n [] fixes k lt) ∙ h in
@@ -214,17 +216,17 @@ maximal n fixes k lt h =
     (same_Some (is_taken n (counted n [] (take k fixes)) (get_or fixes k [])) false e)
 
 -- the edits that count can be applied together
-counted_together : (n : ℕ) (before fixes : List (List Replacement)) → refusal n (all_of before) ≡ None
-    → refusal n (all_of (counted n before fixes)) ≡ None
+counted_together : (n : ℕ) (before fixes : List (List Replacement)) → edits_error n (all_edits before) ≡ None
+    → edits_error n (all_edits (counted n before fixes)) ≡ None
 counted_together n before [] h = h
 counted_together n before (f ∷ fs) h =
-    by_cases {C = refusal n (all_of (counted n before (f ∷ fs))) ≡ None} (counts n (all_of before) f)
+    by_cases {C = edits_error n (all_edits (counted n before (f ∷ fs))) ≡ None} (counts n (all_edits before) f)
     (λ t. let next : counted_with n before f ≡ before ++ f ∷ [] = rw t refl in
-    let fit : refusal n (all_of (before ++ f ∷ [])) ≡ None =
-    ap (refusal n) (all_of_more before f) ∙ counted_fit n (all_of before) f h t in
-    ap (λ b. refusal n (all_of (counted n b fs))) next ∙ counted_together n (before ++ f ∷ []) fs fit)
+    let fit : edits_error n (all_edits (before ++ f ∷ [])) ≡ None =
+    ap (edits_error n) (all_of_more before f) ∙ counted_fit n (all_edits before) f h t in
+    ap (λ b. edits_error n (all_edits (counted n b fs))) next ∙ counted_together n (before ++ f ∷ []) fs fit)
     (λ g. let next : counted_with n before f ≡ before = rw g refl in
-    ap (λ b. refusal n (all_of (counted n b fs))) next ∙ counted_together n before fs h)
+    ap (λ b. edits_error n (all_edits (counted n b fs))) next ∙ counted_together n before fs h)
 
-pub together : (n : ℕ) (fixes : List (List Replacement)) → refusal n (all_of (counted n [] fixes)) ≡ None
+pub together : (n : ℕ) (fixes : List (List Replacement)) → edits_error n (all_edits (counted n [] fixes)) ≡ None
 together n fixes = counted_together n [] fixes (unrefused n [] refl refl)

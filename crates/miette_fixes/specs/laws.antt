@@ -1,2 +1,3 @@
--- What holds of the rules.
+-- Definitions that theorems about the rules use.
 pub mod Conflicts
+pub mod Places

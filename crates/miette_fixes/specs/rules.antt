@@ -1,4 +1,4 @@
--- What users rely on, in the words of docs/RULES.md.
+-- Definitions that contracts use. docs/RULES.md says them in words.
 pub mod Applying
 pub mod ApplyingAll
 pub mod Edits

@@ -1,3 +1,3 @@
--- The code's own steps; no public call cites one.
+-- Definitions of the code's internal steps. No rule names them.
 pub mod Sweeping
-pub mod Beginnings
+pub mod EditStarts

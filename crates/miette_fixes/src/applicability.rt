@@ -1,32 +1,32 @@
-//! How sure a fix is.
+//! How certain a fix is.
 
 ghost use Rattle.std.specs.Prelude.{◌≡◌};
 
 use serde::{Deserialize, Serialize};
 use std::fmt;
 
-/// How sure a fix is, in the terms of rustc.
+/// How certain a fix is, in rustc's terms.
 #[derive(Clone, Copy, Debug, PartialEq, Eq, Default, Serialize, Deserialize)]
 #[serde(rename_all = "kebab-case")]
 pub enum Applicability {
-    /// It's what is meant, and may be applied without a look.
+    /// The fix is what was meant. It may be applied without review.
     MachineApplicable,
-    /// It may be what is meant.
+    /// The fix may be what was meant.
     MaybeIncorrect,
-    /// Its text has places that a reader has to fill in.
+    /// The text has placeholders that somebody has to fill in.
     HasPlaceholders,
-    /// Nothing is said of it.
+    /// Nothing is known.
     #[default]
     Unspecified,
 }
 
 impl Applicability {
-    ghost use Rattle.miette_fixes.specs.rules.Edits.{is_sure};
+    ghost use Rattle.miette_fixes.specs.rules.Edits.{is_machine_applicable};
     ghost use Rattle.miette_fixes.specs.rules.Texts.{applicability_name};
 
-    /// Whether a fix may be applied without a look.
-    pub fn is_sure(self) -> bool
-        ensures { result ≡ is_sure self }
+    /// Whether the fix may be applied without review.
+    pub fn is_machine_applicable(self) -> bool
+        ensures { result ≡ is_machine_applicable self }
     {
         match self {
             Applicability::MachineApplicable => true,
@@ -36,7 +36,7 @@ impl Applicability {
         }
     }
 
-    /// Its name in descriptions and in JSON, as `machine-applicable`. Takes no memory.
+    /// Returns the name used in descriptions and JSON, for example `machine-applicable`. Does not allocate.
     pub fn name(&self) -> &'static str
         ensures { result.now ≡ applicability_name self.now }
     {
@@ -49,7 +49,7 @@ impl Applicability {
     }
 }
 
-/// Prints its name.
+/// Prints the name.
 impl fmt::Display for Applicability {
     ghost use Rattle.std.specs.Prelude.{Some};
     ghost use Rattle.miette_fixes.specs.rules.Texts.{applicability_name};

@@ -1,9 +1,9 @@
-//! A source with edits applied, and the edits in their order.
+//! Sorts, checks and applies the edits of one fix.
 
 ghost use Rattle.std.specs.Prelude.{◌≡◌, ◌≢◌, false, length, IfOk, IfErr, None, Some};
 ghost use Rattle.std.specs.List.{list_any};
 ghost use Rattle.miette_fixes.specs.declared.error.FixError.TheVariants.{Memory};
-ghost use Rattle.miette_fixes.specs.rules.Applying.{applied, by_offset, refusal, text_from};
+ghost use Rattle.miette_fixes.specs.rules.Applying.{applied, by_offset, edits_error, text_from};
 ghost use Rattle.miette_fixes.specs.rules.Edits.{ends_after};
 ghost use Rattle.miette_fixes.specs.steps.Sweeping.{crosses_from};
 ghost use Rattle.miette_fixes.specs.views.Ordered.{FitFrom, edits_of};
@@ -20,7 +20,7 @@ fn is_outside(length: usize, edit: &Edit) -> bool
     length < edit.offset() || length - edit.offset() < edit.len()
 }
 
-// Whether one of these edits does.
+// Whether one of the edits ends after the end of the source.
 fn some_outside(length: usize, edits: &[Edit]) -> bool
     ensures { result ≡ list_any (ends_after length) edits.now }
 {
@@ -32,7 +32,7 @@ fn some_outside(length: usize, edits: &[Edit]) -> bool
     false
 }
 
-// Whether one of these edits begins before the one before it ends. None ends after the source's end.
+// Whether one of the edits begins before the end of the one before it. No edit ends after the end of the source.
 fn some_cross(length: usize, edits: &[&Edit]) -> bool
     requires { list_any (ends_after length) (edits_of edits.now) ≡ false }
     ensures { result ≡ crosses_from 0 (edits_of edits.now) }
@@ -47,7 +47,7 @@ fn some_cross(length: usize, edits: &[&Edit]) -> bool
     false
 }
 
-// How many bytes the text has after these edits.
+// Returns the length of the text after these edits, in bytes.
 fn length_after(length: usize, edits: &[&Edit]) -> usize {
     let mut after = length;
     for edit in edits {
@@ -59,11 +59,11 @@ fn length_after(length: usize, edits: &[&Edit]) -> usize {
     after
 }
 
-/// The source from an offset on with edits that fit, in their order.
+/// Applies sorted edits that fit to the source from an offset on.
 ///
 /// # Errors
-/// `AllocError` where memory is refused.
-pub fn spliced(
+/// `AllocError` if allocation fails.
+pub fn splice_edits(
     alloc: Global,
     source: &[u8],
     from: usize,
@@ -85,19 +85,19 @@ pub fn spliced(
     Ok(text)
 }
 
-/// The edits by offset, where they can be applied to a source of `length` bytes.
+/// Returns the edits sorted by offset, if they can be applied to a source of `length` bytes.
 ///
 /// # Errors
-/// `OutOfBounds` where an edit ends after the source's end, else `Overlap` where two edits overlap; `Memory` where
-/// memory is refused.
-pub fn checked<'a>(
+/// `OutOfBounds` if an edit ends after the end of the source, else `Overlap` if two edits overlap. `Memory` if
+/// allocation fails.
+pub fn check_edits<'a>(
     alloc: Global,
     length: usize,
     edits: &'a [Edit],
 ) -> Result<Vec<&'a Edit>, FixError>
     ensures ok { IfOk result (λ sorted.
-        (refusal length edits.now ≡ None) × (edits_of sorted.items ≡ by_offset edits.now)) }
-    ensures refused { IfErr result (λ e. e ≢ Memory → refusal length edits.now ≡ Some e) }
+        (edits_error length edits.now ≡ None) × (edits_of sorted.items ≡ by_offset edits.now)) }
+    ensures refused { IfErr result (λ e. e ≢ Memory → edits_error length edits.now ≡ Some e) }
 {
     if some_outside(length, edits) {
         return Err(FixError::OutOfBounds);
@@ -109,19 +109,15 @@ pub fn checked<'a>(
     Ok(list)
 }
 
-/// The source with edits applied.
+/// Applies edits to a source.
 ///
 /// # Errors
-/// Those of `checked`.
-pub(crate) fn applied_text(
-    alloc: Global,
-    source: &[u8],
-    edits: &[Edit],
-) -> Result<Vec<u8>, FixError>
+/// Those of `check_edits`.
+pub(crate) fn apply_edits(alloc: Global, source: &[u8], edits: &[Edit]) -> Result<Vec<u8>, FixError>
     ensures ok { IfOk result (λ text.
-        (refusal (length source.now) edits.now ≡ None) × (text.items ≡ applied source.now edits.now)) }
-    ensures refused { IfErr result (λ e. e ≢ Memory → refusal (length source.now) edits.now ≡ Some e) }
+        (edits_error (length source.now) edits.now ≡ None) × (text.items ≡ applied source.now edits.now)) }
+    ensures refused { IfErr result (λ e. e ≢ Memory → edits_error (length source.now) edits.now ≡ Some e) }
 {
-    let list = checked(alloc, source.len(), edits)?;
-    Ok(spliced(alloc, source, 0, &list)?)
+    let list = check_edits(alloc, source.len(), edits)?;
+    Ok(splice_edits(alloc, source, 0, &list)?)
 }

@@ -1,40 +1,40 @@
-//! Several fixes of one source.
+//! Applies several fixes to one source.
 
 ghost use Rattle.std.specs.Prelude.{◌≡◌, List, [], false, length, IfOk};
-ghost use Rattle.miette_fixes.specs.rules.ApplyingAll.{all_applied, all_of, counts, lists_of, taken};
+ghost use Rattle.miette_fixes.specs.rules.ApplyingAll.{all_applied, all_edits, counts, edit_lists, taken};
 ghost use Rattle.miette_fixes.specs.rules.Applying.{by_offset};
 ghost use Rattle.miette_fixes.specs.rules.Edits.{Replacement, some_overlap};
-ghost use Rattle.miette_fixes.specs.steps.Beginnings.{AreBegun};
+ghost use Rattle.miette_fixes.specs.steps.EditStarts.{AreEditStarts};
 ghost use Rattle.miette_fixes.specs.views.Ordered.{edits_of};
 
-use crate::apply::{checked, spliced};
-use crate::beginnings::{Beginnings, entered, is_among, some_conflict};
+use crate::apply::{check_edits, splice_edits};
 use crate::edit::Edit;
+use crate::edit_starts::{EditStarts, equals_some_fix, record_edits, some_conflict};
 use crate::error::FixError;
-use crate::order::{extended, sort};
-use crate::proposal::Fix;
+use crate::fix_builder::Fix;
+use crate::order::{append_references, sort};
 use std::alloc::{AllocError, Global};
 
-/// What `apply_all` answers.
+/// The result of `apply_all`.
 #[derive(Debug, Drop)]
 pub struct Applied {
-    /// The source's text after the edits of all fixes that were taken.
+    /// The source after the edits of all fixes that were applied.
     pub text: Vec<u8>,
-    /// Whether each fix was taken, in the order given.
+    /// Whether each fix was applied, in the order given.
     pub taken: Vec<bool>,
 }
 
-// Whether a fix's edits count, beside others that do, of which no two overlap.
+// Whether a fix can be applied together with the edits taken so far. No two of those overlap.
 fn counts(
     alloc: Global,
     length: usize,
-    begun: &Beginnings,
+    begun: &EditStarts,
     edits: &[Edit],
 ) -> Result<bool, AllocError>
-    ensures { IfOk result (λ it. (lists : List (List Replacement)) → AreBegun begun.now lists →
-        some_overlap (all_of lists) ≡ false → it ≡ counts length (all_of lists) edits.now) }
+    ensures { IfOk result (λ it. (lists : List (List Replacement)) → AreEditStarts begun.now lists →
+        some_overlap (all_edits lists) ≡ false → it ≡ counts length (all_edits lists) edits.now) }
 {
-    match checked(alloc, length, edits) {
+    match check_edits(alloc, length, edits) {
         Ok(_) => Ok(!some_conflict(edits, begun)),
         Err(FixError::Memory) => Err(AllocError),
         Err(FixError::OutOfBounds) => Ok(false),
@@ -42,31 +42,35 @@ fn counts(
     }
 }
 
-// The edits of these fixes by offset, then by length, ties as given.
-fn all_sorted<'a>(alloc: Global, fixes: &[&'a Fix]) -> Result<Vec<&'a Edit>, AllocError>
-    ensures { IfOk result (λ v. edits_of v.items ≡ by_offset (all_of (lists_of fixes.now))) }
+// Sorts the edits of all fixes by offset, then by length. Equal ones keep their order.
+fn sort_all_edits<'a>(alloc: Global, fixes: &[&'a Fix]) -> Result<Vec<&'a Edit>, AllocError>
+    ensures { IfOk result (λ v. edits_of v.items ≡ by_offset (all_edits (edit_lists fixes.now))) }
 {
     let mut list = Vec::new(alloc);
     for fix in fixes {
-        list = extended(list, fix.edits())?;
+        list = append_references(list, fix.edits())?;
     }
     sort(&mut list)?;
     Ok(list)
 }
 
-/// Takes fixes of a source in the order given, each whole or not at all, and applies all edits of those that it took.
-/// A fix is taken where it can be applied by itself and none of its edits conflicts with one taken before: they
-/// overlap, or begin at the same offset. One with the same edits as one taken is taken with it, and these count once.
-/// The work grows with the source, and with the number of edits times its logarithm, in whatever order fixes come.
+/// Applies as many fixes to a source as possible. Fixes are tried in the order given, and each is applied as a whole or
+/// not at all.
+///
+/// A fix is applied if its edits are valid by themselves and none of them conflicts with an edit applied before. Two
+/// edits conflict if they overlap or begin at the same offset. A fix with the same edits as an applied one counts as
+/// applied; its edits are applied once.
+///
+/// Takes time linear in the source and O(n log n) in the number of edits.
 ///
 /// # Errors
-/// `AllocError` where memory is refused.
+/// `AllocError` if allocation fails.
 pub fn apply_all(alloc: Global, source: &[u8], fixes: &[&Fix]) -> Result<Applied, AllocError>
-    ensures taken { IfOk result (λ it. it.taken.items ≡ taken (length source.now) [] (lists_of fixes.now)) }
-    ensures whole { IfOk result (λ it. it.text.items ≡ all_applied source.now (lists_of fixes.now)) }
+    ensures taken { IfOk result (λ it. it.taken.items ≡ taken (length source.now) [] (edit_lists fixes.now)) }
+    ensures whole { IfOk result (λ it. it.text.items ≡ all_applied source.now (edit_lists fixes.now)) }
 {
     let mut counted = Vec::new(alloc);
-    let mut begun = Beginnings::new(alloc);
+    let mut begun = EditStarts::new(alloc);
     let many = fixes.len();
     let last = many.saturating_sub(1);
     let mut taken = Vec::with_capacity(alloc, many)?;
@@ -75,14 +79,14 @@ pub fn apply_all(alloc: Global, source: &[u8], fixes: &[&Fix]) -> Result<Applied
         if counts(alloc, source.len(), &begun, proposed)? {
             let number = counted.len();
             let place = taken.len();
-            begun = entered(begun, number, proposed, place < last)?;
+            begun = record_edits(begun, number, proposed, place < last)?;
             counted.push(*fix)?;
             taken.push(true)?;
         } else {
-            taken.push(is_among(proposed, &begun, &counted))?;
+            taken.push(equals_some_fix(proposed, &begun, &counted))?;
         }
     }
-    let edits = all_sorted(alloc, &counted)?;
-    let text = spliced(alloc, source, 0, &edits)?;
+    let edits = sort_all_edits(alloc, &counted)?;
+    let text = splice_edits(alloc, source, 0, &edits)?;
     Ok(Applied { text, taken })
 }

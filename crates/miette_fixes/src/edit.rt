@@ -1,4 +1,4 @@
-//! Edits of a source.
+//! A single edit of a source.
 
 ghost use Rattle.std.specs.Prelude.{◌≡◌, [], string_bytes};
 
@@ -7,7 +7,7 @@ use serde::{Deserialize, Serialize};
 use std::alloc::{AllocError, Global};
 use std::marker::Model;
 
-/// An edit: a span of a source, and the text that takes its place.
+/// An edit replaces a span of a source by a text.
 #[derive(Debug, Drop, Serialize, Deserialize)]
 pub struct Edit {
     span: SourceSpan,
@@ -23,7 +23,7 @@ impl Model for Edit {
     ghost view = { λ it. record { span = it.span; text = string_bytes it.text } };
 }
 
-/// Two edits are equal where span and text are.
+/// Two edits are equal if span and text are.
 impl PartialEq for Edit {
     ghost use Rattle.std.specs.Prelude.{◌==◌};
     ghost use Rattle.std.proofs.Common.{rules};
@@ -48,7 +48,7 @@ impl Eq for Edit {
     ghost laws = { Prim.search (comparing, rules) depth 12 };
 }
 
-/// A clone equals its source; `AllocError` where memory for the text is refused.
+/// A clone equals the original. Returns `AllocError` if allocation fails.
 impl Clone for Edit {
     ghost use Rattle.std.specs.Prelude.{◌≡◌};
 
@@ -63,7 +63,7 @@ impl Clone for Edit {
 }
 
 impl Edit {
-    /// A text in place of a span.
+    /// Replaces a span by a text.
     pub fn replace<S: Into<SourceSpan>>(span: S, text: String) -> Self
         ensures span { S.converts span result.span }
         ensures text { result.text ≡ string_bytes text }
@@ -74,7 +74,7 @@ impl Edit {
         }
     }
 
-    /// A text at an offset in bytes; nothing is deleted.
+    /// Inserts a text at a byte offset.
     pub fn insert(offset: ByteOffset, text: String) -> Self
         ensures { result ≡ record {
           span = record { offset = offset; len = 0 };
@@ -84,7 +84,7 @@ impl Edit {
         Edit::replace(offset, text)
     }
 
-    /// Nothing in place of a span. Takes no memory.
+    /// Deletes a span. Does not allocate.
     pub fn delete<S: Into<SourceSpan>>(alloc: Global, span: S) -> Self
         ensures span { S.converts span result.span }
         ensures text { result.text ≡ [] }
@@ -92,28 +92,28 @@ impl Edit {
         Edit::replace(span, String::new(alloc))
     }
 
-    /// The span.
+    /// Returns the span that is replaced.
     pub fn span(&self) -> &SourceSpan
         ensures { result.now ≡ self.now.span }
     {
         &self.span
     }
 
-    /// Where the span begins, in bytes from the start of the source.
+    /// Returns where the span begins, in bytes from the start of the source.
     pub fn offset(&self) -> ByteOffset
         ensures { result ≡ self.now.span.offset }
     {
         self.span.offset()
     }
 
-    /// The length of the span in bytes: how many are deleted.
+    /// Returns the number of bytes that are deleted.
     pub fn len(&self) -> usize
         ensures { result ≡ self.now.span.len }
     {
         self.span.len()
     }
 
-    /// The text that takes the span's place.
+    /// Returns the text that is inserted.
     pub fn text(&self) -> &str
         ensures { result.now ≡ self.now.text }
     {

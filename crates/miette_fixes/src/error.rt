@@ -1,4 +1,4 @@
-//! Why a fix is not applied.
+//! Why a fix cannot be applied.
 
 ghost use Rattle.std.specs.Prelude.{◌≡◌};
 
@@ -6,18 +6,18 @@ use std::alloc::AllocError;
 use std::error::Error;
 use std::fmt;
 
-/// Why a fix was not applied.
+/// Why a fix cannot be applied.
 #[derive(Clone, Copy, Debug, PartialEq, Eq)]
 pub enum FixError {
     /// An edit ends after the end of the source.
     OutOfBounds,
     /// Two edits overlap.
     Overlap,
-    /// Memory was refused.
+    /// Allocation failed.
     Memory,
 }
 
-/// Refused memory is the error `Memory`.
+/// Allocation failure becomes `Memory`.
 impl From<AllocError> for FixError {
     ghost use Rattle.std.specs.Prelude.{◌≡◌};
     ghost use Rattle.miette_fixes.specs.declared.error.FixError.TheVariants.{Memory};
@@ -29,7 +29,7 @@ impl From<AllocError> for FixError {
     }
 }
 
-/// Prints which of the three it is.
+/// Prints the error's text.
 impl fmt::Display for FixError {
     ghost use Rattle.std.specs.Prelude.{Some};
     ghost use Rattle.miette_fixes.specs.rules.Texts.{fix_error_text};
@@ -46,7 +46,7 @@ impl Error for FixError {}
 impl FixError {
     ghost use Rattle.miette_fixes.specs.rules.Texts.{fix_error_text};
 
-    /// What it prints. Takes no memory.
+    /// Returns the text that the error prints. Does not allocate.
     pub fn text(&self) -> &'static str
         ensures { result.now ≡ fix_error_text self.now }
     {

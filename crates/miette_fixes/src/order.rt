@@ -1,4 +1,4 @@
-//! Edits by offset.
+//! Sorts edits by offset.
 
 ghost use Rattle.std.specs.Prelude.{◌≡◌, ◌++◌, IfOk, OnOk};
 ghost use Rattle.miette_fixes.specs.rules.Applying.{by_offset};
@@ -9,11 +9,11 @@ ghost use Rattle.miette_fixes.specs.views.Ordered.{edits_of};
 use crate::edit::Edit;
 use std::alloc::{AllocError, Global};
 
-/// References to these edits after those of a list.
+/// Appends references to edits to a list.
 ///
 /// # Errors
-/// `AllocError` where memory is refused.
-pub(crate) fn extended<'a>(
+/// `AllocError` if allocation fails.
+pub(crate) fn append_references<'a>(
     mut list: Vec<&'a Edit>,
     edits: &'a [Edit],
 ) -> Result<Vec<&'a Edit>, AllocError>
@@ -25,14 +25,14 @@ pub(crate) fn extended<'a>(
     Ok(list)
 }
 
-// Whether an edit comes after another one: by offset, then by length.
+// Whether an edit sorts after another one: by offset, then by length.
 fn comes_after(edit: &Edit, other: &Edit) -> bool
     ensures { result ≡ is_after edit.now other.now }
 {
     other.offset() < edit.offset() || (other.offset() == edit.offset() && other.len() < edit.len())
 }
 
-// Whether no edit comes after the next one.
+// Whether the edits are sorted.
 fn ascend(edits: &[&Edit]) -> bool
     ensures { result ≡ ascends (edits_of edits.now) }
 {
@@ -49,7 +49,7 @@ fn ascend(edits: &[&Edit]) -> bool
     true
 }
 
-/// Sorts edits by offset, then by length, ties as given. Edits that come so already stay without a sort.
+/// Sorts edits by offset, then by length. Equal ones keep their order. Sorted edits are left as they are.
 pub(crate) fn sort(edits: &mut Vec<&Edit>) -> Result<(), AllocError>
     ensures { OnOk result (edits_of edits.new.items ≡ by_offset (edits_of edits.old.items)) }
 {
@@ -59,11 +59,11 @@ pub(crate) fn sort(edits: &mut Vec<&Edit>) -> Result<(), AllocError>
     edits.sort_by_key(|edit| *edit.span())
 }
 
-/// The edits by offset, then by length, ties as given.
+/// Returns the edits sorted by offset, then by length. Equal ones keep their order.
 pub(crate) fn sorted<'a>(alloc: Global, edits: &'a [Edit]) -> Result<Vec<&'a Edit>, AllocError>
     ensures { IfOk result (λ v. edits_of v.items ≡ by_offset edits.now) }
 {
-    let mut list = extended(Vec::with_capacity(alloc, edits.len())?, edits)?;
+    let mut list = append_references(Vec::with_capacity(alloc, edits.len())?, edits)?;
     sort(&mut list)?;
     Ok(list)
 }

@@ -1,26 +1,26 @@
 -- What is known of the bytes that a handler appended for a tree.
 use Rattle.std.proofs.Common.{◌≡◌, ◌∙◌, ap, subst, ℕ, Bool, true, List, ◌++◌, Result, Ok, Err, OnOk, encode_utf8_all}
 use Rattle.miette_highlight.specs.rules.HighlighterCalls.{Call}
-use Rattle.miette_picture_rules.specs.rules.PossibleAnswers.{Appends, IsAskedText, IsTextOf}
-use Rattle.miette_picture_rules.specs.rules.Answers.{unlisted}
-use Rattle.miette_picture_rules.specs.rules.PrintedDiagnostics.{all_read, diagnostics_of}
-use Rattle.miette_picture_rules.specs.rules.Settings.{Settings}
-use Rattle.miette_picture_rules.specs.rules.Snippets.{whole_drawing}
-use Rattle.miette_picture_rules.specs.rules.Text.{report_text}
-use Rattle.miette_printed_laws.specs.laws.Clean.{AreCleanSettings, IsCleanTree}
-use Rattle.miette_printed_laws.specs.laws.PlainTexts.{IsColouredText, IsRestyledText, plain_settings, restyled}
-use Rattle.miette_row_laws.specs.laws.PlainStyles.{ArePlain}
+use Rattle.miette_graphical_rules.specs.rules.PossibleAnswers.{Appends, IsTextByCalls, IsTextOf}
+use Rattle.miette_graphical_rules.specs.rules.Answers.{unlisted}
+use Rattle.miette_graphical_rules.specs.rules.PrintedDiagnostics.{all_read, diagnostics_of}
+use Rattle.miette_graphical_rules.specs.rules.GraphicalSettings.{GraphicalSettings}
+use Rattle.miette_graphical_rules.specs.rules.Snippets.{whole_drawing}
+use Rattle.miette_graphical_rules.specs.rules.Text.{report_text}
+use Rattle.miette_graphical_rules.specs.laws.Clean.{AreCleanSettings, IsCleanTree}
+use Rattle.miette_graphical_rules.specs.laws.PlainTexts.{IsColouredText, IsRestyledText, plain_settings, restyled}
+use Rattle.miette_snippet_laws.specs.laws.PlainStyles.{ArePlain}
 use Rattle.miette_style.specs.rules.Themes.{Styles}
-use Rattle.miette_printed_laws.specs.laws.Holding.{IsHoldingText}
+use Rattle.miette_graphical_rules.specs.laws.HeldRows.{IsHoldingText}
 use Rattle.miette_runs.specs.rules.Sequences.{erase}
-use Rattle.miette_wrap_rules.specs.rules.ColouredTexts.{AppendsErasing}
+use Rattle.miette_text.specs.rules.ColouredTexts.{AppendsErasing}
 use Rattle.miette_tree.specs.rules.Tree.{Tree}
 use Rattle.miette_tree.specs.views.Handler.{AppendsOne}
-use Rattle.miette_printed_laws.proofs.Only.{only-text}
+use Rattle.miette_graphical_rules.proofs.Only.{only-text}
 
 -- by whatever calls
-pub unasked : (s : Settings) (blank : Bool) (happen : List Call → Type 0) (t : Tree) (old new : List ℕ)
-    → AppendsOne (IsAskedText whole_drawing s blank happen t) old new → Appends whole_drawing s blank t old new
+pub unasked : (s : GraphicalSettings) (blank : Bool) (happen : List Call → Type 0) (t : Tree) (old new : List ℕ)
+    → AppendsOne (IsTextByCalls whole_drawing s blank happen t) old new → Appends whole_drawing s blank t old new
 unasked s blank happen t old new ok =
     let given = ok.is_given.1 in record {
       text = ok.text;
@@ -28,28 +28,31 @@ unasked s blank happen t old new ok =
       appended = ok.appended;
     }
 
-pub rendered-ok : {A E : Type 0} (r : Result A E) (s : Settings) (blank : Bool) (happen : List Call → Type 0) (t : Tree)
-    (old new : List ℕ) → OnOk r (AppendsOne (IsAskedText whole_drawing s blank happen t) old new)
+pub rendered-ok : {A E : Type 0} (r : Result A E) (s : GraphicalSettings) (blank : Bool) (happen : List Call → Type 0)
+    (t : Tree)
+    (old new : List ℕ) → OnOk r (AppendsOne (IsTextByCalls whole_drawing s blank happen t) old new)
     → OnOk r (Appends whole_drawing s blank t old new)
 rendered-ok (Err e) s blank happen t old new ok = tt
 rendered-ok (Ok x) s blank happen t old new ok = unasked s blank happen t old new ok
 
-only-appended : (s : Settings) (blank : Bool) (t : Tree) (old new : List ℕ) → Appends whole_drawing s blank t old new
+only-appended : (s : GraphicalSettings) (blank : Bool) (t : Tree) (old new : List ℕ)
+    → Appends whole_drawing s blank t old new
     → blank ≡ true → all_read (diagnostics_of s t) ≡ true
     → new ≡ old ++ encode_utf8_all (report_text whole_drawing s t unlisted)
 only-appended s blank t old new ok plain reads =
     ok.appended ∙ ap (λ x. old ++ x)
     (only-text s t ok.text (subst (λ b. IsTextOf whole_drawing s b t ok.text) plain ok.is_given) reads)
 
-pub rendered-only : {A E : Type 0} (r : Result A E) (s : Settings) (blank : Bool) (t : Tree) (old new : List ℕ)
+pub rendered-only : {A E : Type 0} (r : Result A E) (s : GraphicalSettings) (blank : Bool) (t : Tree) (old new : List ℕ)
     → OnOk r (Appends whole_drawing s blank t old new)
     → OnOk r (blank ≡ true → all_read (diagnostics_of s t) ≡ true → new ≡ old
     ++ encode_utf8_all (report_text whole_drawing s t unlisted))
 rendered-only (Err e) s blank t old new ok = tt
 rendered-only (Ok x) s blank t old new ok = only-appended s blank t old new ok
 
-pub rendered-colours : {A E : Type 0} (r : Result A E) (s : Settings) (blank : Bool) (t : Tree) (old new : List ℕ)
-    → ((s : Settings) (blank : Bool) (t : Tree) (bytes : List ℕ) → AreCleanSettings s → IsCleanTree t
+pub rendered-colours : {A E : Type 0} (r : Result A E) (s : GraphicalSettings) (blank : Bool) (t : Tree)
+    (old new : List ℕ)
+    → ((s : GraphicalSettings) (blank : Bool) (t : Tree) (bytes : List ℕ) → AreCleanSettings s → IsCleanTree t
     → IsTextOf whole_drawing s blank t bytes → IsColouredText whole_drawing s blank t bytes)
     → OnOk r (Appends whole_drawing s blank t old new) → OnOk r
     (AreCleanSettings s → IsCleanTree t → AppendsOne (IsColouredText whole_drawing s blank t) old new)
@@ -61,8 +64,9 @@ rendered-colours (Ok x) s blank t old new law ok = λ settings tree.
       appended = ok.appended;
     }
 
-pub rendered-colourless : {A E : Type 0} (r : Result A E) (s : Settings) (blank : Bool) (t : Tree) (old new : List ℕ)
-    → ((s : Settings) (blank : Bool) (t : Tree) (bytes : List ℕ) → AreCleanSettings s → IsCleanTree t
+pub rendered-colourless : {A E : Type 0} (r : Result A E) (s : GraphicalSettings) (blank : Bool) (t : Tree)
+    (old new : List ℕ)
+    → ((s : GraphicalSettings) (blank : Bool) (t : Tree) (bytes : List ℕ) → AreCleanSettings s → IsCleanTree t
     → IsTextOf whole_drawing s blank t bytes → all_read (diagnostics_of s t) ≡ true
     → erase bytes ≡ encode_utf8_all (report_text whole_drawing (plain_settings s) t unlisted))
     → OnOk r (Appends whole_drawing s blank t old new)
@@ -72,8 +76,9 @@ rendered-colourless (Err e) s blank t old new law ok = tt
 rendered-colourless (Ok x) s blank t old new law ok = λ reads settings tree.
     (ok.text, ok.appended, law s blank t ok.text settings tree ok.is_given reads)
 
-pub rendered-plain : {A E : Type 0} (r : Result A E) (s : Settings) (blank : Bool) (t : Tree) (old new : List ℕ)
-    → ((s : Settings) (styles : Styles) (blank : Bool) (t : Tree) (bytes : List ℕ) → AreCleanSettings s
+pub rendered-plain : {A E : Type 0} (r : Result A E) (s : GraphicalSettings) (blank : Bool) (t : Tree)
+    (old new : List ℕ)
+    → ((s : GraphicalSettings) (styles : Styles) (blank : Bool) (t : Tree) (bytes : List ℕ) → AreCleanSettings s
     → IsCleanTree t → ArePlain styles → IsTextOf whole_drawing s blank t bytes → all_read (diagnostics_of s t) ≡ true
     → erase bytes ≡ encode_utf8_all (report_text whole_drawing (restyled s styles) t unlisted))
     → OnOk r (Appends whole_drawing s blank t old new)
@@ -84,8 +89,9 @@ rendered-plain (Err e) s blank t old new law ok = tt
 rendered-plain (Ok x) s blank t old new law ok = λ reads settings tree styles are_plain.
     (ok.text, ok.appended, law s styles blank t ok.text settings tree are_plain ok.is_given reads)
 
-pub rendered-themes : {A E : Type 0} (r : Result A E) (s : Settings) (blank : Bool) (t : Tree) (old new : List ℕ)
-    → ((s : Settings) (blank : Bool) (t : Tree) (bytes others : List ℕ) → AreCleanSettings s → IsCleanTree t
+pub rendered-themes : {A E : Type 0} (r : Result A E) (s : GraphicalSettings) (blank : Bool) (t : Tree)
+    (old new : List ℕ)
+    → ((s : GraphicalSettings) (blank : Bool) (t : Tree) (bytes others : List ℕ) → AreCleanSettings s → IsCleanTree t
     → IsTextOf whole_drawing s blank t bytes → all_read (diagnostics_of s t) ≡ true
     → IsRestyledText whole_drawing s t others → erase bytes ≡ erase others)
     → OnOk r (Appends whole_drawing s blank t old new)
@@ -95,8 +101,9 @@ rendered-themes (Err e) s blank t old new law ok = tt
 rendered-themes (Ok x) s blank t old new law ok = λ reads settings tree others again.
     (ok.text, ok.appended, law s blank t ok.text others settings tree ok.is_given reads again)
 
-pub rendered-holds : {A E : Type 0} (r : Result A E) (s : Settings) (blank : Bool) (t : Tree) (old new : List ℕ)
-    → ((s : Settings) (blank : Bool) (t : Tree) (bytes : List ℕ) → IsTextOf whole_drawing s blank t bytes
+pub rendered-holds : {A E : Type 0} (r : Result A E) (s : GraphicalSettings) (blank : Bool) (t : Tree)
+    (old new : List ℕ)
+    → ((s : GraphicalSettings) (blank : Bool) (t : Tree) (bytes : List ℕ) → IsTextOf whole_drawing s blank t bytes
     → IsHoldingText whole_drawing s blank t bytes)
     → OnOk r (Appends whole_drawing s blank t old new) → OnOk r
     (AppendsOne (IsHoldingText whole_drawing s blank t) old new)

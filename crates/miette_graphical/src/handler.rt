@@ -1,37 +1,39 @@
-//! The graphical handler and its settings.
+//! The graphical handler and its setters.
 
 ghost use Rattle.std.specs.Prelude.{◌≡◌, ◌≤◌, Some, IfOk, false, true, chars, string_bytes};
-ghost use Rattle.miette_picture_rules.specs.views.Handling.{laid_out, without_highlighter, wrapped_by};
-ghost use Rattle.miette_picture_rules.specs.views.Settings.{handler_settings};
-ghost use Rattle.miette_picture_rules.specs.rules.Settings.{default_settings, links_shown, urls_shown};
+ghost use Rattle.miette_graphical_rules.specs.views.HandlerState.{laid_out, without_highlighter, wrapped_by};
+ghost use Rattle.miette_graphical_rules.specs.views.GraphicalSettings.{handler_settings};
+ghost use Rattle.miette_graphical_rules.specs.rules.GraphicalSettings.{default_settings, links_shown, urls_shown};
 ghost use Rattle.miette_style.specs.rules.Themes.{terminal_theme, theme_of};
 
 mod rendering;
 
+use miette_graphical_rules::settings::{GraphicalSettings, UrlMode};
 use miette_highlight::highlight::Highlighter;
-use miette_picture_rules::settings::{Settings, UrlMode};
+use miette_snippet_rules::options::LayoutOptions;
+pub use miette_snippet_rules::options::SetLayout;
 use miette_style::theme::{GraphicalTheme, Terminal};
-use miette_wrap_rules::options::{WordSeparator, WordSplitter};
+use miette_text::options::{WordSeparator, WordSplitter};
 use std::alloc::{AllocError, Global};
 use std::marker::Model;
 
-/// Draws reports: a message under an icon, causes under arrows, source lines in frames with marks under the text that
-/// the labels speak of.
+/// Prints graphical reports: messages with icons, causes under arrows, and source lines in frames with labels under
+/// them.
 ///
 /// Users write `GraphicalReportHandler`; the parameter is the type of the highlighter that is used. All calls but
-/// `new`, `render_report`, `debug` and `display` take no memory.
+/// `new`, `render_report`, `debug` and `display` take no memory. `SetLayout` has further setters.
 #[derive(Drop)]
 pub struct GraphicalReportHandler<H = Box<dyn Highlighter>> {
-    settings: Settings,
+    settings: GraphicalSettings,
     highlighter: Option<H>,
 }
 
 impl<H> Model for GraphicalReportHandler<H> {
     ghost use Rattle.std.specs.Prelude.{◌≤◌};
-    ghost use Rattle.miette_picture_rules.specs.views.Handling.{Handling};
-    ghost use Rattle.miette_picture_rules.specs.views.Settings.{handler_settings};
+    ghost use Rattle.miette_graphical_rules.specs.views.HandlerState.{HandlerState};
+    ghost use Rattle.miette_graphical_rules.specs.views.GraphicalSettings.{handler_settings};
 
-    ghost Value = { Handling H };
+    ghost Value = { HandlerState H };
 
     ghost view = { λ it. record { settings = handler_settings it.settings; highlighter = it.highlighter } };
 
@@ -39,10 +41,10 @@ impl<H> Model for GraphicalReportHandler<H> {
 }
 
 impl GraphicalReportHandler {
-    /// A handler with the theme that fits a terminal, else as `new_themed` makes it.
+    /// A handler with the theme that fits a terminal, otherwise as made by `new_themed`.
     ///
     /// # Errors
-    /// Where no memory is found for the theme.
+    /// `AllocError` if allocation fails.
     pub fn new(alloc: Global, terminal: &Terminal) -> Result<Self, AllocError>
         ensures settings { IfOk result (λ it.
             it ≡ without_highlighter (default_settings (terminal_theme terminal.now))) }
@@ -50,9 +52,9 @@ impl GraphicalReportHandler {
         Ok(Self::new_themed(GraphicalTheme::for_terminal(alloc, terminal)?))
     }
 
-    /// A handler with this theme: links on, 200 columns wide, one line of context, tabs to each fourth column, with
-    /// causes, wrapped rows, words broken where they are too wide, the place of the primary label in a frame, no labels
-    /// at the end of a source, and related reports one after another.
+    /// A handler with this theme and the default settings: links, 200 columns, one line of context, tabs of four
+    /// columns, causes shown, text wrapped, long words broken. Frames show where the primary label begins. Labels at
+    /// the end of a source aren't drawn, and related reports follow one another.
     pub fn new_themed(theme: GraphicalTheme) -> Self
         ensures { result
             ≡ without_highlighter (default_settings (theme_of theme)) }
@@ -68,14 +70,13 @@ impl<H: Highlighter> GraphicalReportHandler<H> {
             ≡ without_highlighter (default_settings (theme_of theme)) }
     {
         GraphicalReportHandler {
-            settings: Settings::new(theme),
+            settings: GraphicalSettings::new(theme),
             highlighter: None,
         }
     }
 
-    /// A handler with these settings, and with this highlighter of the lines of sources. A tab width of at least 1 is
-    /// the caller's condition.
-    pub fn with_settings(settings: Settings, highlighter: Option<H>) -> Self
+    /// A handler with these settings and this highlighter. The caller must choose a tab width of at least 1.
+    pub fn with_settings(settings: GraphicalSettings, highlighter: Option<H>) -> Self
         requires { 1 ≤ settings.layout.tab_width }
         ensures { result ≡ record { settings = handler_settings settings; highlighter = highlighter } }
     {
@@ -85,7 +86,7 @@ impl<H: Highlighter> GraphicalReportHandler<H> {
         }
     }
 
-    /// Tabs go on to the next multiple of `width` columns. At least 1 is the caller's condition.
+    /// Sets the tab width in columns, which must be at least 1.
     pub fn tab_width(mut self, width: usize) -> Self
         requires { 1 ≤ width }
         ensures { result ≡ laid_out self (record self.settings.layout { tab_width = width }) }
@@ -94,7 +95,7 @@ impl<H: Highlighter> GraphicalReportHandler<H> {
         self
     }
 
-    /// Whether a url becomes a link around the code, or a text after it.
+    /// Sets whether a URL is a link around the code or text after it.
     pub fn with_links(mut self, links: bool) -> Self
         ensures { result ≡ record self { settings = record self.settings { urls = links_shown links } } }
     {
@@ -102,7 +103,7 @@ impl<H: Highlighter> GraphicalReportHandler<H> {
         self
     }
 
-    /// Whether urls are shown at all. Where they were not, they become links.
+    /// Sets whether URLs are shown. If they were hidden, they become links.
     pub fn with_urls(mut self, urls: bool) -> Self
         ensures { result ≡ record self {
           settings = record self.settings { urls = urls_shown urls self.settings.urls };
@@ -116,7 +117,7 @@ impl<H: Highlighter> GraphicalReportHandler<H> {
         self
     }
 
-    /// The causes of the report are shown.
+    /// Shows the causes of the report.
     pub fn with_cause_chain(mut self) -> Self
         ensures { result ≡ record self { settings = record self.settings { cause_chain = true } } }
     {
@@ -124,7 +125,7 @@ impl<H: Highlighter> GraphicalReportHandler<H> {
         self
     }
 
-    /// The causes of the report are not shown.
+    /// Hides the causes of the report.
     pub fn without_cause_chain(mut self) -> Self
         ensures { result ≡ record self { settings = record self.settings { cause_chain = false } } }
     {
@@ -132,7 +133,7 @@ impl<H: Highlighter> GraphicalReportHandler<H> {
         self
     }
 
-    /// A frame shows where its primary label begins.
+    /// Shows in a frame where its primary label begins.
     pub fn with_primary_span_start(mut self) -> Self
         ensures { result ≡ laid_out self (record self.settings.layout { primary_start = true }) }
     {
@@ -140,37 +141,11 @@ impl<H: Highlighter> GraphicalReportHandler<H> {
         self
     }
 
-    /// A frame doesn't show where its primary label begins.
+    /// Doesn't show in a frame where its primary label begins.
     pub fn without_primary_span_start(mut self) -> Self
         ensures { result ≡ laid_out self (record self.settings.layout { primary_start = false }) }
     {
         self.settings.layout.primary_start = false;
-        self
-    }
-
-    /// A label at the end of a source that isn't empty is drawn, after the text of the last line: where there are no
-    /// lines of context, that source's labels have one then.
-    pub fn with_end_labels(mut self) -> Self
-        ensures { result ≡ laid_out self (record self.settings.layout { end_labels = true }) }
-    {
-        self.settings.layout.end_labels = true;
-        self
-    }
-
-    /// A label at the end of a source isn't drawn.
-    pub fn without_end_labels(mut self) -> Self
-        ensures { result ≡ laid_out self (record self.settings.layout { end_labels = false }) }
-    {
-        self.settings.layout.end_labels = false;
-        self
-    }
-
-    /// A line wider than `columns` is cut: it shows what stands around its labels, as much as fits into that width, and
-    /// dots in place of the rest. A limit below 8 counts as 8.
-    pub fn with_line_columns(mut self, columns: usize) -> Self
-        ensures { result ≡ laid_out self (record self.settings.layout { line_columns = Some columns }) }
-    {
-        self.settings.layout.line_columns = Some(columns);
         self
     }
 
@@ -182,7 +157,7 @@ impl<H: Highlighter> GraphicalReportHandler<H> {
         self
     }
 
-    /// How many columns a wrapped row may have.
+    /// Sets the width of wrapped text in columns.
     pub fn with_width(mut self, width: usize) -> Self
         ensures { result ≡ record self { settings = record self.settings { width = width } } }
     {
@@ -190,7 +165,7 @@ impl<H: Highlighter> GraphicalReportHandler<H> {
         self
     }
 
-    /// Whether rows are wrapped to the width.
+    /// Sets whether text is wrapped to the width.
     pub fn with_wrap_lines(mut self, wrap_lines: bool) -> Self
         ensures { result ≡ wrapped_by self (record self.settings.wrapping { wrap_lines = wrap_lines }) }
     {
@@ -198,7 +173,7 @@ impl<H: Highlighter> GraphicalReportHandler<H> {
         self
     }
 
-    /// Whether a word that is wider than its row is broken.
+    /// Sets whether a word longer than a row is broken.
     pub fn with_break_words(mut self, break_words: bool) -> Self
         ensures { result ≡ wrapped_by self (record self.settings.wrapping { break_words = break_words }) }
     {
@@ -206,7 +181,7 @@ impl<H: Highlighter> GraphicalReportHandler<H> {
         self
     }
 
-    /// How words are told apart: by spaces, as it is by default, or by Unicode's line breaks.
+    /// Sets how words are separated: by spaces, the default, or by Unicode line breaks.
     pub fn with_word_separator(mut self, word_separator: WordSeparator) -> Self
         ensures { result ≡ wrapped_by self (record self.settings.wrapping { word_separator = word_separator }) }
     {
@@ -214,7 +189,7 @@ impl<H: Highlighter> GraphicalReportHandler<H> {
         self
     }
 
-    /// Where words may be cut.
+    /// Sets where words may be split.
     pub fn with_word_splitter(mut self, word_splitter: WordSplitter) -> Self
         ensures { result ≡ wrapped_by self (record self.settings.wrapping { word_splitter = word_splitter }) }
     {
@@ -222,7 +197,7 @@ impl<H: Highlighter> GraphicalReportHandler<H> {
         self
     }
 
-    /// A text under each outermost report.
+    /// Sets the text below each outermost report.
     pub fn with_footer(mut self, footer: String) -> Self
         ensures { result ≡ record self {
           settings = record self.settings { footer = Some (chars (string_bytes footer)) };
@@ -232,21 +207,11 @@ impl<H: Highlighter> GraphicalReportHandler<H> {
         self
     }
 
-    /// How many lines of context are shown around a label that has no number of its own.
+    /// Sets the number of context lines around a label that doesn't set its own.
     pub fn with_context_lines(mut self, lines: usize) -> Self
         ensures { result ≡ laid_out self (record self.settings.layout { context_lines = lines }) }
     {
         self.settings.layout.context_lines = lines;
-        self
-    }
-
-    /// A label over more lines than these is folded: only the lines around its first and its last one are shown, and a
-    /// row of dots stands for those between them, where they are several. At least 1 is the caller's condition.
-    pub fn with_label_lines(mut self, lines: usize) -> Self
-        requires { 1 ≤ lines }
-        ensures { result ≡ laid_out self (record self.settings.layout { label_lines = Some lines }) }
-    {
-        self.settings.layout.label_lines = Some(lines);
         self
     }
 
@@ -258,7 +223,7 @@ impl<H: Highlighter> GraphicalReportHandler<H> {
         self
     }
 
-    /// The text of a link, in place of `(link)`.
+    /// Sets the text of a link, by default `(link)`.
     pub fn with_link_display_text(mut self, text: String) -> Self
         ensures { result ≡ record self { settings = record self.settings { link_text = chars (string_bytes text) } } }
     {
@@ -266,7 +231,7 @@ impl<H: Highlighter> GraphicalReportHandler<H> {
         self
     }
 
-    /// Styles the lines of sources by this highlighter.
+    /// Highlights source lines with this highlighter.
     pub fn with_syntax_highlighting(mut self, highlighter: H) -> Self
         ensures { result ≡ record self { highlighter = Some highlighter } }
     {
@@ -274,11 +239,28 @@ impl<H: Highlighter> GraphicalReportHandler<H> {
         self
     }
 
-    /// Leaves the lines of sources plain.
+    /// Doesn't highlight source lines.
     pub fn without_syntax_highlighting(mut self) -> Self
         ensures { result ≡ record self { highlighter = None } }
     {
         self.highlighter = None;
+        self
+    }
+}
+
+impl<H: Highlighter> SetLayout for GraphicalReportHandler<H> {
+    ghost use Rattle.miette_graphical_rules.specs.views.HandlerState.{laid_out};
+
+    ghost layout_of = { λ it. it.settings.layout };
+
+    ghost laid_out = { laid_out };
+
+    fn layout(&self) -> LayoutOptions {
+        self.settings.layout
+    }
+
+    fn with_layout(mut self, layout: LayoutOptions) -> Self {
+        self.settings.layout = layout;
         self
     }
 }

@@ -1,7 +1,16 @@
-//! The graphical report: from a tree to its picture.
+//! The graphical handler: renders a tree of reports as text.
 #![tactic(auto)]
 
+pub mod appending;
+mod body;
+mod diagnostic;
+mod fixes;
 pub mod handler;
+mod header;
+mod indents;
+pub mod outermost;
+mod painter;
+mod report;
+mod sources;
 
-pub use miette_picture_rules::settings;
-pub use miette_printed_laws::laws;
+pub use miette_graphical_rules::{laws, settings};

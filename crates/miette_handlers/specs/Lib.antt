@@ -1,6 +1,6 @@
 pub use Rattle.miette_debug.specs.rules.DebugText
-pub use Rattle.miette_graphical.specs.Handling
-pub use Rattle.miette_graphical.specs.Settings
+pub use Rattle.miette_graphical.specs.HandlerState
+pub use Rattle.miette_graphical.specs.GraphicalSettings
 pub use Rattle.miette_graphical.specs.HandlerSettings
 pub use Rattle.miette_graphical.specs.Answers
 pub use Rattle.miette_graphical.specs.Indents
@@ -16,8 +16,8 @@ pub use Rattle.miette_graphical.specs.PossibleAnswers
 pub use Rattle.miette_graphical.specs.Calls
 pub use Rattle.miette_graphical.specs.ByLine
 pub use Rattle.miette_graphical.specs.Snippets
-pub use Rattle.miette_graphical.specs.Headline
-pub use Rattle.miette_graphical.specs.Holding
+pub use Rattle.miette_graphical.specs.SnippetTheorems
+pub use Rattle.miette_graphical.specs.HeldRows
 pub use Rattle.miette_json.specs.rules.Json
 pub use Rattle.miette_json.specs.rules.Denotes
 pub use Rattle.miette_json.specs.rules.JsonReport

@@ -1,9 +1,9 @@
-//! The handlers: each gives the text of a report in its own form.
+//! The handlers. Each renders reports in its own form.
 
 pub use miette_brief::form::Form;
 pub use miette_brief::handler::BriefReportHandler;
 pub use miette_debug::handler::DebugReportHandler;
-pub use miette_graphical::handler::GraphicalReportHandler;
+pub use miette_graphical::handler::{GraphicalReportHandler, SetLayout};
 pub use miette_json::handler::JSONReportHandler;
 pub use miette_narrated::handler::NarratableReportHandler;
 pub use miette_tree::report_handler::ReportHandler;

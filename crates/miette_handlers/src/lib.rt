@@ -1,4 +1,4 @@
-//! The handlers, from a report to its text, by the names that users know.
+//! The handlers, by the names that users know.
 #![tactic(auto)]
 
 pub mod handlers;

@@ -6,7 +6,7 @@ use Rattle.std.specs.Prelude.{encode_utf8, Option}
 use Rattle.std.specs.Char.{len_utf8}
 use Rattle.std.specs.Str.{IsUtf8, IsCharBoundary, chars}
 use Rattle.std.proofs.lemmas.Str.{length-encode, IsCharBoundary-past_char, chars_past_char}
-use Rattle.miette_highlight.specs.rules.Pieces.{Piece, CutsLine}
+use Rattle.miette_highlight.specs.rules.Pieces.{StyledPiece, CutsLine}
 use Rattle.miette_style.specs.declared.style.Style.{Style}
 use Rattle.miette_highlight.specs.declared.rule.Rule.{Rule}
 use Rattle.miette_highlight.specs.declared.tokens.OpenPart.{OpenPart}
@@ -14,13 +14,15 @@ use Rattle.miette_highlight.specs.rules.Characters.{AreCharacters}
 use Rattle.miette_highlight.specs.rules.Tokens.{AreTokens, token_at}
 
 -- what holds with a piece in front of more holds after the push of that piece
-pub goes_on : (P : List Piece → Type 0) (pieces pushed : List Piece) (p : Piece) (more : List Piece) → pushed ≡ pieces
+pub goes_on : (P : List StyledPiece → Type 0) (pieces pushed : List StyledPiece) (p : StyledPiece)
+    (more : List StyledPiece) → pushed ≡ pieces
     ++ (p ∷ [])
     → P (pieces ++ (p ∷ more)) → P (pushed ++ more)
 goes_on P pieces pushed p more e h = subst P (sym (ap (λ list. list ++ more) e ∙ append_assoc pieces (p ∷ []) more)) h
 
 -- a character's piece in front of a cut of what comes after it
-pub cuts_char : (rest after : List ℕ) (c n : ℕ) (style : Style) (more : List Piece) → IsUtf8 rest → rest ≡ encode_utf8 c
+pub cuts_char : (rest after : List ℕ) (c n : ℕ) (style : Style) (more : List StyledPiece) → IsUtf8 rest → rest
+    ≡ encode_utf8 c
     ++ after
     → n ≡ length (encode_utf8 c) → CutsLine after more → CutsLine rest ((n, style) ∷ more)
 cuts_char rest after c n style more utf8 e w cuts =
@@ -32,7 +34,7 @@ cuts_char rest after c n style more utf8 e w cuts =
     (subst Q (sym there) (IsCharBoundary-past_char rest after 0 c (omega arith) utf8 e), subst P (sym dropped) cuts)
 
 -- and so with the styles
-pub styles_char : (Goes : ℕ → Style → Type 0) (rest after : List ℕ) (c n : ℕ) (style : Style) (more : List Piece)
+pub styles_char : (Goes : ℕ → Style → Type 0) (rest after : List ℕ) (c n : ℕ) (style : Style) (more : List StyledPiece)
     → IsUtf8 rest
     → rest ≡ encode_utf8 c ++ after → n ≡ length (encode_utf8 c) → Goes c style → AreCharacters Goes (chars after) more
     → AreCharacters Goes (chars rest) ((n, style) ∷ more)
@@ -41,7 +43,7 @@ styles_char Goes rest after c n style more utf8 e w goes h =
     (w ∙ length-encode c, goes, h)
 
 -- the tokens of a text cut it
-pub tokens-cut : (rules : List Rule) (left_open : Option OpenPart) (text : List ℕ) (pieces : List Piece)
+pub tokens-cut : (rules : List Rule) (left_open : Option OpenPart) (text : List ℕ) (pieces : List StyledPiece)
     (after : Option OpenPart)
     → AreTokens rules left_open text pieces after → CutsLine text pieces
 tokens-cut rules left_open text [] after h = h.0

@@ -1,4 +1,4 @@
-//! A line in pieces of a character each.
+//! Highlights a line character by character.
 
 ghost use Rattle.std.specs.Prelude.{IfOk};
 ghost use Rattle.std.specs.Str.{chars};
@@ -8,11 +8,11 @@ ghost use Rattle.miette_highlight.specs.rules.Pieces.{CutsLine};
 use miette_style::style::Style;
 use std::alloc::{AllocError, Global};
 
-/// A piece for each character of a line, in the style that the function gives it.
+/// Returns a piece for each character of a line, with the style that the function returns for it.
 ///
 /// # Errors
-/// Where no memory is found for the list.
-pub fn by_char<F: Fn(char) -> Style>(
+/// `AllocError` if allocation fails.
+pub fn style_each_char<F: Fn(char) -> Style>(
     alloc: Global,
     line: &str,
     style_of: F,

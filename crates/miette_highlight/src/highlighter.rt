@@ -1,25 +1,25 @@
-//! What styles the pieces of a source's line.
+//! The trait of highlighters.
 
 ghost use Rattle.std.specs.Prelude.{◌≡◌, ℕ, Bool, true, false, IsTrue, IfOk, List, [], ◌∷◌, length, All};
 ghost use Rattle.std.specs.Str.{IsCharBoundary};
 ghost use Rattle.miette_highlight.specs.rules.HighlighterCalls.{AnsweredBy, Call, Leads, asked};
 ghost use Rattle.miette_highlight.specs.rules.HighlighterCalls.{listed_pieces, restarted};
-ghost use Rattle.miette_highlight.specs.rules.Pieces.{CutsLine, Piece, ends_from, plain_pieces, total_length};
+ghost use Rattle.miette_highlight.specs.rules.Pieces.{CutsLine, StyledPiece, ends_from, plain_pieces, total_length};
 
 use miette_protocol::source::MietteSpanContents;
 use miette_style::style::Style;
 use std::alloc::{AllocError, Global};
 
-/// Styles the pieces of a line. A highlighter is restarted before each snippet, with the contents of the snippet's
-/// read, and is then given the text of each line in order, without its terminator, tabs as they are.
+/// Styles the lines of a source. A highlighter is restarted before each snippet, with the contents of the snippet's
+/// read. It then receives the text of each line, in order, without terminator and with tabs unchanged.
 ///
+/// An implementation may keep state from one line to the next.
 /// An implementation may carry a state from one line to the next.
 pub trait Highlighter: Drop {
-    // Whether each line is one plain piece, whatever came before.
+    // Whether each line is a single plain piece, whatever came before.
     ghost is_blank: { Self → Bool } = { λ _. false };
 
-    // Whether these calls, with these answers, may follow one another from here on. Nothing is ruled out where an
-    // implementation doesn't say it.
+    // Whether these calls, with these results, may come next. By default any may.
     ghost may_follow: { Self → List Call → Type 0 } = { λ _ _. Unit {0} };
 
     /// Begins a new snippet.
@@ -27,11 +27,11 @@ pub trait Highlighter: Drop {
         ensures follows { Leads (may_follow self.old) (restarted contents.now ∷ []) (may_follow self.new) }
         ensures stays { is_blank self.new ≡ is_blank self.old };
 
-    /// The pieces of the next line: a length in bytes and a style each. The lengths add up to the line's, and each
-    /// piece ends at a character boundary. A piece of length 0 prints nothing.
+    /// Returns the pieces of the next line: their lengths in bytes and their styles. The lengths add up to the line's
+    /// length, and each piece ends at a character boundary. A piece of length 0 prints nothing.
     ///
     /// # Errors
-    /// Where no memory is found for the list.
+    /// `AllocError` if allocation fails.
     fn highlight_line(
         &mut self,
         alloc: Global,
@@ -44,14 +44,15 @@ pub trait Highlighter: Drop {
         ensures stays { is_blank self.new ≡ is_blank self.old };
 }
 
-/// Pieces that make up a line have the line's length together, and each ends at a character boundary of the line.
+/// The pieces of a line have the line's length in total, and each ends at a character boundary.
 pub fn pieces_law()
-    ensures lengths { (line : List ℕ) (pieces : List Piece) → CutsLine line pieces → total_length pieces ≡ length line }
-    ensures boundaries { (line : List ℕ) (pieces : List Piece) → CutsLine line pieces →
+    ensures lengths { (line : List ℕ) (pieces : List StyledPiece) → CutsLine line pieces → total_length pieces
+        ≡ length line }
+    ensures boundaries { (line : List ℕ) (pieces : List StyledPiece) → CutsLine line pieces →
         All (IsCharBoundary line) (ends_from 0 pieces) }
 {}
 
-/// The highlighter that leaves each line plain.
+/// A highlighter that leaves each line plain.
 #[derive(Clone, Copy, Debug, Default)]
 pub struct BlankHighlighter;
 
@@ -71,7 +72,7 @@ impl Highlighter for BlankHighlighter {
     }
 }
 
-/// A boxed highlighter is the one in the box.
+/// Forwards to the boxed highlighter.
 impl Highlighter for Box<dyn Highlighter> {
     ghost is_blank = { λ it. (Highlighter-box it).is_blank it.value };
 

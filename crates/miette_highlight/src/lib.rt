@@ -1,12 +1,12 @@
-//! Highlighters of source lines: what each one promises, one that gives a piece for each character, and one made of
-//! rules for words and for what lies between delimiters.
+//! Syntax highlighters: the trait, a highlighter made of rules with rules for three languages, and a helper that styles
+//! characters one by one.
 #![tactic(auto)]
 
 pub mod characters;
 pub mod highlight;
 mod highlighter;
+mod languages;
 pub mod patterns;
 mod rule;
-mod sets;
 mod tokens;
 mod words;

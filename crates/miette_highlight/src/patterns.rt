@@ -1,4 +1,4 @@
-//! A highlighter made of rules, for languages that are read line by line.
+//! A highlighter made of rules, for languages that can be read line by line.
 
 ghost use Rattle.std.specs.Prelude.{◌≡◌, false, IsTrue, IfOk, None};
 ghost use Rattle.miette_highlight.specs.rules.FollowingCalls.{FollowTokens};
@@ -13,19 +13,18 @@ use miette_protocol::source::MietteSpanContents;
 use miette_style::style::Style;
 use std::alloc::{AllocError, Global};
 
-/// Styles what its rules find. At the start of a line, and after each piece, the first rule that finds something
-/// there decides; where none does, the word there is plain, or the one character. What a rule finds is at least one
-/// character.
+/// Applies rules to each line. At the start of a line and after each piece, the first rule that matches determines the
+/// next piece. If none matches, the next word, or the next character, is plain. A match has at least one character.
 #[derive(Clone, Debug, Drop)]
 pub struct PatternHighlighter {
-    /// The rules, those that count first before others.
+    /// The rules; earlier ones take precedence.
     pub rules: Vec<Rule>,
-    /// The part that the line before left open.
+    /// The part that the previous line left open, for example a block comment.
     pub left_open: Option<OpenPart>,
 }
 
 impl PatternHighlighter {
-    /// The highlighter of these rules, at the start of a text.
+    /// Creates a highlighter with these rules, at the start of a text.
     pub fn new(rules: Vec<Rule>) -> Self
         ensures { result ≡ record { rules = rules; left_open = None } }
     {

@@ -1,4 +1,4 @@
-//! What rules look for, and what they style.
+//! Rules: a pattern and a style.
 
 ghost use Rattle.std.specs.Prelude.{◌≡◌, true, false, IfOk, None, Some, map};
 ghost use Rattle.miette_highlight.specs.rules.Patterns.{IsWords, AreDelimiters};
@@ -6,25 +6,25 @@ ghost use Rattle.miette_highlight.specs.rules.Patterns.{IsWords, AreDelimiters};
 use miette_style::style::Style;
 use std::alloc::{AllocError, Global};
 
-/// The delimiters that a part of a text begins and ends with.
+/// The delimiters of a part of a text, for example of a string or a comment.
 #[derive(Clone, Debug, Drop)]
 pub struct Delimiters {
-    /// What it begins with.
+    /// The opening delimiter.
     pub opens: String,
-    /// What it ends with; a part that never ends goes on to the end of its line.
+    /// The closing delimiter. A part without one ends with its line.
     pub closes: String,
-    /// A byte, as a backslash, after which no delimiter is one.
+    /// An escape byte, for example a backslash. A delimiter that follows it doesn't count.
     pub escape: Option<u8>,
-    /// Whether a part that has no end on its line goes on in the next one.
+    /// Whether a part that isn't closed continues on the next line.
     pub over_lines: bool,
 }
 
 impl Delimiters {
-    /// Delimiters of parts that end on their line, without an escape. A part whose closing delimiter is empty is its
-    /// opening delimiter alone.
+    /// Creates delimiters without an escape, of parts that end with their line. If `closes` is empty, a part is the
+    /// opening delimiter only.
     ///
     /// # Errors
-    /// Where no memory is found for the texts.
+    /// `AllocError` if allocation fails.
     pub fn new(alloc: Global, opens: &str, closes: &str) -> Result<Self, AllocError>
         ensures { IfOk result (λ it. AreDelimiters opens.now closes.now None false it) }
     {
@@ -36,7 +36,7 @@ impl Delimiters {
         })
     }
 
-    /// These delimiters, with a byte after which no delimiter is one.
+    /// Sets the escape byte.
     pub fn escaped_by(mut self, escape: u8) -> Self
         ensures { result ≡ record self { escape = Some escape } }
     {
@@ -44,7 +44,7 @@ impl Delimiters {
         self
     }
 
-    /// These delimiters, of parts that go on over lines.
+    /// Lets parts continue on the next line.
     pub fn over_lines(mut self) -> Self
         ensures { result ≡ record self { over_lines = true } }
     {
@@ -53,31 +53,31 @@ impl Delimiters {
     }
 }
 
-/// What a rule looks for at a place of a line. A word is a longest run of letters and digits of ASCII, of `_`, and of
-/// characters beyond ASCII.
+/// What a rule matches at a position of a line. A word is a longest run of ASCII letters and digits, `_`, and non-ASCII
+/// characters.
 #[derive(Clone, Debug, Drop)]
 pub enum Pattern {
-    /// A word that is one of these.
+    /// One of these words.
     Words(Vec<String>),
-    /// A word, or another character, that begins with a byte from the first up to the second.
+    /// A word, or another character, whose first byte is between these two, inclusive.
     From(u8, u8),
-    /// What lies between two delimiters, with them.
+    /// A part between two delimiters, including them.
     Between(Delimiters),
-    /// One character between two delimiters, with them; or an escape between them: after its byte any character, and
-    /// then only what words are made of and braces, as in `'\u{10_FFFF}'`.
+    /// One character between two delimiters, including them; or an escape between them. An escape is the escape byte,
+    /// any character, and then word characters and braces only, as in `'\u{10_FFFF}'`.
     Character(Delimiters),
-    /// A byte, and the word after it.
+    /// A byte and the word after it.
     Prefixed(u8),
-    /// A text in which nothing is escaped: this prefix, any number of hashes, and what lies between a quote and the
-    /// next one that has as many hashes after it, with these. It goes on over lines.
+    /// A raw string: this prefix, any number of hashes, and a quoted text that ends at the next quote followed by as
+    /// many hashes. It may continue on the next line.
     Raw(String),
 }
 
 impl Pattern {
-    /// The pattern of these words.
+    /// Creates a pattern of words.
     ///
     /// # Errors
-    /// Where no memory is found for them.
+    /// `AllocError` if allocation fails.
     pub fn words(alloc: Global, words: &[&str]) -> Result<Self, AllocError>
         ensures { IfOk result (λ it. IsWords (map (λ word. word.now) words.now) it) }
     {
@@ -89,11 +89,11 @@ impl Pattern {
     }
 }
 
-/// A pattern, and the style of what it finds.
+/// A pattern and the style of its matches.
 #[derive(Clone, Debug, Drop)]
 pub struct Rule {
-    /// What it looks for.
+    /// What the rule matches.
     pub pattern: Pattern,
-    /// How that is printed.
+    /// The style of a match.
     pub style: Style,
 }

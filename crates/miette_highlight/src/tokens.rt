@@ -1,45 +1,45 @@
-//! What rules find at the start of a text, and the pieces that they cut a line into.
+//! Matches rules at the start of a text, and splits lines into pieces.
 
 ghost use Rattle.std.specs.Prelude.{◌≡◌, ◌+◌, ◌^◌, ◌<◌, ◌≤◌, ◌&&◌, ◌==◌, not, nat_eq, nat_le, IsTrue, IfOk};
 ghost use Rattle.std.specs.Prelude.{false, length, drop, string_bytes};
 ghost use Rattle.std.specs.List.{starts_with};
 ghost use Rattle.miette_highlight.specs.rules.Patterns.{begins_within, character_end, close_end, escapes_next};
-ghost use Rattle.miette_highlight.specs.rules.Patterns.{hash_count, held_end, inside, is_hash, is_held};
-ghost use Rattle.miette_highlight.specs.rules.Patterns.{match_of, open_over, prefixed_word, quoted};
+ghost use Rattle.miette_highlight.specs.rules.Patterns.{hash_count, char_tail_end, inside, is_hash, is_char_tail};
+ghost use Rattle.miette_highlight.specs.rules.Patterns.{match_of, open_over, prefixed_word, raw_after_quote};
 ghost use Rattle.miette_highlight.specs.rules.Patterns.{raw_end, raw_inside, raw_text, word_end};
-ghost use Rattle.miette_highlight.specs.rules.Tokens.{AreTokens, IsToken, first_match, running_token, token_at};
+ghost use Rattle.miette_highlight.specs.rules.Tokens.{AreTokens, IsToken, first_match, continued_token, token_at};
 ghost use Rattle.miette_highlight.specs.rules.Tokens.{token_of};
 ghost use Rattle.miette_highlight.specs.rules.Pieces.{CutsLine};
 
 use crate::rule::{Delimiters, Pattern, Rule};
-use crate::words::{is_among, is_word_byte, word_end};
+use crate::words::{is_listed_word, is_word_byte, word_end};
 use miette_style::style::Style;
 use std::alloc::{AllocError, Global};
 
-/// A part of a text that a line leaves open, so that it goes on in the next one.
+/// A part that a line leaves open, so that it continues on the next line.
 #[derive(Clone, Copy, Debug, Drop)]
 pub struct OpenPart {
-    /// The number of the rule that found it.
+    /// The index of its rule.
     pub rule: usize,
-    /// How many hashes close it, after its quote or its closing delimiter.
+    /// How many hashes close it, after its quote or closing delimiter.
     pub hashes: usize,
 }
 
-// What is found: how many bytes, and where it stays open, how many hashes close it.
-type Found = (usize, Option<usize>);
+// A match: its length in bytes, and if it stays open, how many hashes close it.
+type MatchEnd = (usize, Option<usize>);
 
-/// What stands at the start of a text.
+/// The token at the start of a text.
 #[derive(Clone, Copy)]
 pub struct Token {
-    /// How many bytes it has.
+    /// Its length in bytes.
     pub bytes: usize,
     /// Its style.
     pub style: Style,
-    /// What it leaves open.
+    /// The part that it leaves open.
     pub left_open: Option<OpenPart>,
 }
 
-// Whether a text begins with a byte from the first up to the last.
+// Whether a text begins with a byte between `first` and `last`, inclusive.
 fn begins_within(first: u8, last: u8, text: &[u8]) -> bool
     ensures { result ≡ begins_within first last text.now }
 {
@@ -59,7 +59,7 @@ fn escapes_next(escape: Option<u8>, byte: u8) -> bool
     }
 }
 
-// Whether the closing delimiter stands here.
+// Whether the closing delimiter is at the front of the text.
 fn closes_here(delimiters: &Delimiters, escaped: bool, text: &[u8]) -> bool
     ensures closes { result ≡ (not escaped && starts_with nat_eq text.now (string_bytes delimiters.now.closes)) }
     ensures bound { IsTrue result → length (string_bytes delimiters.now.closes) ≤ length text.now }
@@ -67,7 +67,8 @@ fn closes_here(delimiters: &Delimiters, escaped: bool, text: &[u8]) -> bool
     !escaped && text.starts_with(delimiters.closes.as_bytes())
 }
 
-// Where the first closing delimiter ends that isn't escaped, the text beginning at a place.
+// Returns the end of the first closing delimiter that isn't escaped. Offsets count from `start` at the front of the
+// text.
 fn close_end(delimiters: &Delimiters, start: usize, text: &[u8]) -> Option<usize>
     requires { start + length text.now < 2 ^ 64 }
     ensures { result ≡ close_end delimiters.now false start text.now }
@@ -86,15 +87,15 @@ fn close_end(delimiters: &Delimiters, start: usize, text: &[u8]) -> Option<usize
     None
 }
 
-// What stays open of a part between delimiters that has no end on its line: no hash closes it.
+// Returns what an unclosed part leaves open. No hashes close it.
 fn open_over(over_lines: bool) -> Option<usize>
     ensures { result ≡ open_over over_lines }
 {
     if over_lines { Some(0) } else { None }
 }
 
-// Where what lies after an opening delimiter ends, the text beginning at a place.
-fn end_of(delimiters: &Delimiters, start: usize, text: &[u8]) -> Found
+// Returns where a part ends after its opening delimiter. Offsets count from `start`.
+fn end_of(delimiters: &Delimiters, start: usize, text: &[u8]) -> MatchEnd
     requires { start + length text.now < 2 ^ 64 }
     ensures { result ≡ inside delimiters.now start text.now }
 {
@@ -111,7 +112,7 @@ fn is_hash(byte: u8) -> bool
     byte == b'#'
 }
 
-// How many hashes a text begins with.
+// Counts the hashes at the front of a text.
 fn hash_count(text: &[u8]) -> usize
     ensures count { result ≡ hash_count text.now }
     ensures within { result ≤ length text.now }
@@ -119,7 +120,7 @@ fn hash_count(text: &[u8]) -> usize
     text.iter().take_while(|b| is_hash(**b)).count()
 }
 
-// Whether a byte is a quote with `hashes` hashes after it.
+// Whether a byte is a quote followed by `hashes` hashes.
 fn closes_raw(hashes: usize, byte: u8, after: &[u8]) -> bool
     ensures closes { result ≡ (byte == 34 && nat_le hashes (hash_count after.now)) }
     ensures bound { IsTrue result → hashes ≤ length after.now }
@@ -127,7 +128,7 @@ fn closes_raw(hashes: usize, byte: u8, after: &[u8]) -> bool
     byte == b'"' && hashes <= hash_count(after)
 }
 
-// Where the first quote with `hashes` hashes after it ends with these, the text beginning at a place.
+// Returns the end of the first quote followed by `hashes` hashes, including these. Offsets count from `start`.
 fn raw_end(hashes: usize, start: usize, text: &[u8]) -> Option<usize>
     requires { start + length text.now < 2 ^ 64 }
     ensures { result ≡ raw_end hashes start text.now }
@@ -144,8 +145,8 @@ fn raw_end(hashes: usize, start: usize, text: &[u8]) -> Option<usize>
     None
 }
 
-// Where a raw text ends after its first quote, the text beginning at a place.
-fn raw_inside(hashes: usize, start: usize, text: &[u8]) -> Found
+// Returns where a raw string ends after its first quote. Offsets count from `start`.
+fn raw_inside(hashes: usize, start: usize, text: &[u8]) -> MatchEnd
     requires { start + length text.now < 2 ^ 64 }
     ensures { result ≡ raw_inside hashes start text.now }
 {
@@ -155,10 +156,10 @@ fn raw_inside(hashes: usize, start: usize, text: &[u8]) -> Found
     }
 }
 
-// Where a raw text of `hashes` hashes ends whose first quote a text begins with, at a place.
-fn quoted(hashes: usize, start: usize, text: &[u8]) -> Option<Found>
+// Returns where a raw string with `hashes` hashes ends, if the text begins with its quote. Offsets count from `start`.
+fn raw_after_quote(hashes: usize, start: usize, text: &[u8]) -> Option<MatchEnd>
     requires { start + length text.now < 2 ^ 64 }
-    ensures { result ≡ quoted hashes start text.now }
+    ensures { result ≡ raw_after_quote hashes start text.now }
 {
     let (first, rest) = text.split_first()?;
     if *first == b'"' {
@@ -167,18 +168,18 @@ fn quoted(hashes: usize, start: usize, text: &[u8]) -> Option<Found>
     None
 }
 
-// Where a raw text ends after its prefix, which has `before` bytes.
-fn raw_text(before: usize, text: &[u8]) -> Option<Found>
+// Returns where a raw string ends after its prefix of `before` bytes.
+fn raw_text(before: usize, text: &[u8]) -> Option<MatchEnd>
     requires { before + length text.now < 2 ^ 64 }
     ensures { result ≡ raw_text before text.now }
 {
     let hashes = hash_count(text);
-    quoted(hashes, before + hashes, &text[hashes..])
+    raw_after_quote(hashes, before + hashes, &text[hashes..])
 }
 
-// Whether a byte goes on with a character; or with an escape, as in `\u{10_FFFF}`.
-fn is_held(escaped: bool, byte: u8) -> bool
-    ensures { result ≡ is_held escaped byte }
+// Whether a byte continues a character, or an escape such as `\u{10_FFFF}`.
+fn is_char_tail(escaped: bool, byte: u8) -> bool
+    ensures { result ≡ is_char_tail escaped byte }
 {
     if escaped {
         return is_word_byte(byte) || byte == b'{' || byte == b'}';
@@ -186,10 +187,16 @@ fn is_held(escaped: bool, byte: u8) -> bool
     128 <= byte && byte < 192
 }
 
-// Where a character that is begun ends with its closing delimiter, or an escape, the text going on at a place.
-fn held_end(delimiters: &Delimiters, escaped: bool, start: usize, text: &[u8]) -> Option<Found>
+// Returns where a character or escape ends, with its closing delimiter, after its first byte. Offsets count from
+// `start`.
+fn char_tail_end(
+    delimiters: &Delimiters,
+    escaped: bool,
+    start: usize,
+    text: &[u8],
+) -> Option<MatchEnd>
     requires { start + length text.now < 2 ^ 64 }
-    ensures { result ≡ held_end delimiters.now escaped start text.now }
+    ensures { result ≡ char_tail_end delimiters.now escaped start text.now }
 {
     let mut at = start;
     let mut rest = text;
@@ -197,7 +204,7 @@ fn held_end(delimiters: &Delimiters, escaped: bool, start: usize, text: &[u8]) -
         if closes_here(delimiters, false, rest) {
             return Some((at + delimiters.closes.as_bytes().len(), None));
         }
-        if !is_held(escaped, *byte) {
+        if !is_char_tail(escaped, *byte) {
             return None;
         }
         rest = tail;
@@ -206,8 +213,8 @@ fn held_end(delimiters: &Delimiters, escaped: bool, start: usize, text: &[u8]) -
     None
 }
 
-// Where the character that a text begins with ends with its closing delimiter, or an escape.
-fn character_end(delimiters: &Delimiters, start: usize, text: &[u8]) -> Option<Found>
+// Returns where the character or escape at the front ends, with its closing delimiter. Offsets count from `start`.
+fn character_end(delimiters: &Delimiters, start: usize, text: &[u8]) -> Option<MatchEnd>
     requires { start + length text.now < 2 ^ 64 }
     ensures { result ≡ character_end delimiters.now start text.now }
 {
@@ -217,13 +224,13 @@ fn character_end(delimiters: &Delimiters, start: usize, text: &[u8]) -> Option<F
     }
     if escapes_next(delimiters.escape, *first) {
         let (_, after) = rest.split_first()?;
-        return held_end(delimiters, true, start + 2, after);
+        return char_tail_end(delimiters, true, start + 2, after);
     }
-    held_end(delimiters, false, start + 1, rest)
+    char_tail_end(delimiters, false, start + 1, rest)
 }
 
-// How many bytes this one and the word after it have, where a text begins with it and a word follows.
-fn prefixed_word(byte: u8, text: &[u8]) -> Option<Found>
+// Returns the length of this byte and the word after it, if the text begins with both.
+fn prefixed_word(byte: u8, text: &[u8]) -> Option<MatchEnd>
     ensures { result ≡ prefixed_word byte text.now }
 {
     let (first, rest) = text.split_first()?;
@@ -234,13 +241,13 @@ fn prefixed_word(byte: u8, text: &[u8]) -> Option<Found>
     None
 }
 
-// What a pattern finds at the start of a text.
-fn match_of(pattern: &Pattern, text: &[u8]) -> Option<Found>
+// Matches a pattern at the start of a text.
+fn match_of(pattern: &Pattern, text: &[u8]) -> Option<MatchEnd>
     ensures { result ≡ match_of pattern.now text.now }
 {
     let word = word_end(text);
     match pattern {
-        Pattern::Words(words) if is_among(words, &text[..word]) => Some((word, None)),
+        Pattern::Words(words) if is_listed_word(words, &text[..word]) => Some((word, None)),
         Pattern::From(first, last) if begins_within(*first, *last, text) => Some((word, None)),
         Pattern::Between(delimiters) if text.starts_with(delimiters.opens.as_bytes()) => {
             let start = delimiters.opens.as_bytes().len();
@@ -259,8 +266,8 @@ fn match_of(pattern: &Pattern, text: &[u8]) -> Option<Found>
     }
 }
 
-// What a rule found, as a token.
-fn token_of(rule: usize, style: Style, found: Found) -> Token
+// Converts a match of a rule to a token.
+fn token_of(rule: usize, style: Style, found: MatchEnd) -> Token
     ensures { result ≡ token_of rule style found }
 {
     let left_open = match found.1 {
@@ -274,7 +281,7 @@ fn token_of(rule: usize, style: Style, found: Found) -> Token
     }
 }
 
-// What the first rule that finds something finds.
+// Returns the token of the first rule that matches.
 fn first_match(rules: &[Rule], text: &[u8]) -> Option<Token>
     ensures { result ≡ first_match 0 rules.now text.now }
 {
@@ -290,9 +297,9 @@ fn first_match(rules: &[Rule], text: &[u8]) -> Option<Token>
     None
 }
 
-// The rest of what a rule found before.
-fn running_token(rules: &[Rule], left_open: Option<OpenPart>, text: &[u8]) -> Option<Token>
-    ensures { result ≡ running_token rules.now left_open text.now }
+// Returns the rest of a part that the previous line left open.
+fn continued_token(rules: &[Rule], left_open: Option<OpenPart>, text: &[u8]) -> Option<Token>
+    ensures { result ≡ continued_token rules.now left_open text.now }
 {
     let part = left_open?;
     let rule = rules.get(part.rule)?;
@@ -304,12 +311,12 @@ fn running_token(rules: &[Rule], left_open: Option<OpenPart>, text: &[u8]) -> Op
     Some(token_of(part.rule, rule.style, found))
 }
 
-// What stands at the start of a text.
+// Returns the token at the start of a text.
 #[tactic(auto, unfolding(crate::specs::rules::Tokens::token_at))]
 fn token_at(rules: &[Rule], left_open: Option<OpenPart>, text: &[u8]) -> Token
     ensures { result ≡ token_at rules.now left_open text.now }
 {
-    if let Some(token) = running_token(rules, left_open, text) {
+    if let Some(token) = continued_token(rules, left_open, text) {
         return token;
     }
     match first_match(rules, text) {
@@ -322,7 +329,7 @@ fn token_at(rules: &[Rule], left_open: Option<OpenPart>, text: &[u8]) -> Token
     }
 }
 
-// The piece at the start of a text, the part that it leaves open, and the text after it.
+// Returns the piece at the start of a text, the part that it leaves open, and the text after it.
 fn step<'a>(
     rules: &[Rule],
     left_open: Option<OpenPart>,
@@ -340,7 +347,7 @@ fn step<'a>(
     ((length, found.style), found.left_open, rest)
 }
 
-/// The pieces of a line, and the part that it leaves open. `AllocError` where memory is refused.
+/// Splits a line into pieces, and returns the part that it leaves open. Returns `AllocError` if allocation fails.
 pub fn pieces_of(
     alloc: Global,
     rules: &[Rule],

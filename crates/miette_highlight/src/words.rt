@@ -1,16 +1,16 @@
-//! Words, of which rules tell, and how a text begins with one.
+//! Words at the start of a text.
 
 ghost use Rattle.std.specs.Prelude.{◌≡◌, ◌≤◌, length};
-ghost use Rattle.miette_highlight.specs.rules.Patterns.{is_among, is_word_byte, word_end};
+ghost use Rattle.miette_highlight.specs.rules.Patterns.{is_listed_word, is_word_byte, word_end};
 
-/// Whether a byte belongs to a word.
+/// Whether a byte is part of a word.
 pub(crate) fn is_word_byte(byte: u8) -> bool
     ensures { result ≡ is_word_byte byte }
 {
     byte.is_ascii_alphanumeric() || byte == b'_' || 128 <= byte
 }
 
-/// How many bytes the word has that a text begins with.
+/// Returns the length in bytes of the word at the front of a text.
 pub(crate) fn word_end(text: &[u8]) -> usize
     ensures end { result ≡ word_end 0 text.now }
     ensures within { result ≤ length text.now }
@@ -27,9 +27,9 @@ pub(crate) fn word_end(text: &[u8]) -> usize
     at
 }
 
-/// Whether a word is one of these.
-pub(crate) fn is_among(words: &[String], word: &[u8]) -> bool
-    ensures { result ≡ is_among words.now word.now }
+/// Whether a word is in a list.
+pub(crate) fn is_listed_word(words: &[String], word: &[u8]) -> bool
+    ensures { result ≡ is_listed_word words.now word.now }
 {
     let mut rest = words;
     while let Some((first, tail)) = rest.split_first() {

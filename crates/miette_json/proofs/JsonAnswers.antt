@@ -4,7 +4,7 @@ use Rattle.std.proofs.Common.{None, refl, sym, ap, subst, ◌∙◌, append_asso
 use Rattle.std.specs.Prelude.{IsUtf8, if◌then◌else◌, option_map}
 use Rattle.std.proofs.lemmas.List.{drop_all}
 use Rattle.std.proofs.lemmas.Bool.{and_parts}
-use Rattle.miette_basics.specs.rules.Lists.{is_nil}
+use Rattle.miette_lines.specs.rules.Lists.{is_nil}
 use Rattle.miette_tree.specs.rules.Diagnosis.{Diagnosis, Section}
 use Rattle.miette_protocol.specs.rules.Reading.{Source}
 use Rattle.miette_protocol.specs.views.Meaning.{Label}
@@ -21,13 +21,15 @@ use Rattle.miette_json.specs.rules.JsonReport.{own_faults, first_fault, later_fa
 use Rattle.miette_json.specs.rules.JsonReport.{sections_json, labels_json}
 use Rattle.miette_tree.specs.rules.DiagnosticParts.{given_labels}
 use Rattle.miette_tree.proofs.Readings.{fault_free, own_holds}
-use Rattle.miette_tree.specs.rules.Reads.{MayMeet, always_reads, holds_of, holds_of_all, holds_further}
+use Rattle.miette_tree.specs.rules.Reads.{MayMeet, always_reads, report_passes, reports_pass, further_pass}
 use Rattle.miette_json.specs.rules.JsonText.{IsJsonOf}
 use Rattle.miette_json.proofs.JsonJoined.{last_piece, report_parts}
 use Rattle.miette_json.proofs.Standing.{stands_for}
-use Rattle.miette_json.specs.steps.JsonParts.{rest_text, AppendsReport, AppendsRelated, AppendsPlaces, head_text}
-use Rattle.miette_json.specs.steps.JsonParts.{reasons_text, places_text, attached_text, key_text, list_key_text}
-use Rattle.miette_json.specs.steps.JsonParts.{AppendsAttached}
+use Rattle.miette_json.specs.steps.JsonParts.{rest_text, AppendsJsonReport, AppendsJsonRelated, AppendsFileAndLabels}
+use Rattle.miette_json.specs.steps.JsonParts.{head_text}
+use Rattle.miette_json.specs.steps.JsonParts.{reasons_text, file_and_labels_text, snippets_and_fixes_text, key_text}
+use Rattle.miette_json.specs.steps.JsonParts.{list_key_text}
+use Rattle.miette_json.specs.steps.JsonParts.{AppendsSnippetsAndFixes}
 
 -- Some related reports are written, and these are left: whatever answers these have, the whole has some.
 pub record RelatedSoFar (inherited : Option Source) (all left : Trees) (first : Bool) (old now : List ℕ) : Type 0 where
@@ -43,7 +45,7 @@ none_so_far inherited all old = record { with_rest = λ more. more; possible = �
 pub one_more : (inherited : Option Source) (all : Trees) (t : Tree) (ts : Trees) (first : Bool)
     (old now comma new : List ℕ)
     → RelatedSoFar inherited all (more_trees t ts) first old now → comma ≡ now ++ (if first then [] else 44 ∷ [])
-    → AppendsReport inherited t comma new
+    → AppendsJsonReport inherited t comma new
     → RelatedSoFar inherited all ts false old new
 one_more inherited all t ts first old now comma new r e a = record {
   with_rest = λ more. r.with_rest (and_more a.answers more);
@@ -53,7 +55,8 @@ one_more inherited all t ts first old now comma new r e a = record {
 }
 
 pub all_written : (inherited : Option Source) (all : Trees) (first : Bool) (old now new : List ℕ)
-    → RelatedSoFar inherited all no_trees first old now → new ≡ now ++ 93 ∷ [] → AppendsRelated inherited all old new
+    → RelatedSoFar inherited all no_trees first old now → new ≡ now ++ 93 ∷ []
+    → AppendsJsonRelated inherited all old new
 all_written inherited all true old now new r e = record {
   answers = r.with_rest no_more;
   possible =
@@ -86,21 +89,21 @@ pub report_written : (inherited : Option Source) (t : Tree) (source : Option Sou
     (related : Trees) (old b p a q r new : List ℕ)
     → source ≡ effective (source_of t) inherited → labels ≡ given_labels (head t).labels → related ≡ related_of t
     → b ≡ (old ++ head_text (head t)) ++ reasons_text (causes_of (cause_of t)) (head t)
-    → AppendsPlaces source labels b p → AppendsAttached (head t) p a
-    → q ≡ a ++ list_key_text (codes "related") → AppendsRelated source related q r → new ≡ r ++ 125 ∷ []
-    → AppendsReport inherited t old new
+    → AppendsFileAndLabels source labels b p → AppendsSnippetsAndFixes (head t) p a
+    → q ≡ a ++ list_key_text (codes "related") → AppendsJsonRelated source related q r → new ≡ r ++ 125 ∷ []
+    → AppendsJsonReport inherited t old new
 report_written inherited (tree m s c rs) source labels related old b p a q r new es el er f places more g others i =
     let own = effective s inherited in
-    let here : AppendsPlaces own (given_labels m.labels) b p =
-    subst (λ l. AppendsPlaces own l b p) el (subst (λ o. AppendsPlaces o labels b p) es places) in
-    let there : AppendsRelated own rs q r = subst (λ ts. AppendsRelated own ts q r) er
-    (subst (λ o. AppendsRelated o related q r) es others) in
+    let here : AppendsFileAndLabels own (given_labels m.labels) b p =
+    subst (λ l. AppendsFileAndLabels own l b p) el (subst (λ o. AppendsFileAndLabels o labels b p) es places) in
+    let there : AppendsJsonRelated own rs q r = subst (λ ts. AppendsJsonRelated own ts q r) er
+    (subst (λ o. AppendsJsonRelated o related q r) es others) in
     let faults : NameFaults = record { own = here.fault; further = more.faults } in
     let answers : NameAnswers = listed faults unlisted there.answers in record {
       answers = answers;
       possible = ((here.possible, more.possible), there.possible);
       appended = joined old b p a q r new (head_text m) (reasons_text (causes_of c) m)
-          (places_text here.fault own (given_labels m.labels)) (attached_text more.faults m)
+          (file_and_labels_text here.fault own (given_labels m.labels)) (snippets_and_fixes_text more.faults m)
           (key_text (codes "related"))
           (items_text (reports_json own there.answers rs)) f here.appended more.appended g
           there.appended i
@@ -122,10 +125,10 @@ same_file s [] b f r = refl
 same_file s (l ∷ ls) b f r = ap (λ fault. file_name fault (l ∷ ls) s) (fault_free (Some s) b f r)
 
 same_sections : (faults : List Bool) (sections : List Section) → AreFurther faults sections
-    → holds_further always_reads sections ≡ true → sections_json faults sections ≡ sections_json [] sections
+    → further_pass always_reads sections ≡ true → sections_json faults sections ≡ sections_json [] sections
 same_sections faults [] p reads = refl
 same_sections faults (s ∷ ss) p reads =
-    let read = and_parts (is_nil s.labels || s.source.always_reads) (holds_further always_reads ss) reads in
+    let read = and_parts (is_nil s.labels || s.source.always_reads) (further_pass always_reads ss) reads in
     ap (λ name. item (object (member (codes "filename") (string name)
     (member (codes "labels") (array (labels_json s.labels)) no_members))) (sections_json (later_faults faults) ss))
     (same_file s.source s.labels (first_fault faults) p.0 read.0)
@@ -133,14 +136,14 @@ same_sections faults (s ∷ ss) p reads =
 
 -- what a test finds of a report's further sources
 further_holds : (test : Option Source → List Label → Bool) (m : Diagnosis) (s inherited : Option Source) (c : Cause)
-    (r : Trees) → holds_of test inherited (tree m s c r) ≡ true → holds_further test m.snippets ≡ true
+    (r : Trees) → report_passes test inherited (tree m s c r) ≡ true → further_pass test m.snippets ≡ true
 further_holds test m s inherited c r e =
     (and_parts (test (effective s inherited) (given_labels m.labels)
-    && holds_of_all test (effective s inherited) r) (holds_further test m.snippets) e).1
+    && reports_pass test (effective s inherited) r) (further_pass test m.snippets) e).1
 
 mutual
   same_value : (inherited : Option Source) (a : NameAnswers) (t : Tree) → AreAnswers inherited a t
-      → holds_of always_reads inherited t ≡ true → report_json inherited a t ≡ report_json inherited unlisted t
+      → report_passes always_reads inherited t ≡ true → report_json inherited a t ≡ report_json inherited unlisted t
   same_value inherited a (tree m s c r) p reads =
       let own : Option Source = effective s inherited in
       let labels : List Label = given_labels m.labels in
@@ -159,10 +162,10 @@ mutual
       ∙ ap (report_object m (causes_of c) first (sections_json [] m.snippets)) others
 
   same_values : (inherited : Option Source) (a : AnswerTrees NameFaults) (ts : Trees) → AllAnswers inherited a ts
-      → holds_of_all always_reads inherited ts ≡ true → reports_json inherited a ts ≡ reports_json inherited no_more ts
+      → reports_pass always_reads inherited ts ≡ true → reports_json inherited a ts ≡ reports_json inherited no_more ts
   same_values inherited a no_trees p reads = refl
   same_values inherited a (more_trees t ts) p reads =
-      let read = and_parts (holds_of always_reads inherited t) (holds_of_all always_reads inherited ts) reads in
+      let read = and_parts (report_passes always_reads inherited t) (reports_pass always_reads inherited ts) reads in
       ap (λ j. item j (reports_json inherited (later_answers a) ts))
       (same_value inherited (first_answers a) t p.0 read.0)
       ∙ ap (item (report_json inherited unlisted t)) (same_values inherited (later_answers a) ts p.1 read.1)
@@ -170,7 +173,7 @@ mutual
 -- all that is claimed of a report's text
 pub is_json : ((v : Json) → HasTokensOf (json_text v) v)
     → ((bytes : List ℕ) (v w : Json) → Denotes bytes v → Denotes bytes w → v ≡ w)
-    → (t : Tree) (text : List ℕ) → IsUtf8 text → AppendsReport None t [] text → IsJsonOf t text
+    → (t : Tree) (text : List ℕ) → IsUtf8 text → AppendsJsonReport None t [] text → IsJsonOf t text
 is_json tokens one t text utf8 a =
     let value = report_json None a.answers t in
     let it = stands_for tokens one value text utf8 a.appended in

@@ -5,14 +5,14 @@ use Rattle.std.proofs.Common.{Some, refl, sym, ap, subst, ◌∙◌, append_asso
 use Rattle.std.specs.Prelude.{if◌then◌else◌, unwrap_or}
 use Rattle.std.proofs.Math.Seq.{drop-cons}
 use Rattle.std.proofs.lemmas.List.{drop_all}
-use Rattle.miette_fixes.specs.rules.Edits.{Proposal}
+use Rattle.miette_fixes.specs.rules.Edits.{FixModel}
 use Rattle.miette_protocol.specs.rules.Reading.{Source}
 use Rattle.miette_protocol.specs.views.Meaning.{Label}
 use Rattle.miette_tree.specs.rules.Diagnosis.{Diagnosis, Section}
 use Rattle.miette_json.specs.rules.Json.{items_text}
 use Rattle.miette_json.specs.rules.JsonReport.{AreFurther, section_json, sections_json, fixes_json, file_name}
-use Rattle.miette_json.specs.steps.JsonParts.{rest_text, list_key_text, maybe_list_text, NamesFile, AppendsSection}
-use Rattle.miette_json.specs.steps.JsonParts.{AppendsSections, AppendsSnippets, AppendsAttached}
+use Rattle.miette_json.specs.steps.JsonParts.{rest_text, list_key_text, optional_list_text, NamesFile, AppendsSection}
+use Rattle.miette_json.specs.steps.JsonParts.{AppendsSections, AppendsJsonSnippets, AppendsSnippetsAndFixes}
 use Rattle.miette_json.proofs.JsonJoined.{last_piece}
 
 -- ---- objects
@@ -102,7 +102,7 @@ module _ {X : Type 0} (value : X → Section) (xs : List X) (i : ℕ) where
 
 pub some_snippets : {X : Type 0} (value : X → Section) (xs : List X) (old now new : List ℕ) → (length xs ≡ 0 → ⊥)
     → now ≡ old ++ list_key_text (codes "snippets") → AppendsSections (map value xs) now new
-    → AppendsSnippets (map value xs) old new
+    → AppendsJsonSnippets (map value xs) old new
 some_snippets value [] old now new h e a = absurd (h refl)
 some_snippets value (x ∷ xs) old now new h e a = record {
   faults = a.faults;
@@ -113,24 +113,24 @@ some_snippets value (x ∷ xs) old now new h e a = record {
       (items_text (sections_json a.faults (value x ∷ map value xs)));
 }
 
-pub some_fixes : (fixes : List Proposal) (old now new : List ℕ) → (length fixes ≡ 0 → ⊥)
+pub some_fixes : (fixes : List FixModel) (old now new : List ℕ) → (length fixes ≡ 0 → ⊥)
     → now ≡ old ++ list_key_text (codes "fixes") → new ≡ now ++ items_text (fixes_json fixes)
-    → new ≡ old ++ maybe_list_text (codes "fixes") (fixes_json fixes)
+    → new ≡ old ++ optional_list_text (codes "fixes") (fixes_json fixes)
 some_fixes [] old now new h e f = absurd (h refl)
 some_fixes (x ∷ xs) old now new h e f =
     f ∙ ap (λ l. l ++ items_text (fixes_json (x ∷ xs))) e
     ∙ append_assoc old (list_key_text (codes "fixes")) (items_text (fixes_json (x ∷ xs)))
 
 -- both
-pub both_attached : (m : Diagnosis) (sections : List Section) (fixes : List Proposal) (old now new : List ℕ)
-    → sections ≡ m.snippets → fixes ≡ m.fixes → AppendsSnippets sections old now
-    → new ≡ now ++ maybe_list_text (codes "fixes") (fixes_json fixes) → AppendsAttached m old new
+pub both_attached : (m : Diagnosis) (sections : List Section) (fixes : List FixModel) (old now new : List ℕ)
+    → sections ≡ m.snippets → fixes ≡ m.fixes → AppendsJsonSnippets sections old now
+    → new ≡ now ++ optional_list_text (codes "fixes") (fixes_json fixes) → AppendsSnippetsAndFixes m old new
 both_attached m sections fixes old now new es ef first e =
-    let here : AppendsSnippets m.snippets old now = subst (λ ss. AppendsSnippets ss old now) es first in
-    let snippets = maybe_list_text (codes "snippets") (sections_json here.faults m.snippets) in
-    let last = maybe_list_text (codes "fixes") (fixes_json m.fixes) in record {
+    let here : AppendsJsonSnippets m.snippets old now = subst (λ ss. AppendsJsonSnippets ss old now) es first in
+    let snippets = optional_list_text (codes "snippets") (sections_json here.faults m.snippets) in
+    let last = optional_list_text (codes "fixes") (fixes_json m.fixes) in record {
       faults = here.faults;
       possible = here.possible;
-      appended = e ∙ ap (λ fs. now ++ maybe_list_text (codes "fixes") (fixes_json fs)) ef
+      appended = e ∙ ap (λ fs. now ++ optional_list_text (codes "fixes") (fixes_json fs)) ef
           ∙ ap (λ l. l ++ last) here.appended ∙ append_assoc old snippets last;
     }

@@ -7,12 +7,15 @@ use Rattle.miette_json.specs.rules.Json.{member}
 use Rattle.miette_json.specs.rules.Json.{quoted_text, json_text, items_text, more_members_text}
 use Rattle.miette_protocol.specs.rules.Reading.{Source}
 use Rattle.miette_tree.specs.rules.Tree.{Tree, tree, head, source_of, cause_of, causes_of, related_of, effective}
-use Rattle.miette_json.specs.rules.JsonReport.{NameAnswers, own_faults, related_answers, maybe, maybe_list, strings}
+use Rattle.miette_json.specs.rules.JsonReport.{NameAnswers, own_faults, related_answers, optional_member, optional_list}
+use Rattle.miette_json.specs.rules.JsonReport.{strings}
 use Rattle.miette_json.specs.rules.JsonReport.{labels_json, file_name}
 use Rattle.miette_json.specs.rules.JsonReport.{report_json, reports_json, sections_json, fixes_json}
 use Rattle.miette_tree.specs.rules.DiagnosticParts.{severity_text, given_labels}
-use Rattle.miette_json.specs.steps.JsonParts.{name_text, member_before, key_text, maybe_text, rest_text, start_text}
-use Rattle.miette_json.specs.steps.JsonParts.{head_text, reasons_text, places_text, attached_text, maybe_list_text}
+use Rattle.miette_json.specs.steps.JsonParts.{name_text, member_before, key_text, optional_member_text, rest_text}
+use Rattle.miette_json.specs.steps.JsonParts.{start_text}
+use Rattle.miette_json.specs.steps.JsonParts.{head_text, reasons_text, file_and_labels_text, snippets_and_fixes_text}
+use Rattle.miette_json.specs.steps.JsonParts.{optional_list_text}
 
 -- what is left to write grows shorter
 pub step : (out new piece rest goal : List ℕ) → out ++ (piece ++ rest) ≡ goal → new ≡ out ++ piece → new ++ rest ≡ goal
@@ -66,15 +69,16 @@ pub reasons_parts : (out a b c new key causes url help : List ℕ) → a ≡ out
 reasons_parts out a b c new key causes url help e f g h =
     h ∙ ap (λ l. l ++ help) (g ∙ ap (λ l. l ++ url) (f ∙ ap (λ l. l ++ causes) e)) ∙ simp append_assoc
 
-pub maybe_member : (key : List ℕ) (o : Option (List ℕ)) (more : Members) → more_members_text (maybe key o more)
-    ≡ maybe_text key o ++ more_members_text more
+pub maybe_member : (key : List ℕ) (o : Option (List ℕ)) (more : Members)
+    → more_members_text (optional_member key o more)
+    ≡ optional_member_text key o ++ more_members_text more
 maybe_member key None more = refl
 maybe_member key (Some s) more = ap (λ l. 44 ∷ l) (sym
     (append_assoc (quoted_text key ++ (58 ∷ 32 ∷ [])) (quoted_text s) (more_members_text more)
     ∙ append_assoc (quoted_text key) (58 ∷ 32 ∷ []) (quoted_text s ++ more_members_text more)))
 
-pub listed_member : (key : List ℕ) (is : Items) (more : Members) → more_members_text (maybe_list key is more)
-    ≡ maybe_list_text key is ++ more_members_text more
+pub listed_member : (key : List ℕ) (is : Items) (more : Members) → more_members_text (optional_list key is more)
+    ≡ optional_list_text key is ++ more_members_text more
 listed_member key no_items more = refl
 listed_member key (item v others) more = simp append_assoc
 
@@ -83,20 +87,21 @@ module _ (message_key code_key severity_key causes_key url_key help_key name_key
     (causes labels snippets fixes related : Items) where
   pub parts :
       json_text (object (member message_key (string message)
-      (maybe code_key code (member severity_key (string severity) (member causes_key (array causes)
-      (maybe url_key url (maybe help_key help (maybe name_key name
-      (member labels_key (array labels) (maybe_list snippets_key snippets (maybe_list fixes_key fixes
+      (optional_member code_key code (member severity_key (string severity) (member causes_key (array causes)
+      (optional_member url_key url (optional_member help_key help (optional_member name_key name
+      (member labels_key (array labels) (optional_list snippets_key snippets (optional_list fixes_key fixes
       (member related_key (array related) no_members))))))))))))
       ≡ (123 ∷ (quoted_text message_key ++ (58 ∷ 32 ∷ (quoted_text message
-      ++ (maybe_text code_key code ++ (key_text severity_key ++ quoted_text severity))))))
-      ++ ((key_text causes_key ++ (91 ∷ (items_text causes ++ (maybe_text url_key url ++ maybe_text help_key help))))
-      ++ ((maybe_text name_key name ++ (key_text labels_key ++ (91 ∷ items_text labels)))
-      ++ ((maybe_list_text snippets_key snippets ++ maybe_list_text fixes_key fixes)
+      ++ (optional_member_text code_key code ++ (key_text severity_key ++ quoted_text severity))))))
+      ++ ((key_text causes_key ++ (91 ∷ (items_text causes ++ (optional_member_text url_key url
+      ++ optional_member_text help_key help))))
+      ++ ((optional_member_text name_key name ++ (key_text labels_key ++ (91 ∷ items_text labels)))
+      ++ ((optional_list_text snippets_key snippets ++ optional_list_text fixes_key fixes)
       ++ (key_text related_key ++ (91 ∷ (items_text related ++ 125 ∷ []))))))
   parts = simp (maybe_member, listed_member, append_assoc)
 
 pub label_parts : (first second : List ℕ) (o : Option (List ℕ)) (v : Json)
-    → json_text (object (maybe first o (member second v no_members))) ≡ start_text first second o
+    → json_text (object (optional_member first o (member second v no_members))) ≡ start_text first second o
     ++ (json_text v ++ 125 ∷ [])
 label_parts first second None v = simp append_assoc
 label_parts first second (Some s) v = simp append_assoc
@@ -105,8 +110,8 @@ label_parts first second (Some s) v = simp append_assoc
 pub report_parts : (inherited : Option Source) (a : NameAnswers) (t : Tree) →
     json_text (report_json inherited a t)
     ≡ head_text (head t) ++ (reasons_text (causes_of (cause_of t)) (head t)
-    ++ (places_text (own_faults a).own (effective (source_of t) inherited) (given_labels (head t).labels)
-    ++ (attached_text (own_faults a).further (head t) ++
+    ++ (file_and_labels_text (own_faults a).own (effective (source_of t) inherited) (given_labels (head t).labels)
+    ++ (snippets_and_fixes_text (own_faults a).further (head t) ++
     (key_text (codes "related") ++ (91 ∷ (items_text (reports_json (effective (source_of t) inherited)
     (related_answers a) (related_of t)) ++ 125 ∷ []))))))
 report_parts inherited a (tree m s c r) =

@@ -17,9 +17,11 @@ use Rattle.miette_json.specs.rules.Json.{no_members, member, digits_within, nume
 use Rattle.miette_json.specs.rules.Json.{json_text, items_text, more_items_text, members_text, more_members_text}
 use Rattle.miette_json.specs.rules.Denotes.{Token, structural, text, whole, tokens_then, items_then, more_items_then}
 use Rattle.miette_json.specs.rules.Denotes.{members_then, more_members_then, StringPart, plain, short, unit, short_for}
-use Rattle.miette_json.specs.rules.Denotes.{IsStringPart, hex, part_text, part_value, AreStringParts, all_written}
+use Rattle.miette_json.specs.rules.Denotes.{IsStringPart, hex, string_part_text, part_value, AreStringParts}
+use Rattle.miette_json.specs.rules.Denotes.{all_written}
 use Rattle.miette_json.specs.rules.Denotes.{all_meant, IsDigit, AreDigits, value_after, NoLeadingZero, NoDigitNext}
-use Rattle.miette_json.specs.rules.Denotes.{IsStructural, IsString, IsNumber, Begins, Next, AreTokens, HasTokensOf}
+use Rattle.miette_json.specs.rules.Denotes.{IsStructural, IsString, IsNumber, BeginsWithToken, Next, AreJsonTokens}
+use Rattle.miette_json.specs.rules.Denotes.{HasTokensOf}
 use Rattle.miette_json.specs.steps.EscapedBytes.{begins_escaped, control_text, is_escaped}
 use Rattle.json.specs.Print.{escape_letter, escape_byte}
 
@@ -285,7 +287,7 @@ control_low x a b e = grind (arith, nat_tests)
 record SpellsByte (x : ℕ) : Type 0 where
   piece : StringPart
   right : IsStringPart piece
-  spelled : (rest : List ℕ) → escape_byte x ++ rest ≡ part_text piece rest
+  spelled : (rest : List ℕ) → escape_byte x ++ rest ≡ string_part_text piece rest
   means : part_value piece ≡ x ∷ []
 
 low_byte : (x : ℕ) → escape_letter x ≡ 0 → x < 32 → SpellsByte x
@@ -334,7 +336,7 @@ spells_all (x ∷ s) =
       pieces = b.piece ∷ r.pieces;
       right = (b.right, r.right);
       spelled = λ rest. append_assoc (escape_byte x) (escaped_text s) rest
-          ∙ (b.spelled (escaped_text s ++ rest) ∙ ap (part_text b.piece) (r.spelled rest));
+          ∙ (b.spelled (escaped_text s ++ rest) ∙ ap (string_part_text b.piece) (r.spelled rest));
       means = ap (λ l. l ++ all_meant r.pieces) b.means ∙ ap (λ l. x ∷ l) r.means;
     }
 
@@ -350,11 +352,11 @@ string_spelled s rest =
 
 -- ---- values
 
-at_once : (t : Token) (bytes rest : List ℕ) → Begins t bytes rest → Next t bytes rest
+at_once : (t : Token) (bytes rest : List ℕ) → BeginsWithToken t bytes rest → Next t bytes rest
 at_once t bytes rest b = record { space = []; blank = tt; after = bytes; spaced = refl; begins = b }
 
 -- a space in front changes nothing
-after_space : (ts : List Token) (bytes : List ℕ) → AreTokens ts bytes → AreTokens ts (32 ∷ bytes)
+after_space : (ts : List Token) (bytes : List ℕ) → AreJsonTokens ts bytes → AreJsonTokens ts (32 ∷ bytes)
 after_space [] bytes r = (inl refl, r)
 after_space (t ∷ ts) bytes r = (
   r.0,
@@ -369,8 +371,8 @@ after_space (t ∷ ts) bytes r = (
   r.2,
 )
 
-put : (x : ℕ) (ts : List Token) (bytes : List ℕ) → IsStructural x → AreTokens ts bytes
-    → AreTokens (structural x ∷ ts) (x ∷ bytes)
+put : (x : ℕ) (ts : List Token) (bytes : List ℕ) → IsStructural x → AreJsonTokens ts bytes
+    → AreJsonTokens (structural x ∷ ts) (x ∷ bytes)
 put x ts bytes m r = (bytes, at_once (structural x) (x ∷ bytes) bytes (m, refl), r)
 
 more_items_end : (is : Items) (rest : List ℕ) → NoDigitNext (more_items_text is ++ rest)
@@ -383,27 +385,27 @@ more_members_end (member k v more) rest = inl (omega arith)
 
 -- a key, a colon, a space and a value
 key_spelled : (k : List ℕ) (v : Json) (more : Members) (ts : List Token) (rest : List ℕ)
-    → AreTokens (tokens_then v (more_members_then more ts)) (json_text v ++ (more_members_text more ++ rest))
-    → AreTokens (text k ∷ structural 58 ∷ tokens_then v (more_members_then more ts))
+    → AreJsonTokens (tokens_then v (more_members_then more ts)) (json_text v ++ (more_members_text more ++ rest))
+    → AreJsonTokens (text k ∷ structural 58 ∷ tokens_then v (more_members_then more ts))
     ((quoted_text k ++ (58 ∷ 32 ∷ (json_text v ++ more_members_text more))) ++ rest)
 key_spelled k v more ts rest r =
     let us : List Token = tokens_then v (more_members_then more ts) in
     let tail : List ℕ = (json_text v ++ more_members_text more) ++ rest in
-    let colon : AreTokens (structural 58 ∷ us) (58 ∷ 32 ∷ tail) =
+    let colon : AreJsonTokens (structural 58 ∷ us) (58 ∷ 32 ∷ tail) =
     put 58 us (32 ∷ tail) (inr (inl refl)) (after_space us tail
-    (subst (AreTokens us) (sym (append_assoc (json_text v) (more_members_text more) rest)) r)) in
-    let key : AreTokens (text k ∷ structural 58 ∷ us) (quoted_text k ++ (58 ∷ 32 ∷ tail)) = (
+    (subst (AreJsonTokens us) (sym (append_assoc (json_text v) (more_members_text more) rest)) r)) in
+    let key : AreJsonTokens (text k ∷ structural 58 ∷ us) (quoted_text k ++ (58 ∷ 32 ∷ tail)) = (
       58 ∷ 32 ∷ tail,
       at_once (text k) (quoted_text k ++ (58 ∷ 32 ∷ tail)) (58 ∷ 32 ∷ tail)
           (string_spelled k (58 ∷ 32 ∷ tail)),
       colon,
     ) in
-    subst (AreTokens (text k ∷ structural 58 ∷ us)) (sym (append_assoc (quoted_text k)
+    subst (AreJsonTokens (text k ∷ structural 58 ∷ us)) (sym (append_assoc (quoted_text k)
     (58 ∷ 32 ∷ (json_text v ++ more_members_text more)) rest)) key
 
 mutual
-  value_spelled : (v : Json) (ts : List Token) (rest : List ℕ) → NoDigitNext rest → AreTokens ts rest
-      → AreTokens (tokens_then v ts) (json_text v ++ rest)
+  value_spelled : (v : Json) (ts : List Token) (rest : List ℕ) → NoDigitNext rest → AreJsonTokens ts rest
+      → AreJsonTokens (tokens_then v ts) (json_text v ++ rest)
   value_spelled (number n) ts rest h r = (rest, at_once (whole n) (numeral n ++ rest) rest (number_spelled n rest h), r)
   value_spelled (string s) ts rest h r = (
     rest,
@@ -415,34 +417,34 @@ mutual
   value_spelled (object ms) ts rest h r = put 123 (members_then ms ts) (members_text ms ++ rest)
       (inr (inr (inr (inr (inl refl))))) (members_spelled ms ts rest r)
 
-  items_spelled : (is : Items) (ts : List Token) (rest : List ℕ) → AreTokens ts rest
-      → AreTokens (items_then is ts) (items_text is ++ rest)
+  items_spelled : (is : Items) (ts : List Token) (rest : List ℕ) → AreJsonTokens ts rest
+      → AreJsonTokens (items_then is ts) (items_text is ++ rest)
   items_spelled no_items ts rest r = put 93 ts rest (inr (inr (inr (inl refl)))) r
   items_spelled (item v more) ts rest r =
-      subst (AreTokens (tokens_then v (more_items_then more ts)))
+      subst (AreJsonTokens (tokens_then v (more_items_then more ts)))
       (sym (append_assoc (json_text v) (more_items_text more) rest))
       (value_spelled v (more_items_then more ts) (more_items_text more ++ rest) (more_items_end more rest)
       (more_items_spelled more ts rest r))
 
-  more_items_spelled : (is : Items) (ts : List Token) (rest : List ℕ) → AreTokens ts rest
-      → AreTokens (more_items_then is ts) (more_items_text is ++ rest)
+  more_items_spelled : (is : Items) (ts : List Token) (rest : List ℕ) → AreJsonTokens ts rest
+      → AreJsonTokens (more_items_then is ts) (more_items_text is ++ rest)
   more_items_spelled no_items ts rest r = put 93 ts rest (inr (inr (inr (inl refl)))) r
   more_items_spelled (item v more) ts rest r =
       put 44 (tokens_then v (more_items_then more ts)) ((json_text v ++ more_items_text more) ++ rest) (inl refl)
-      (subst (AreTokens (tokens_then v (more_items_then more ts)))
+      (subst (AreJsonTokens (tokens_then v (more_items_then more ts)))
       (sym (append_assoc (json_text v) (more_items_text more) rest))
       (value_spelled v (more_items_then more ts) (more_items_text more ++ rest) (more_items_end more rest)
       (more_items_spelled more ts rest r)))
 
-  members_spelled : (ms : Members) (ts : List Token) (rest : List ℕ) → AreTokens ts rest
-      → AreTokens (members_then ms ts) (members_text ms ++ rest)
+  members_spelled : (ms : Members) (ts : List Token) (rest : List ℕ) → AreJsonTokens ts rest
+      → AreJsonTokens (members_then ms ts) (members_text ms ++ rest)
   members_spelled no_members ts rest r = put 125 ts rest (inr (inr (inr (inr (inr refl))))) r
   members_spelled (member k v more) ts rest r =
       key_spelled k v more ts rest (value_spelled v (more_members_then more ts) (more_members_text more ++ rest)
       (more_members_end more rest) (more_members_spelled more ts rest r))
 
-  more_members_spelled : (ms : Members) (ts : List Token) (rest : List ℕ) → AreTokens ts rest
-      → AreTokens (more_members_then ms ts) (more_members_text ms ++ rest)
+  more_members_spelled : (ms : Members) (ts : List Token) (rest : List ℕ) → AreJsonTokens ts rest
+      → AreJsonTokens (more_members_then ms ts) (more_members_text ms ++ rest)
   more_members_spelled no_members ts rest r = put 125 ts rest (inr (inr (inr (inr (inr refl))))) r
   more_members_spelled (member k v more) ts rest r =
       put 44 (text k ∷ structural 58 ∷ tokens_then v (more_members_then more ts)) _ (inl refl)
@@ -450,4 +452,5 @@ mutual
       (more_members_end more rest) (more_members_spelled more ts rest r)))
 
 pub spelling_tokens_lem : (v : Json) → HasTokensOf (json_text v) v
-spelling_tokens_lem v = subst (AreTokens (tokens_then v [])) (append-nil (json_text v)) (value_spelled v [] [] tt tt)
+spelling_tokens_lem v = subst (AreJsonTokens (tokens_then v [])) (append-nil (json_text v))
+    (value_spelled v [] [] tt tt)

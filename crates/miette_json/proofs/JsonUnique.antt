@@ -6,9 +6,11 @@ use Rattle.miette_json.specs.rules.Json.{Json, number, string, array, object, It
 use Rattle.miette_json.specs.rules.Json.{no_members, member}
 use Rattle.miette_json.specs.rules.Denotes.{Token, structural, text, whole, tokens_then, items_then, more_items_then}
 use Rattle.miette_json.specs.rules.Denotes.{members_then, more_members_then, StringPart, plain, short, unit, pair}
-use Rattle.miette_json.specs.rules.Denotes.{IsStringPart, hex, part_text, part_value, AreStringParts, all_written}
+use Rattle.miette_json.specs.rules.Denotes.{IsStringPart, hex, string_part_text, part_value, AreStringParts}
+use Rattle.miette_json.specs.rules.Denotes.{all_written}
 use Rattle.miette_json.specs.rules.Denotes.{all_meant, IsDigit, AreDigits, value_after, NoDigitNext, IsStructural}
-use Rattle.miette_json.specs.rules.Denotes.{IsBlank, AreBlank, IsString, IsNumber, Begins, Next, AreTokens, HasTokensOf}
+use Rattle.miette_json.specs.rules.Denotes.{IsBlank, AreBlank, IsString, IsNumber, BeginsWithToken, Next, AreJsonTokens}
+use Rattle.miette_json.specs.rules.Denotes.{HasTokensOf}
 
 -- ---- the tokens of two values
 
@@ -130,7 +132,8 @@ short_byte x = get_or (part_value (short x)) 0 0
 letter_u : (l : ℕ) (xs ys : List ℕ) → IsStringPart (short l) → 92 ∷ l ∷ xs ≡ 92 ∷ 117 ∷ ys → ⊥
 letter_u l xs ys r e = let h : l ≡ 117 = cc in r (ap short_byte h)
 
-piece_one : (p q : StringPart) (x y : List ℕ) → IsStringPart p → IsStringPart q → part_text p x ≡ part_text q y
+piece_one : (p q : StringPart) (x y : List ℕ) → IsStringPart p → IsStringPart q → string_part_text p x
+    ≡ string_part_text q y
     → (part_value p ≡ part_value q) × (x ≡ y)
 piece_one (plain b) (plain c) x y r s e = let h : b ≡ c = cc in (ap (λ n. n ∷ []) h, cc)
 piece_one (plain b) (short l) x y r s e = let h : b ≡ 92 = cc in absurd (r.2 h)
@@ -158,7 +161,7 @@ piece_one (pair a b c d i j o z) (pair k l m n i' j' o' z') x y r s e =
     let h : a ∷ b ∷ c ∷ d ∷ i ∷ j ∷ o ∷ z ∷ [] ≡ k ∷ l ∷ m ∷ n ∷ i' ∷ j' ∷ o' ∷ z' ∷ [] = cc in (ap pair_of h, cc)
 
 -- no piece begins with a quote
-no_quote : (p : StringPart) (x y : List ℕ) → IsStringPart p → part_text p x ≡ 34 ∷ y → ⊥
+no_quote : (p : StringPart) (x y : List ℕ) → IsStringPart p → string_part_text p x ≡ 34 ∷ y → ⊥
 no_quote (plain b) x y r e = let h : b ≡ 34 = cc in r.1 h
 no_quote (short l) x y r e = heads_differ 92 34 _ _ (λ h. omega arith) e
 no_quote (unit a b c d) x y r e = heads_differ 92 34 _ _ (λ h. omega arith) e
@@ -215,7 +218,8 @@ mark_no_quote x m e = elim (mark_place x m) [ inl h ↦ omega arith | inr h ↦ 
 mark_no_digit : (x d : ℕ) → IsStructural x → IsDigit d → x ≡ d → ⊥
 mark_no_digit x d m r e = elim (mark_place x m) [ inl h ↦ omega arith | inr h ↦ omega arith ]
 
-begins_one : (t u : Token) (bytes x y : List ℕ) → Begins t bytes x → Begins u bytes y → (t ≡ u) × (x ≡ y)
+begins_one : (t u : Token) (bytes x y : List ℕ) → BeginsWithToken t bytes x → BeginsWithToken u bytes y → (t ≡ u)
+    × (x ≡ y)
 begins_one (structural a) (structural b) bytes x y f g = let e : a ∷ x ≡ b ∷ y = sym f.1 ∙ g.1 in (cc, cc)
 begins_one (structural a) (text t) bytes x y f g = absurd (mark_no_quote a f.0 (heads _ _ _ _ (sym f.1 ∙ g.spelled)))
 begins_one (structural a) (whole n) bytes x y f g = absurd
@@ -237,7 +241,7 @@ abbrev Solid : List ℕ → Type 0
 Solid [] = ⊥
 Solid (c ∷ cs) = 32 < c
 
-begins_solid : (t : Token) (bytes x : List ℕ) → Begins t bytes x → Solid bytes
+begins_solid : (t : Token) (bytes x : List ℕ) → BeginsWithToken t bytes x → Solid bytes
 begins_solid (structural a) bytes x f = subst Solid (sym f.1)
     (elim (mark_place a f.0) [ inl h ↦ omega arith | inr h ↦ omega arith ])
 begins_solid (text s) bytes x f = subst Solid (sym f.spelled) (omega arith)
@@ -268,10 +272,10 @@ next_one : (t u : Token) (bytes x y : List ℕ) → Next t bytes x → Next u by
 next_one t u bytes x y f g =
     let e = space_one f.space g.space f.after g.after f.blank g.blank (begins_solid t f.after x f.begins)
     (begins_solid u g.after y g.begins) (sym f.spaced ∙ g.spaced) in
-    begins_one t u g.after x y (subst (λ l. Begins t l x) e f.begins) g.begins
+    begins_one t u g.after x y (subst (λ l. BeginsWithToken t l x) e f.begins) g.begins
 
 -- bytes are at most one list of tokens
-tokens_one : (ts us : List Token) (bytes : List ℕ) → AreTokens ts bytes → AreTokens us bytes → ts ≡ us
+tokens_one : (ts us : List Token) (bytes : List ℕ) → AreJsonTokens ts bytes → AreJsonTokens us bytes → ts ≡ us
 tokens_one [] [] bytes f g = refl
 tokens_one [] (u ∷ us) bytes f g = absurd (all_blank g.1.space bytes g.1.after f g.1.spaced
     (begins_solid u g.1.after g.0 g.1.begins))
@@ -280,7 +284,7 @@ tokens_one (t ∷ ts) [] bytes f g = absurd (all_blank f.1.space bytes f.1.after
 tokens_one (t ∷ ts) (u ∷ us) bytes f g =
     let p = next_one t u bytes f.0 g.0 f.1 g.1 in
     let head : t ≡ u = p.0 in
-    let rest : ts ≡ us = tokens_one ts us g.0 (subst (AreTokens ts) p.1 f.2) g.2 in
+    let rest : ts ≡ us = tokens_one ts us g.0 (subst (AreJsonTokens ts) p.1 f.2) g.2 in
     cc
 
 pub one_value_lem : (bytes : List ℕ) (v w : Json) → HasTokensOf bytes v → HasTokensOf bytes w → v ≡ w

@@ -15,7 +15,7 @@ use Rattle.miette_json.specs.rules.Json.{more_items_text, members_text, more_mem
 use Rattle.miette_json.specs.rules.Denotes.{Token, text, whole, tokens_then, items_then, more_items_then, members_then}
 use Rattle.miette_json.specs.rules.Denotes.{more_members_then, StringPart, plain, short, unit, pair, short_for, IsHex}
 use Rattle.miette_json.specs.rules.Denotes.{AreHex, hex, AreStringParts, all_written, all_meant, AreDigits, AreBlank}
-use Rattle.miette_json.specs.rules.Denotes.{IsBlank, IsString, Next, AreTokens, structural, IsStructural}
+use Rattle.miette_json.specs.rules.Denotes.{IsBlank, IsString, Next, AreJsonTokens, structural, IsStructural}
 use Rattle.miette_json.specs.steps.EscapedBytes.{is_escaped}
 use Rattle.miette_json.specs.laws.Utf8Texts.{TextsAreUtf8, HasUtf8Texts}
 use Rattle.miette_json.proofs.JsonSpelled.{letter_cases, byte_short, byte_low, byte_itself, escaped_is_ascii}
@@ -272,7 +272,7 @@ mark_low x (inr (inr (inr (inr (inr h))))) = omega arith
 after_space : (t : Token) (bytes rest : List ℕ) (f : Next t bytes rest) → IsUtf8 bytes → IsUtf8 f.after
 after_space t bytes rest f u = past_blank f.space f.after f.blank (subst IsUtf8 f.spaced u)
 
-pub tokens_utf8 : (ts : List Token) (bytes : List ℕ) → IsUtf8 bytes → AreTokens ts bytes → TextsAreUtf8 ts
+pub tokens_utf8 : (ts : List Token) (bytes : List ℕ) → IsUtf8 bytes → AreJsonTokens ts bytes → TextsAreUtf8 ts
 tokens_utf8 [] bytes u f = tt
 tokens_utf8 (structural x ∷ ts) bytes u f =
     let after = after_space (structural x) bytes f.0 f.1 u in

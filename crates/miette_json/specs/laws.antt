@@ -1,2 +1,2 @@
--- What holds of the rules.
+-- Theorems about the rules.
 pub mod Utf8Texts

@@ -1,3 +1,3 @@
--- The code's own steps, which no rule names.
+-- Helper definitions of the code that no rule mentions.
 pub mod EscapedBytes
 pub mod JsonParts

@@ -12,27 +12,27 @@ use miette_protocol::error::RenderError;
 use miette_protocol::protocol::Diagnostic;
 use miette_protocol::source::SourceCode;
 use miette_tree::report::Report;
-use miette_tree::text_handler::{TextHandler, append_text};
+use miette_tree::text_handler::{TextHandler, append_report_text};
 use std::alloc::{AllocError, Global};
 
-/// The handler that gives a report as JSON (RFC 8259), for editors and build servers: one object, without a line feed
-/// at its end. There is nothing to set.
+/// Renders a report as JSON (RFC 8259) for editors and build servers. The output is one object without a line feed at
+/// its end. The handler has no settings.
 #[derive(Clone, Debug, Default, Drop)]
 pub struct JSONReportHandler;
 
 impl JSONReportHandler {
-    /// The handler.
+    /// Creates the handler.
     pub fn new() -> Self {
         JSONReportHandler
     }
 
-    /// Appends the report's JSON text. After an error, where memory is refused, `out` is as before.
+    /// Appends the report's JSON text. If allocation fails, `out` is unchanged.
     pub fn render_report(&self, report: &Report, out: &mut String) -> Result<(), RenderError>
-        // The text is the spelling of a value that the report has; it stands for that value, and for no other.
+        // The text spells a value that the report has. It denotes that value and no other.
         ensures text { let tree = tree_of ⟦<Box<dyn Diagnostic> as Diagnostic>⟧.meaning
             ⟦<Box<dyn SourceCode> as SourceCode>⟧.source report.now in
             OnOk result (AppendsOne (IsJsonOf tree) (string_bytes out.old) (string_bytes out.new)) }
-        // Where the sources that its file names are read from always read, there is one such value.
+        // If the sources of its file names always read, the report has exactly one such value.
         ensures value { let tree = tree_of ⟦<Box<dyn Diagnostic> as Diagnostic>⟧.meaning
             ⟦<Box<dyn SourceCode> as SourceCode>⟧.source report.now in
             OnOk result (report_reads tree ≡ true →
@@ -40,7 +40,7 @@ impl JSONReportHandler {
         ensures memory { OnErr result (result ≡ Err RenderError.Memory) }
         ensures err { OnErr result (string_bytes out.new ≡ string_bytes out.old) }
     {
-        append_text(out, self, report)
+        append_report_text(out, self, report)
     }
 }
 
@@ -59,7 +59,7 @@ impl TextHandler for JSONReportHandler {
     }
 }
 
-/// How many bytes there is room for at first: a small report's.
+/// Initial capacity of the output in bytes, enough for a small report.
 const ROOM: usize = 128;
 
 /// The JSON text of a report.
@@ -69,8 +69,8 @@ fn json_of<D: Diagnostic, S: SourceCode>(
 ) -> Result<String, AllocError>
     ensures { IfOk result (λ text. IsJsonOf (tree_of D.meaning S.source report.now) (string_bytes text)) }
 {
-    laws::the_spelling_denotes_its_value();
-    laws::a_text_denotes_one_value();
+    laws::json_spelling_denotes_its_value();
+    laws::json_text_denotes_one_value();
     let mut text = String::with_capacity(alloc, ROOM)?;
     push_report(&mut text, report, None)?;
     Ok(text)

@@ -1,5 +1,5 @@
-//! What holds of every JSON text and every value, whatever a handler writes. Each law is the contract of a function
-//! that does nothing; a caller cites it by calling it.
+//! Theorems about all JSON texts and values. Each theorem is the contract of an empty function: call the function to
+//! use it.
 
 ghost use Rattle.std.specs.Prelude.{◌≡◌, ℕ, List, true};
 ghost use Rattle.miette_tree.specs.rules.Tree.{Tree};
@@ -8,30 +8,29 @@ ghost use Rattle.miette_json.specs.rules.Json.{Json, json_text};
 ghost use Rattle.miette_json.specs.rules.Denotes.{Denotes, HasTokensOf};
 ghost use Rattle.miette_json.specs.laws.Utf8Texts.{HasUtf8Texts};
 
-/// A text stands for at most one value (RFC 8259, over whole numbers, strings, lists and objects).
-pub fn a_text_denotes_one_value()
+/// A text denotes at most one value (RFC 8259, over whole numbers, strings, lists and objects).
+pub fn json_text_denotes_one_value()
     ensures { (bytes : List ℕ) (v w : Json) → Denotes bytes v → Denotes bytes w → v ≡ w }
 {}
 
-/// The strings of a value that a text stands for, and the keys in it, are UTF-8: a text with other bytes stands for
-/// nothing.
-pub fn a_text_denotes_utf8()
+/// The strings and keys of a value that a text denotes are UTF-8. A text with other bytes denotes no value.
+pub fn json_text_denotes_utf8()
     ensures { (bytes : List ℕ) (v : Json) → Denotes bytes v → HasUtf8Texts v }
 {}
 
-/// The spelling that the handler writes for a value has its tokens, and stands for it where its strings and keys are
-/// UTF-8.
-pub fn the_spelling_denotes_its_value()
+/// The text that the handler writes for a value has the value's tokens. It denotes the value if all strings and keys
+/// are UTF-8.
+pub fn json_spelling_denotes_its_value()
     ensures tokens { (v : Json) → HasTokensOf (json_text v) v }
     ensures value { (v : Json) → HasUtf8Texts v → Denotes (json_text v) v }
 {}
 
-/// Values with one spelling are one value.
-pub fn equal_spellings_are_of_equal_values()
+/// Two values with the same text are the same value.
+pub fn equal_json_spellings_have_equal_values()
     ensures { (v w : Json) → json_text v ≡ json_text w → v ≡ w }
 {}
 
-/// Where all sources of a report always read, so do those that its file names are read from.
-pub fn names_are_read_where_sources_are()
+/// If all sources of a report always read, then so do the sources that its file names are read from.
+pub fn json_file_names_are_read_where_sources_are()
     ensures { (t : Tree) → AlwaysReads t → report_reads t ≡ true }
 {}

@@ -1,10 +1,10 @@
-//! The JSON report: its text, and the value that it denotes.
+//! The JSON report: its text, and the value that the text denotes.
 #![tactic(auto)]
 
-mod attached;
 pub mod handler;
+mod labels;
 pub mod laws;
 mod members;
-mod places;
 mod report;
+mod snippets_and_fixes;
 pub mod text;

@@ -1,16 +1,17 @@
-//! What stands between the values of an object and of a list: keys, braces, commas, and members with a text.
+//! The punctuation of objects and lists (keys, braces, commas), and members whose value is a string.
 
 ghost use Rattle.std.specs.Prelude.{◌≡◌, ◌∷◌, [], ◌++◌, None, if◌then◌else◌, OnOk, position, string_bytes};
 ghost use Rattle.std.specs.Option.{option_copied};
 ghost use Rattle.miette_json.specs.rules.Json.{escaped_text, quoted_text};
 ghost use Rattle.miette_json.specs.steps.EscapedBytes.{is_escaped};
-ghost use Rattle.miette_json.specs.steps.JsonParts.{name_text, first_key_text, key_text, list_key_text, maybe_text};
+ghost use Rattle.miette_json.specs.steps.JsonParts.{name_text, first_key_text, key_text, list_key_text};
+ghost use Rattle.miette_json.specs.steps.JsonParts.{optional_member_text};
 ghost use Rattle.miette_json.specs.steps.JsonParts.{member_before};
 
-use crate::text::push_quoted;
+use crate::text::push_json_string;
 use std::alloc::AllocError;
 
-/// A key that stands for itself after what stands before it, up to its value.
+/// Appends `before`, then a key that needs no escapes, then `": `.
 fn push_after(out: &mut String, before: &str, key: &str) -> Result<(), AllocError>
     requires { position is_escaped key.now ≡ None }
     ensures { OnOk result (string_bytes out.new
@@ -21,7 +22,7 @@ fn push_after(out: &mut String, before: &str, key: &str) -> Result<(), AllocErro
     out.push_str("\": ")
 }
 
-/// A key, and what stands between a key and its value.
+/// Appends a key and `: `.
 pub(crate) fn push_name(out: &mut String, key: &str) -> Result<(), AllocError>
     requires { position is_escaped key.now ≡ None }
     ensures { OnOk result (string_bytes out.new ≡ string_bytes out.old ++ name_text key.now) }
@@ -29,7 +30,7 @@ pub(crate) fn push_name(out: &mut String, key: &str) -> Result<(), AllocError>
     push_after(out, "\"", key)
 }
 
-/// What begins an object: a brace, its first key, and what stands between a key and its value.
+/// Appends an opening brace, the first key and `: `.
 pub(crate) fn push_first_key(out: &mut String, key: &str) -> Result<(), AllocError>
     requires { position is_escaped key.now ≡ None }
     ensures { OnOk result (string_bytes out.new
@@ -38,7 +39,7 @@ pub(crate) fn push_first_key(out: &mut String, key: &str) -> Result<(), AllocErr
     push_after(out, "{\"", key)
 }
 
-/// A comma, the key, and what stands between a key and its value.
+/// Appends a comma, a key and `: `.
 pub(crate) fn push_key(out: &mut String, key: &str) -> Result<(), AllocError>
     requires { position is_escaped key.now ≡ None }
     ensures { OnOk result (string_bytes out.new ≡ string_bytes out.old ++ key_text key.now) }
@@ -46,7 +47,7 @@ pub(crate) fn push_key(out: &mut String, key: &str) -> Result<(), AllocError>
     push_after(out, ",\"", key)
 }
 
-/// A comma, the key of a list, and its bracket.
+/// Appends a comma, the key of a list and an opening bracket.
 pub(crate) fn push_list_key(out: &mut String, key: &str) -> Result<(), AllocError>
     requires { position is_escaped key.now ≡ None }
     ensures { OnOk result (string_bytes out.new ≡ string_bytes out.old ++ list_key_text key.now) }
@@ -55,17 +56,21 @@ pub(crate) fn push_list_key(out: &mut String, key: &str) -> Result<(), AllocErro
     out.push_str("[")
 }
 
-/// A member with a text after another.
+/// Appends a string member that follows another member.
 pub(crate) fn push_member(out: &mut String, key: &str, text: &str) -> Result<(), AllocError>
     requires { position is_escaped key.now ≡ None }
     ensures { OnOk result (string_bytes out.new ≡ string_bytes out.old ++ (key_text key.now ++ quoted_text text.now)) }
 {
     push_key(out, key)?;
-    push_quoted(out, text)
+    push_json_string(out, text)
 }
 
-/// A member with a text before another, where there is a text.
-pub(crate) fn push_before(out: &mut String, key: &str, text: Option<&str>) -> Result<(), AllocError>
+/// Appends a string member that precedes another member, if there is a text.
+pub(crate) fn push_optional_before(
+    out: &mut String,
+    key: &str,
+    text: Option<&str>,
+) -> Result<(), AllocError>
     requires { position is_escaped key.now ≡ None }
     ensures { OnOk result (string_bytes out.new
         ≡ string_bytes out.old ++ member_before key.now (option_copied text.entry)) }
@@ -74,15 +79,19 @@ pub(crate) fn push_before(out: &mut String, key: &str, text: Option<&str>) -> Re
         return Ok(());
     };
     push_name(out, key)?;
-    push_quoted(out, text)?;
+    push_json_string(out, text)?;
     out.push_str(",")
 }
 
-/// A member with a text after another, where there is a text.
-pub(crate) fn push_maybe(out: &mut String, key: &str, text: Option<&str>) -> Result<(), AllocError>
+/// Appends a string member that follows another member, if there is a text.
+pub(crate) fn push_optional_member(
+    out: &mut String,
+    key: &str,
+    text: Option<&str>,
+) -> Result<(), AllocError>
     requires { position is_escaped key.now ≡ None }
     ensures { OnOk result (string_bytes out.new
-        ≡ string_bytes out.old ++ maybe_text key.now (option_copied text.entry)) }
+        ≡ string_bytes out.old ++ optional_member_text key.now (option_copied text.entry)) }
 {
     match text {
         Some(text) => push_member(out, key, text),
@@ -90,7 +99,7 @@ pub(crate) fn push_maybe(out: &mut String, key: &str, text: Option<&str>) -> Res
     }
 }
 
-/// A comma, but not before the first item of a list.
+/// Appends a comma, except before the first item of a list.
 pub(crate) fn push_comma(out: &mut String, first: bool) -> Result<(), AllocError>
     ensures { OnOk result (string_bytes out.new ≡ string_bytes out.old ++ (if first then [] else 44 ∷ [])) }
 {

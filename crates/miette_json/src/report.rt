@@ -1,52 +1,54 @@
-//! The JSON text of a report, part by part: head, reasons, places, further sources and fixes, related reports.
+//! The JSON text of a report, part by part: head, reasons, labels, further sources and fixes, related reports.
 
 ghost use Rattle.std.specs.Prelude.{◌≡◌, ◌++◌, OnOk, string_bytes, map};
 ghost use Rattle.std.specs.Option.{option_map};
 ghost use Rattle.miette_tree.specs.rules.Tree.{head, cause_of, causes_of, trees};
 ghost use Rattle.miette_tree.specs.views.Report.{tree_of};
-ghost use Rattle.miette_tree.specs.views.Owned.{shown_source};
+ghost use Rattle.miette_tree.specs.views.Owned.{ref_source};
 ghost use Rattle.miette_json.specs.rules.Json.{items_text};
 ghost use Rattle.miette_json.specs.rules.JsonReport.{strings};
 ghost use Rattle.miette_json.specs.steps.JsonParts.{rest_text, head_text, reasons_text};
-ghost use Rattle.miette_json.specs.steps.JsonParts.{AppendsReport, AppendsRelated};
+ghost use Rattle.miette_json.specs.steps.JsonParts.{AppendsJsonReport, AppendsJsonRelated};
 
-use crate::attached::push_attached;
-use crate::members::{push_comma, push_first_key, push_list_key, push_maybe, push_member};
-use crate::places::push_places;
-use crate::text::push_quoted;
+use crate::labels::push_file_and_labels;
+use crate::members::{
+    push_comma, push_first_key, push_list_key, push_member, push_optional_member,
+};
+use crate::snippets_and_fixes::push_snippets_and_fixes;
+use crate::text::push_json_string;
 use miette_protocol::protocol::Diagnostic;
 use miette_protocol::source::SourceCode;
-use miette_tree::parts::{cause_texts, labels_of, own_or, severity_name};
+use miette_tree::parts::{cause_texts, effective_source, labels_of, severity_name};
 use miette_tree::report::{Cause, Report, SourceRef};
 use std::alloc::AllocError;
 
-/// Appends the object of a report that inherits a source, or none.
+/// Appends the object of a report that may inherit a source.
 #[cycle(report)]
 pub(crate) fn push_report<'a, D: Diagnostic, S: SourceCode>(
     out: &mut String,
     report: &'a Report<D, S>,
     inherited: Option<SourceRef<'a, S>>,
 ) -> Result<(), AllocError>
-    ensures { OnOk result (AppendsReport (option_map (shown_source S.source) inherited.entry)
+    ensures { OnOk result (AppendsJsonReport (option_map (ref_source S.source) inherited.entry)
         (tree_of D.meaning S.source report.now) (string_bytes out.old) (string_bytes out.new)) }
 {
-    let source = own_or(report, inherited);
+    let source = effective_source(report, inherited);
     push_start(out, report)?;
-    push_places(out, labels_of(report), source)?;
-    push_attached(out, report)?;
+    push_file_and_labels(out, labels_of(report), source)?;
+    push_snippets_and_fixes(out, report)?;
     push_list_key(out, "related")?;
     push_related(out, report.related(), source)?;
     out.push_str("}")
 }
 
-/// Appends the objects of related reports, and the end of their list.
+/// Appends the objects of related reports, then the closing bracket.
 #[cycle(report)]
 fn push_related<'a, D: Diagnostic, S: SourceCode>(
     out: &mut String,
     reports: &'a [Report<D, S>],
     source: Option<SourceRef<'a, S>>,
 ) -> Result<(), AllocError>
-    ensures { OnOk result (AppendsRelated (option_map (shown_source S.source) source.entry)
+    ensures { OnOk result (AppendsJsonRelated (option_map (ref_source S.source) source.entry)
         (trees (map (tree_of D.meaning S.source) reports.now)) (string_bytes out.old) (string_bytes out.new)) }
 {
     let mut first = true;
@@ -58,7 +60,7 @@ fn push_related<'a, D: Diagnostic, S: SourceCode>(
     out.push_str("]")
 }
 
-/// The head of a report and its reasons.
+/// Appends the head of a report and its reasons.
 fn push_start<D: Diagnostic, S: SourceCode>(
     out: &mut String,
     report: &Report<D, S>,
@@ -81,8 +83,8 @@ fn push_head<D: Diagnostic, S: SourceCode>(
         ≡ string_bytes out.old ++ head_text (head (tree_of D.meaning S.source report.now))) }
 {
     push_first_key(out, "message")?;
-    push_quoted(out, report.message())?;
-    push_maybe(out, "code", report.code())?;
+    push_json_string(out, report.message())?;
+    push_optional_member(out, "code", report.code())?;
     push_member(out, "severity", severity_name(report.severity()))
 }
 
@@ -97,11 +99,11 @@ fn push_reasons<D: Diagnostic, S: SourceCode>(
 {
     push_list_key(out, "causes")?;
     push_causes(out, report)?;
-    push_maybe(out, "url", report.url())?;
-    push_maybe(out, "help", report.help())
+    push_optional_member(out, "url", report.url())?;
+    push_optional_member(out, "help", report.help())
 }
 
-/// `"a","b"]`: the causes of a report, and the end of their list.
+/// `"a","b"]`: appends the causes of a report, then the closing bracket.
 fn push_causes<D: Diagnostic, S: SourceCode>(
     out: &mut String,
     report: &Report<D, S>,
@@ -113,21 +115,21 @@ fn push_causes<D: Diagnostic, S: SourceCode>(
     let mut first = true;
     while let Cause::Diagnostic(next) = at.cause() {
         push_comma(out, first)?;
-        push_quoted(out, next.message())?;
+        push_json_string(out, next.message())?;
         first = false;
         at = next;
     }
     push_texts(out, cause_texts(at), first)
 }
 
-/// Texts in a list, after its first item or as its first ones, and the end of the list.
+/// Appends texts as list items, then the closing bracket. `first` says whether the list is still empty.
 fn push_texts(out: &mut String, texts: &[String], mut first: bool) -> Result<(), AllocError>
     ensures { OnOk result (string_bytes out.new
         ≡ string_bytes out.old ++ rest_text first (strings (map string_bytes texts.now))) }
 {
     for text in texts {
         push_comma(out, first)?;
-        push_quoted(out, text.as_str())?;
+        push_json_string(out, text.as_str())?;
         first = false;
     }
     out.push_str("]")

@@ -1,4 +1,4 @@
-//! Strings as JSON, appended to a text.
+//! JSON string literals.
 
 ghost use Rattle.std.specs.Prelude.{◌≡◌, ◌<◌, ◌++◌, ◌/◌, ◌∷◌, [], true, IfOk, OnOk, length, map, position};
 ghost use Rattle.std.specs.Prelude.{string_bytes};
@@ -6,17 +6,17 @@ ghost use Rattle.std.specs.Char.{digit_char};
 ghost use Rattle.std.specs.List.{prefix_len};
 ghost use Rattle.std.specs.Simd.Lanes.{mask_l};
 ghost use Rattle.miette_json.specs.rules.Json.{escaped_text, quoted_text};
-ghost use Rattle.miette_json.specs.steps.EscapedBytes.{begins_escaped, is_escaped, is_plain, control_text};
+ghost use Rattle.miette_json.specs.steps.EscapedBytes.{begins_escaped, is_escaped, is_unescaped, control_text};
 ghost use Rattle.json.specs.Print.{escape_byte};
 
 use std::alloc::AllocError;
 use std::simd::prelude::*;
 
-/// How many bytes are looked at together.
+/// Number of bytes that are tested at once.
 const BLOCK: usize = 16;
 
-/// Appends a string in quotes, with its escapes.
-pub fn push_quoted(out: &mut String, text: &str) -> Result<(), AllocError>
+/// Appends a string literal: quotes and escapes included.
+pub fn push_json_string(out: &mut String, text: &str) -> Result<(), AllocError>
     ensures { OnOk result (string_bytes out.new ≡ string_bytes out.old ++ quoted_text text.now) }
 {
     out.push('"')?;
@@ -24,7 +24,7 @@ pub fn push_quoted(out: &mut String, text: &str) -> Result<(), AllocError>
     out.push('"')
 }
 
-/// Appends a text with its escapes: what needs none is copied at once.
+/// Appends a text with its escapes. Runs of bytes without escapes are copied at once.
 fn push_escaped(out: &mut String, text: &str) -> Result<(), AllocError>
     ensures { OnOk result (string_bytes out.new ≡ string_bytes out.old ++ escaped_text text.now) }
 {
@@ -36,7 +36,7 @@ fn push_escaped(out: &mut String, text: &str) -> Result<(), AllocError>
     out.push_str(rest)
 }
 
-/// Appends what stands for the bytes up to the first one that may stand for itself, and gives the text from there on.
+/// Appends escapes up to the first byte that needs none. Returns the text from that byte on.
 fn push_escapes<'a>(out: &mut String, text: &'a str) -> Result<&'a str, AllocError>
     requires { begins_escaped text.now ≡ true }
     ensures text { IfOk result (λ rest. string_bytes out.new ++ escaped_text rest.now
@@ -53,7 +53,7 @@ fn push_escapes<'a>(out: &mut String, text: &'a str) -> Result<&'a str, AllocErr
     }
 }
 
-/// Whether a text begins with a byte that may not stand for itself.
+/// Whether the first byte of a text needs an escape.
 fn begins_escaped(text: &str) -> bool
     ensures { result ≡ begins_escaped text.now }
 {
@@ -63,7 +63,7 @@ fn begins_escaped(text: &str) -> bool
     }
 }
 
-/// Where the first byte stands that may not stand for itself.
+/// Index of the first byte that needs an escape.
 fn first_escape(text: &str) -> Option<usize>
     ensures { result ≡ position is_escaped text.now }
 {
@@ -71,9 +71,9 @@ fn first_escape(text: &str) -> Option<usize>
     if len < text.len() { Some(len) } else { None }
 }
 
-/// How many bytes that may stand for themselves these begin with.
+/// Number of leading bytes that need no escape.
 fn plain_len(bytes: &[u8]) -> usize
-    ensures { result ≡ prefix_len is_plain bytes.now }
+    ensures { result ≡ prefix_len is_unescaped bytes.now }
 {
     let mut len = 0;
     while bytes.len() - len >= BLOCK {
@@ -89,7 +89,7 @@ fn plain_len(bytes: &[u8]) -> usize
     len
 }
 
-/// A bit for each byte of a block, the lowest for its first: whether it may not stand for itself.
+/// A bit per byte of a block, lowest bit first: whether the byte needs an escape.
 #[inline(always)]
 fn escapes_in(block: u8x16) -> u64
     ensures { result ≡ mask_l (map is_escaped block) }
@@ -99,14 +99,14 @@ fn escapes_in(block: u8x16) -> u64
         | block.simd_eq(u8x16::splat(b'\\'))).to_bitmask()
 }
 
-/// Whether a byte may not stand for itself in a string.
+/// Whether a byte needs an escape in a string.
 fn needs_escape(byte: u8) -> bool
     ensures { result ≡ is_escaped byte }
 {
     byte < b' ' || byte == b'"' || byte == b'\\'
 }
 
-/// Appends what stands in a string for a byte that may not stand for itself.
+/// Appends the escape of a byte that needs one.
 #[tactic(auto, using(crate::proofs::JsonSpelled::byte_short, crate::proofs::JsonSpelled::byte_control))]
 fn push_escape(out: &mut String, byte: u8) -> Result<(), AllocError>
     requires { is_escaped byte ≡ true }
@@ -133,7 +133,7 @@ fn push_control(out: &mut String, byte: u8) -> Result<(), AllocError>
     out.push(hex_digit(byte % 16))
 }
 
-/// All but the last digit of what stands for a control character.
+/// All of a control character's escape except the last digit.
 #[inline(always)]
 #[tactic(auto, using(crate::proofs::JsonSpelled::front_low, crate::proofs::JsonSpelled::front_high))]
 fn control_front(byte: u8) -> &'static str
@@ -143,7 +143,7 @@ fn control_front(byte: u8) -> &'static str
     if byte < 16 { "\\u000" } else { "\\u001" }
 }
 
-/// The digit in base 16, in lower case.
+/// A hexadecimal digit in lower case.
 fn hex_digit(n: u8) -> char
     requires { n < 16 }
     ensures digit { result ≡ digit_char n }

@@ -1,9 +1,9 @@
 -- Where the contents of a read begin, the line is known.
 use Rattle.std.proofs.Common.{◌≡◌, ℕ, ap, ◌∙◌, List, subst, sym, arith}
-use Rattle.miette_source_lines.specs.declared.near.KnownLine.{KnownLine}
-use Rattle.miette_source_lines.specs.declared.near.KnownLines.{KnownLines}
-use Rattle.miette_source_lines.specs.views.Known.{IsKnown}
-use Rattle.miette_source_lines.proofs.Places.{line_of_zero}
+use Rattle.miette_lines.specs.declared.near.KnownLine.{KnownLine}
+use Rattle.miette_lines.specs.declared.near.KnownLines.{KnownLines}
+use Rattle.miette_lines.specs.views.Known.{IsKnown}
+use Rattle.miette_lines.proofs.Places.{line_of_zero}
 use Rattle.miette_protocol.specs.rules.Reading.{Contents, Source, Span}
 use Rattle.miette_protocol.proofs.KnownLines.{contents_known}
 use Rattle.miette_labels.specs.views.Reads.{AreContents}

@@ -4,22 +4,22 @@ use Rattle.std.proofs.Common.{ℕ, zero, suc, ◌+◌, ◌-◌, ◌≡◌, min, 
 use Rattle.std.proofs.Common.{None, List, [], ◌∷◌, length, map, refl, sym, ap, ◌∙◌, subst, arith, All}
 use Rattle.std.proofs.lemmas.Bool.{eqb-true}
 use Rattle.miette_protocol.specs.views.Meaning.{Label}
-use Rattle.miette_protocol.specs.rules.Reading.{Span, Source, IsAccepted}
+use Rattle.miette_protocol.specs.rules.Reading.{Span, Source, IsInBounds}
 use Rattle.miette_style.specs.declared.style.Style.{Style}
 use Rattle.miette_labels.specs.declared.reading.ReadLabel.{ReadLabel}
-use Rattle.miette_label_rules.specs.rules.Around.{lines_around}
-use Rattle.miette_label_rules.specs.rules.Contexts.{contents, end_of_span}
-use Rattle.miette_label_rules.specs.rules.Labels.{DrawnLabel, drawn_from, drawn_label, style_at, parts_of}
-use Rattle.miette_label_rules.specs.views.GivenLabels.{label_at, text_at, drawn_of}
+use Rattle.miette_labels.specs.rules.Around.{label_context}
+use Rattle.miette_labels.specs.rules.Contexts.{contents, end_of_span}
+use Rattle.miette_labels.specs.rules.Labels.{DrawnLabel, drawn_from, drawn_label, style_at, parts_of}
+use Rattle.miette_labels.specs.views.ProgramLabels.{label_at, label_text_at, drawn_of}
 use Rattle.miette_labels.specs.views.Reads.{IsRead}
-use Rattle.miette_labels.specs.views.Placing.{begins_at_end, end_drawn, placed_of, placed_one, placed_from}
-use Rattle.miette_labels.specs.views.Placing.{drawn_placed}
-use Rattle.miette_label_rules.specs.declared.placed.PlacedLabel.{PlacedLabel}
-use Rattle.miette_basics.proofs.Cases.{by_cases}
+use Rattle.miette_labels.specs.views.Placing.{begins_at_end, end_drawn, placement_of, place_label, placements_from}
+use Rattle.miette_labels.specs.views.Placing.{drawn_placement}
+use Rattle.miette_labels.specs.declared.placed.PlacedLabel.{PlacedLabel}
+use Rattle.miette_lines.proofs.Cases.{by_cases}
 use Rattle.miette_protocol.proofs.Wholes.{shown_end}
 use Rattle.miette_labels.proofs.RefusedLabel.{read_of}
 
-pub cut_is : (c : ℕ) (source : Source) (span : Span) → IsAccepted source.bytes span
+pub cut_is : (c : ℕ) (source : Source) (span : Span) → IsInBounds source.bytes span
     → min (end_of_span span) (end_of_span (contents c source span).span)
     ≡ min (end_of_span span) (length source.bytes)
 cut_is c source span h = sym (shown_end source span c c h)
@@ -31,10 +31,10 @@ end_is context source labels r h =
     let l : Label = label_at labels r.index in
     ap (λ s. max s.offset (min (end_of_span s) (end_of_span r.contents.span))) h.span
     ∙ ap (λ it. max l.span.offset (min (end_of_span l.span) (end_of_span it.span))) h.contents_are
-    ∙ ap (max l.span.offset) (cut_is (lines_around context labels l) source l.span
-    (subst (λ (s : Span). IsAccepted source.bytes s) h.span h.accepted))
+    ∙ ap (max l.span.offset) (cut_is (label_context context labels l) source l.span
+    (subst (λ (s : Span). IsInBounds source.bytes s) h.span h.accepted))
 
-text_is : (labels : List Label) (i : ℕ) → text_at labels i ≡ (label_at labels i).text
+text_is : (labels : List Label) (i : ℕ) → label_text_at labels i ≡ (label_at labels i).text
 text_is [] i = refl
 text_is (l ∷ ls) zero = refl
 text_is (l ∷ ls) (suc i) = text_is ls i
@@ -86,13 +86,13 @@ at_last style parts true n offset after =
 -- a label as it is placed is the label as it is drawn
 one_is : (ends : Bool) (styles : List Style) (context : ℕ) (source : Source) (labels : List Label) (i : ℕ)
     (r : ReadLabel) → IsRead context source labels r →
-    drawn_placed (placed_one (end_told ends (length source.bytes)) styles i labels r)
+    drawn_placement (place_label (end_told ends (length source.bytes)) styles i labels r)
     ≡ drawn_label ends styles (length source.bytes) i (label_at labels r.index)
 one_is ends styles context source labels i r h =
     let n : ℕ = length source.bytes in
     let l : Label = label_at labels r.index in
     let style : Style = style_at styles i in
-    let parts : List (List ℕ) = parts_of (text_at labels r.index) in
+    let parts : List (List ℕ) = parts_of (label_text_at labels r.index) in
     let drawn : Span → ℕ = λ s. max s.offset (min (end_of_span s) n) in
     ap (λ b. made style parts b r.span.offset (end_drawn r)) (after_is ends n r.span.offset)
     ∙ ap (made style parts (ends && eqb r.span.offset n) r.span.offset) (end_is context source labels r h)
@@ -103,22 +103,22 @@ one_is ends styles context source labels i r h =
 
 placed_reads : (ends : Bool) (styles : List Style) (context : ℕ) (source : Source) (labels : List Label) (i : ℕ)
     (reads : List ReadLabel) → All (IsRead context source labels) reads →
-    map drawn_placed (placed_from (end_told ends (length source.bytes)) styles i labels reads)
+    map drawn_placement (placements_from (end_told ends (length source.bytes)) styles i labels reads)
     ≡ drawn_from ends styles (length source.bytes) i (map (read_of labels) reads)
 placed_reads ends styles context source labels i [] h = refl
 placed_reads ends styles context source labels i (r ∷ rs) h =
-    ap (λ d. d ∷ map drawn_placed (placed_from (end_told ends (length source.bytes)) styles (i + 1) labels rs))
+    ap (λ d. d ∷ map drawn_placement (placements_from (end_told ends (length source.bytes)) styles (i + 1) labels rs))
     (one_is ends styles context source labels i r (h 0 r (omega arith)))
     ∙ ap (λ ds. drawn_label ends styles (length source.bytes) i (label_at labels r.index) ∷ ds)
     (placed_reads ends styles context source labels (i + 1) rs (λ k d lt. h (suc k) d (omega arith)))
 
-drawn_twice : (placed : List PlacedLabel) → map drawn_of placed ≡ map drawn_placed (map placed_of placed)
+drawn_twice : (placed : List PlacedLabel) → map drawn_of placed ≡ map drawn_placement (map placement_of placed)
 drawn_twice [] = refl
 drawn_twice (p ∷ ps) = ap (λ ds. drawn_of p ∷ ds) (drawn_twice ps)
 
 pub placed_drawn : (ends : Bool) (styles : List Style) (context : ℕ) (source : Source) (labels : List Label)
     (reads : List ReadLabel) (placed : List PlacedLabel) → All (IsRead context source labels) reads →
-    map placed_of placed ≡ placed_from (end_told ends (length source.bytes)) styles 0 labels reads →
+    map placement_of placed ≡ placements_from (end_told ends (length source.bytes)) styles 0 labels reads →
     map drawn_of placed ≡ drawn_from ends styles (length source.bytes) 0 (map (read_of labels) reads)
 placed_drawn ends styles context source labels reads placed h e =
-    drawn_twice placed ∙ ap (map drawn_placed) e ∙ placed_reads ends styles context source labels 0 reads h
+    drawn_twice placed ∙ ap (map drawn_placement) e ∙ placed_reads ends styles context source labels 0 reads h

@@ -3,10 +3,10 @@ use Rattle.std.proofs.Common.{ℕ, ◌≡◌, Bool, false, if◌then◌else◌, 
 use Rattle.std.proofs.lemmas.Bool.{and_right}
 use Rattle.miette_protocol.specs.views.Meaning.{Label}
 use Rattle.miette_protocol.specs.rules.Reading.{Source, Span}
-use Rattle.miette_label_rules.specs.rules.Answers.{next_answer, NoneFails}
-use Rattle.miette_label_rules.specs.rules.Around.{has_own}
-use Rattle.miette_label_rules.specs.rules.Groups.{joins_before, joined_span, groups_from, groups_answered, own_groups}
-use Rattle.miette_label_rules.specs.rules.Groups.{groups_of, spans_of, some_fails, groups_fail}
+use Rattle.miette_labels.specs.rules.Answers.{next_answer, NoneFails}
+use Rattle.miette_labels.specs.rules.Around.{has_own_context}
+use Rattle.miette_labels.specs.rules.Groups.{joins_before, joined_span, groups_from, groups_answered, own_groups}
+use Rattle.miette_labels.specs.rules.Groups.{groups_of, spans_of, some_fails, groups_fail}
 
 pub next_none : (fails : List Bool) → NoneFails fails → next_answer fails ≡ false
 next_none [] h = refl
@@ -24,7 +24,7 @@ some_none fails (group ∷ groups) h =
 
 pub none_unread : (context : ℕ) (source : Source) (fails : List Bool) (labels : List Label) → NoneFails fails
     → groups_fail context source fails labels ≡ false
-none_unread context source fails labels none = and_right (has_own labels)
+none_unread context source fails labels none = and_right (has_own_context labels)
     (some_fails fails (groups_of context source fails labels))
     (some_none fails (groups_of context source fails labels) none)
 
@@ -49,5 +49,5 @@ answered_none context source fails (span ∷ spans) h = groups_none context sour
 pub grouped_none : (context : ℕ) (source : Source) (fails : List Bool) (labels : List Label) → NoneFails fails →
     groups_of context source fails labels ≡ groups_of context source [] labels
 grouped_none context source fails labels h =
-    ap (λ gs. if has_own labels then own_groups context source labels else gs)
+    ap (λ gs. if has_own_context labels then own_groups context source labels else gs)
     (answered_none context source fails (spans_of labels) h)

@@ -4,10 +4,10 @@ use Rattle.std.proofs.Common.{refl, sym, ap, ◌∙◌, subst}
 use Rattle.std.specs.Prelude.{unwrap_or, is_some}
 use Rattle.std.specs.List.{list_all, list_any, AllByRecursion}
 use Rattle.miette_protocol.specs.views.Meaning.{Label}
-use Rattle.miette_basics.specs.rules.Lists.{is_nil}
-use Rattle.miette_label_rules.specs.rules.Around.{has_own, lines_around}
-use Rattle.miette_label_rules.specs.rules.Groups.{in_order, put_label}
-use Rattle.miette_basics.proofs.Cases.{by_cases}
+use Rattle.miette_lines.specs.rules.Lists.{is_nil}
+use Rattle.miette_labels.specs.rules.Around.{has_own_context, label_context}
+use Rattle.miette_labels.specs.rules.Groups.{in_order, put_label}
+use Rattle.miette_lines.proofs.Cases.{by_cases}
 use Rattle.miette_labels.proofs.SortedLabels.{in_order_is, sorted_all, sorted_any, sorted_each}
 
 -- ---- labels in order
@@ -33,7 +33,7 @@ pub order_nil : (labels : List Label) → is_nil (in_order labels) ≡ is_nil la
 order_nil [] = refl
 order_nil (label ∷ labels) = put_some label (in_order labels)
 
-pub own_ordered : (labels : List Label) → has_own (in_order labels) ≡ has_own labels
+pub own_ordered : (labels : List Label) → has_own_context (in_order labels) ≡ has_own_context labels
 own_ordered labels = order_any (λ label. is_some label.context) labels
 
 -- ---- where no label has its own number, all are read with the number for all
@@ -43,6 +43,7 @@ pub around_none : (context : ℕ) (own : Bool) (number : Option ℕ) → own ≡
 around_none context own None e h = ap (λ b. cond b (max 1 context) context) e
 around_none context own (Some n) e h = cc
 
-pub none_around : (context : ℕ) (all : List Label) (label : Label) → has_own all ≡ false → is_some label.context ≡ false
-    → lines_around context all label ≡ context
-none_around context all label e h = around_none context (has_own all) label.context e h
+pub none_around : (context : ℕ) (all : List Label) (label : Label) → has_own_context all ≡ false → is_some label.context
+    ≡ false
+    → label_context context all label ≡ context
+none_around context all label e h = around_none context (has_own_context all) label.context e h

@@ -4,9 +4,9 @@ use Rattle.std.proofs.Common.{take, drop, get_or, Option, Some, None, refl, sym,
 use Rattle.std.proofs.lemmas.Bool.Decides.{nat_tests}
 use Rattle.miette_protocol.specs.rules.Reading.{Span}
 use Rattle.miette_labels.specs.declared.reading.ReadLabel.{ReadLabel}
-use Rattle.miette_label_rules.specs.rules.Contexts.{end_of_span}
+use Rattle.miette_labels.specs.rules.Contexts.{end_of_span}
 use Rattle.miette_labels.specs.views.Primary.{end_within, lies_within, chosen_label}
-use Rattle.miette_basics.proofs.Cases.{by_cases}
+use Rattle.miette_lines.proofs.Cases.{by_cases}
 
 pub lt_not : (a b : ℕ) → ltb a b ≡ true → leb b a ≡ false
 lt_not a b h = grind (arith, nat_tests)

@@ -8,7 +8,7 @@ use Rattle.miette_labels.specs.declared.reading.ReadLabel.{ReadLabel}
 use Rattle.miette_labels.specs.declared.reading.ReadLabels.{ReadLabels}
 use Rattle.miette_labels.specs.declared.reading.ReadLabels.TheVariants as reads
 use Rattle.miette_labels.specs.views.Reads.{AreRead}
-use Rattle.miette_label_rules.specs.views.GivenLabels.{label_at}
+use Rattle.miette_labels.specs.views.ProgramLabels.{label_at}
 
 pub all_in_order : (context : ℕ) (source : Source) (labels order : List Label) (read : ReadLabels)
     (items : Vec ReadLabel Global) → AreRead context source labels order read → read ≡ reads.All items

@@ -15,10 +15,10 @@ use Rattle.std.proofs.lemmas.List.Sorted.{All-permutation, IsPermutation-cons, I
 use Rattle.std.proofs.lemmas.List.Sorted.{IsPermutation-sym, IsPermutation-trans, length_permutation}
 use Rattle.std.proofs.lemmas.List.Sorted.{list_any-IsPermutation}
 use Rattle.std.proofs.Common.{IsPermutation}
-use Rattle.miette_labels.specs.declared.order.Turn.{Turn}
-use Rattle.miette_label_rules.specs.views.GivenLabels.{label_at}
-use Rattle.miette_label_rules.specs.rules.Groups.{put_label, in_order, spans_of, put_span, by_begin}
-use Rattle.miette_basics.proofs.Cases.{by_cases}
+use Rattle.miette_labels.specs.declared.order.OrderedLabel.{OrderedLabel}
+use Rattle.miette_labels.specs.views.ProgramLabels.{label_at}
+use Rattle.miette_labels.specs.rules.Groups.{put_label, in_order, spans_of, put_span, by_begin}
+use Rattle.miette_lines.proofs.Cases.{by_cases}
 
 abbrev pub put : {X : Type 0} → (X → ℕ) → X → List X → List X
 put n x [] = x ∷ []
@@ -268,7 +268,7 @@ label_got [] i d lt = absurd (omega (arith, lt))
 label_got (l ∷ ls) zero d lt = refl
 label_got (l ∷ ls) (suc i) d lt = label_got ls i d (omega (arith, lt))
 
--- what `by_offset` shows
+-- what `order_by_offset` shows
 pub ordered : {X : Type 0} (n : X → ℕ) (f : X → Label) (labels : List Label) (xs ys : List X) → map f xs ≡ labels
     → All (λ x. n x ≡ (f x).span.offset) xs →
     IsNonDecreasingBy n ys → IsStableByKey n nat_cmp xs ys → map f ys ≡ in_order labels
@@ -278,12 +278,13 @@ ordered n f labels xs ys e keys up stable =
     ∙ ap in_order e
 
 -- One more label: what the list of turns shows afterwards.
-pub record AreTurns (labels : List Label) (i : ℕ) (turns : List Turn) : Type 0 where
+pub record AreTurns (labels : List Label) (i : ℕ) (turns : List OrderedLabel) : Type 0 where
   pub are : map (λ turn. label_at labels turn.index) turns ≡ take i labels
   pub offsets : All (λ turn. turn.offset ≡ (label_at labels turn.index).span.offset) turns
   pub inside : All (λ turn. turn.index < length labels) turns
 
-turns_pushed : (labels : List Label) (i offset : ℕ) (label : Label) (turns : List Turn) → AreTurns labels i turns → i
+turns_pushed : (labels : List Label) (i offset : ℕ) (label : Label) (turns : List OrderedLabel)
+    → AreTurns labels i turns → i
     < length labels → label ≡ get_or labels i label → offset ≡ label.span.offset →
     AreTurns labels (i + 1) (turns ++ record { index = i; offset = offset } ∷ [])
 turns_pushed labels i offset label turns h lt is off =
@@ -297,9 +298,10 @@ turns_pushed labels i offset label turns h lt is off =
       inside = All-push (λ turn. turn.index < length labels) turns (record { index = i; offset = offset }) h.inside lt;
     }
 
-pub turns_more : (labels : List Label) (i offset : ℕ) (label : Label) (turns more : List Turn) → AreTurns labels i turns
+pub turns_more : (labels : List Label) (i offset : ℕ) (label : Label) (turns more : List OrderedLabel)
+    → AreTurns labels i turns
     → i < length labels → label ≡ get_or labels i label → offset ≡ label.span.offset →
     more ≡ turns ++ record { index = i; offset = offset } ∷ [] → AreTurns labels (i + 1) more
 turns_more labels i offset label turns more h lt is off e =
-    subst (λ (xs : List Turn). AreTurns labels (i + 1) xs) (sym e)
+    subst (λ (xs : List OrderedLabel). AreTurns labels (i + 1) xs) (sym e)
     (turns_pushed labels i offset label turns h lt is off)

@@ -7,22 +7,22 @@ use Rattle.std.specs.Prelude.{unwrap_or}
 use Rattle.std.specs.List.{list_any}
 use Rattle.std.proofs.lemmas.Bool.{eqb-true, eqb-false, eq-eqb, ne_eqb, lt-ltb, le-ltb, and_left, and_right}
 use Rattle.std.proofs.lemmas.Bool.{and_from, cases_lt}
-use Rattle.miette_source_lines.specs.rules.Lines.{line_of, line_end}
+use Rattle.miette_lines.specs.rules.Lines.{line_of, line_end}
 use Rattle.miette_protocol.specs.views.Meaning.{Label}
 use Rattle.miette_protocol.specs.rules.Reading.{Span, Source, reading_end}
 use Rattle.miette_protocol.specs.rules.Context.{first_line, last_line}
 use Rattle.miette_labels.specs.declared.reading.ReadLabel.{ReadLabel}
-use Rattle.miette_label_rules.specs.rules.Around.{has_own, lines_around, group_context}
-use Rattle.miette_label_rules.specs.rules.Contexts.{contents, end_of_span}
-use Rattle.miette_label_rules.specs.rules.Groups.{in_order}
-use Rattle.miette_label_rules.specs.rules.Labels.{shows_end, some_shows_end}
-use Rattle.miette_label_rules.specs.views.GivenLabels.{label_at}
+use Rattle.miette_labels.specs.rules.Around.{has_own_context, label_context, group_context}
+use Rattle.miette_labels.specs.rules.Contexts.{contents, end_of_span}
+use Rattle.miette_labels.specs.rules.Groups.{in_order}
+use Rattle.miette_labels.specs.rules.Labels.{shows_end, some_shows_end}
+use Rattle.miette_labels.specs.views.ProgramLabels.{label_at}
 use Rattle.miette_labels.specs.views.Reads.{IsRead}
-use Rattle.miette_labels.specs.views.Placing.{reads_before, known_end}
-use Rattle.miette_basics.proofs.Cases.{by_cases}
-use Rattle.miette_source_lines.proofs.Places.{line_end_after, line_end_beyond, line_end_le, line_of_mono}
-use Rattle.miette_source_lines.proofs.Places.{line_start_next}
-use Rattle.miette_source_lines.proofs.Cuts.{start_before_end}
+use Rattle.miette_labels.specs.views.Placing.{reads_before, source_end_from_reads}
+use Rattle.miette_lines.proofs.Cases.{by_cases}
+use Rattle.miette_lines.proofs.Places.{line_end_after, line_end_beyond, line_end_le, line_of_mono}
+use Rattle.miette_lines.proofs.Places.{line_start_next}
+use Rattle.miette_lines.proofs.Cuts.{start_before_end}
 use Rattle.miette_protocol.proofs.Wholes.{data_are, offset-le-reading, start_is}
 use Rattle.miette_labels.proofs.OwnContexts.{own_ordered}
 use Rattle.miette_labels.proofs.RefusedLabel.{read_of}
@@ -93,12 +93,13 @@ tells (suc c) source span le =
     ]
 
 read_tells : (context : ℕ) (source : Source) (labels : List Label) (r : ReadLabel) → IsRead context source labels r →
-    reads_before r ≡ shows_end (length source.bytes) (lines_around context labels (read_of labels r)) (read_of labels r)
+    reads_before r ≡ shows_end (length source.bytes) (label_context context labels (read_of labels r))
+    (read_of labels r)
 read_tells context source labels r h =
     let l : Label = label_at labels r.index in
     ap (λ s. ltb r.contents.span.offset s.offset && eqb (end_of_span r.contents.span) s.offset) h.span
     ∙ ap (λ it. ltb it.span.offset l.span.offset && eqb (end_of_span it.span) l.span.offset) h.contents_are
-    ∙ tells (lines_around context labels l) source l.span
+    ∙ tells (label_context context labels l) source l.span
     (subst (λ (s : Span). s.offset ≤ length source.bytes) h.span h.accepted.begins)
 
 -- ---- all reads
@@ -111,22 +112,24 @@ at_end n lines l h =
 
 told_all : (context : ℕ) (source : Source) (labels : List Label) (rs : List ReadLabel)
     → All (IsRead context source labels) rs →
-    known_end rs ≡ end_told (list_any (λ l. shows_end (length source.bytes) (lines_around context labels l) l)
+    source_end_from_reads rs ≡ end_told (list_any (λ l. shows_end (length source.bytes) (label_context context labels l)
+    l)
     (map (read_of labels) rs)) (length source.bytes)
 told_all context source labels [] h = refl
 told_all context source labels (r ∷ rs) h =
     let n : ℕ = length source.bytes in
     let l : Label = label_at labels r.index in
     let own : IsRead context source labels r = h 0 r (omega arith) in
-    let same : reads_before r ≡ shows_end n (lines_around context labels l) l = read_tells context source labels r own
+    let same : reads_before r ≡ shows_end n (label_context context labels l) l = read_tells context source labels r own
     in
     let later = told_all context source labels rs (λ k d lt. h (suc k) d (omega arith)) in
-    by_cases {C = known_end (r ∷ rs) ≡ end_told (list_any (λ l. shows_end n (lines_around context labels l) l)
+    by_cases {C = source_end_from_reads (r ∷ rs) ≡ end_told (list_any (λ l. shows_end n (label_context context labels l)
+    l)
     (map (read_of labels) (r ∷ rs))) n} (reads_before r)
-    (λ t. let u : shows_end n (lines_around context labels l) l ≡ true = sym same ∙ t in
-    let is : r.span.offset ≡ n = ap (λ (s : Span). s.offset) own.span ∙ at_end n (lines_around context labels l) l u in
+    (λ t. let u : shows_end n (label_context context labels l) l ≡ true = sym same ∙ t in
+    let is : r.span.offset ≡ n = ap (λ (s : Span). s.offset) own.span ∙ at_end n (label_context context labels l) l u in
     rw (t, u) (ap Some is))
-    (λ f. let u : shows_end n (lines_around context labels l) l ≡ false = sym same ∙ f in rw (f, u) later)
+    (λ f. let u : shows_end n (label_context context labels l) l ≡ false = sym same ∙ f in rw (f, u) later)
 
 -- the labels by offset, with the lines of context with which their groups are read
 
@@ -144,9 +147,9 @@ around_group true context (Some k) = refl
 pub shows_around : (context n : ℕ) (ls : List Label) → some_shows_end (group_context context ls) n ls
     ≡ some_shows_end context n ls
 shows_around context n ls =
-    any_same (λ l. shows_end n (lines_around (group_context context ls) ls l) l)
-    (λ l. shows_end n (lines_around context ls l) l)
-    (λ l. ap (λ b. ltb 0 n && (eqb l.span.offset n && b)) (around_group (has_own ls) context l.context)) ls
+    any_same (λ l. shows_end n (label_context (group_context context ls) ls l) l)
+    (λ l. shows_end n (label_context context ls l) l)
+    (λ l. ap (λ b. ltb 0 n && (eqb l.span.offset n && b)) (around_group (has_own_context ls) context l.context)) ls
 
 wanted_told : (wanted shows : Bool) (n : ℕ) → cond wanted (end_told shows n) None ≡ end_told (wanted && shows) n
 wanted_told true shows n = refl
@@ -155,12 +158,12 @@ wanted_told false shows n = refl
 -- where the end is wanted, the reads tell it just where the labels at the end are drawn
 pub told_is : (wanted : Bool) (context : ℕ) (source : Source) (labels : List Label) (rs : List ReadLabel)
     → All (IsRead context source labels) rs → map (read_of labels) rs ≡ in_order labels →
-    cond wanted (known_end rs) None
+    cond wanted (source_end_from_reads rs) None
     ≡ end_told (wanted && some_shows_end context (length source.bytes) (in_order labels)) (length source.bytes)
 told_is wanted context source labels rs h order =
     let n : ℕ = length source.bytes in
     ap (λ e. cond wanted e None) (told_all context source labels rs h)
-    ∙ ap (λ ls. cond wanted (end_told (list_any (λ l. shows_end n (lines_around context labels l) l) ls) n) None) order
+    ∙ ap (λ ls. cond wanted (end_told (list_any (λ l. shows_end n (label_context context labels l) l) ls) n) None) order
     ∙ ap (λ own. cond wanted (end_told (list_any (λ l. shows_end n
     (unwrap_or l.context (cond own (max 1 context) context)) l) (in_order labels)) n) None)
     (sym (own_ordered labels))

@@ -4,17 +4,18 @@ use Rattle.std.proofs.Common.{length, take, get_or, refl, sym, ap, ◌∙◌, �
 use Rattle.std.proofs.lemmas.Bool.{lt-ltb, le-ltb, le-leb, lt-leb, ltb-true, ltb-false, cases_lt, eqb-false}
 use Rattle.std.proofs.Math.Seq.{take-nil}
 use Rattle.std.specs.List.{filter}
-use Rattle.miette_label_rules.specs.declared.placed.PlacedLabel.{PlacedLabel}
-use Rattle.miette_labels.specs.declared.sweep.Bounds.{Bounds}
-use Rattle.miette_label_rules.specs.rules.Labels.{reach}
-use Rattle.miette_label_rules.specs.views.GivenLabels.{drawn_of}
+use Rattle.miette_labels.specs.declared.placed.PlacedLabel.{PlacedLabel}
+use Rattle.miette_labels.specs.declared.sweep.LineBounds.{LineBounds}
+use Rattle.miette_labels.specs.rules.Labels.{reach}
+use Rattle.miette_labels.specs.views.ProgramLabels.{drawn_of}
 use Rattle.miette_labels.specs.views.Sweeping.{line_of_bounds, passes, is_one, is_multi, start_at}
-use Rattle.miette_label_rules.specs.views.GivenLabels.{nothing}
+use Rattle.miette_labels.specs.views.ProgramLabels.{no_label}
 use Rattle.miette_labels.specs.views.Sweeping.{AreSorted, IsAt, IsOn}
-use Rattle.miette_basics.proofs.Cases.{by_cases}
+use Rattle.miette_lines.proofs.Cases.{by_cases}
 
 -- on the way through a line
-pub record IsSwept (labels : List PlacedLabel) (line : Bounds) (next : ℕ) (one multi : List PlacedLabel) : Type 0 where
+pub record IsSwept (labels : List PlacedLabel) (line : LineBounds) (next : ℕ) (one multi : List PlacedLabel)
+    : Type 0 where
   pub count : next ≤ length labels
   pub before : (k : ℕ) → k < next → start_at labels k < line.after
   pub later : (k : ℕ) → next ≤ k → k < length labels → line.start ≤ start_at labels k
@@ -28,7 +29,8 @@ reach-gt p le = by_cases {C = p.start < reach (drawn_of p)} (eqb p.start p.after
 
 -- what holds of a label by where it starts
 
-pub inside_past : (line : Bounds) (p : PlacedLabel) → p.start ≤ p.after → line.start ≤ p.start → p.start < line.after
+pub inside_past : (line : LineBounds) (p : PlacedLabel) → p.start ≤ p.after → line.start ≤ p.start → p.start
+    < line.after
     → passes line.after p ≡ true → (is_one (line_of_bounds line) p ≡ false) × (is_multi (line_of_bounds line) p ≡ true)
 inside_past line p ok ge lt past =
     let r : ℕ = reach (drawn_of p) in
@@ -40,7 +42,7 @@ inside_past line p ok ge lt past =
     let d : leb r line.after ≡ false = lt-leb r line.after over in
     (rw (a, b, c, d) refl, rw (a, b, c, d) refl)
 
-inside_ends : (line : Bounds) (p : PlacedLabel) → p.start ≤ p.after → line.start ≤ p.start → p.start < line.after
+inside_ends : (line : LineBounds) (p : PlacedLabel) → p.start ≤ p.after → line.start ≤ p.start → p.start < line.after
     → passes line.after p ≡ false → (is_one (line_of_bounds line) p ≡ true) × (is_multi (line_of_bounds line) p ≡ false)
 inside_ends line p ok ge lt past =
     let r : ℕ = reach (drawn_of p) in
@@ -52,10 +54,10 @@ inside_ends line p ok ge lt past =
     let d : leb r line.after ≡ true = le-leb r line.after under in
     (rw (a, b, c, d) refl, rw (a, b, c, d) refl)
 
-earlier_one : (line : Bounds) (p : PlacedLabel) → p.start < line.start → is_one (line_of_bounds line) p ≡ false
+earlier_one : (line : LineBounds) (p : PlacedLabel) → p.start < line.start → is_one (line_of_bounds line) p ≡ false
 earlier_one line p lt = let a : leb line.start p.start ≡ false = lt-leb line.start p.start lt in rw a refl
 
-pub earlier_multi : (line : Bounds) (p : PlacedLabel) → line.start < line.after → p.start < line.start
+pub earlier_multi : (line : LineBounds) (p : PlacedLabel) → line.start < line.after → p.start < line.start
     → is_multi (line_of_bounds line) p ≡ passes line.start p
 earlier_multi line p some lt =
     let r : ℕ = reach (drawn_of p) in
@@ -68,7 +70,7 @@ earlier_multi line p some lt =
     (λ c. let g : ltb line.after r ≡ false = le-ltb line.after r (omega (arith, some, ltb-false line.start r c)) in
     rw (a, f, c, g) refl)
 
-earlier_past : (line : Bounds) (p : PlacedLabel) → line.start < line.after
+earlier_past : (line : LineBounds) (p : PlacedLabel) → line.start < line.after
     → (passes line.start p && passes line.after p) ≡ passes line.after p
 earlier_past line p some =
     let r : ℕ = reach (drawn_of p) in
@@ -77,7 +79,8 @@ earlier_past line p some =
     (λ c. let g : ltb line.after r ≡ false = le-ltb line.after r (omega (arith, some, ltb-false line.start r c)) in
     rw (c, g) refl)
 
-pub later_none : (line : Bounds) (p : PlacedLabel) → p.start ≤ p.after → line.start < line.after → line.after ≤ p.start
+pub later_none : (line : LineBounds) (p : PlacedLabel) → p.start ≤ p.after → line.start < line.after
+    → line.after ≤ p.start
     → (is_one (line_of_bounds line) p ≡ false) × (is_multi (line_of_bounds line) p ≡ false)
 later_none line p ok some ge =
     let r : ℕ = reach (drawn_of p) in
@@ -92,7 +95,7 @@ later_none line p ok some ge =
 -- filters of the front of a list
 
 filter_front : (p q : PlacedLabel → Bool) (n : ℕ) (xs : List PlacedLabel)
-    → ((k : ℕ) → k < n → k < length xs → p (get_or xs k nothing) ≡ q (get_or xs k nothing)) → filter p (take n xs)
+    → ((k : ℕ) → k < n → k < length xs → p (get_or xs k no_label) ≡ q (get_or xs k no_label)) → filter p (take n xs)
     ≡ filter q (take n xs)
 filter_front p q zero xs h = refl
 filter_front p q (suc n) [] h = refl
@@ -114,7 +117,7 @@ filter_both p q (x ∷ xs) =
 
 -- none after the front passes
 filter_beyond : (p : PlacedLabel → Bool) (n : ℕ) (xs : List PlacedLabel)
-    → ((k : ℕ) → n ≤ k → k < length xs → p (get_or xs k nothing) ≡ false) → filter p (take n xs) ≡ filter p xs
+    → ((k : ℕ) → n ≤ k → k < length xs → p (get_or xs k no_label) ≡ false) → filter p (take n xs) ≡ filter p xs
 filter_beyond p n [] h = ap (filter p) (take-nil n)
 filter_beyond p zero (x ∷ xs) h =
     let own : p x ≡ false = h 0 (omega arith) (omega arith) in
@@ -123,39 +126,43 @@ filter_beyond p (suc n) (x ∷ xs) h =
     ap (λ r. cond (p x) (x ∷ r) r) (filter_beyond p n xs (λ k a b. h (suc k) (omega arith) (omega arith)))
 
 -- where a line begins
-pub swept_init : (labels : List PlacedLabel) (line : Bounds) (next : ℕ) (running : List PlacedLabel) → line.start
+pub swept_init : (labels : List PlacedLabel) (line : LineBounds) (next : ℕ) (running : List PlacedLabel) → line.start
     < line.after → IsAt labels line.start next running → IsSwept labels line next [] running
 swept_init labels line next running some is = record {
   count = is.count;
   before = λ k lt. omega (arith, is.before k lt, some);
   later = is.later;
   one_is = sym (filter_front (is_one (line_of_bounds line)) (λ x. false) next labels
-      (λ k a b. earlier_one line (get_or labels k nothing) (is.before k a)) ∙ filter_no (take next labels));
+      (λ k a b. earlier_one line (get_or labels k no_label) (is.before k a)) ∙ filter_no (take next labels));
   multi_is = is.carried ∙ sym (filter_front (is_multi (line_of_bounds line)) (passes line.start) next labels
-      (λ k a b. earlier_multi line (get_or labels k nothing) some (is.before k a)));
+      (λ k a b. earlier_multi line (get_or labels k no_label) some (is.before k a)));
 }
 
-pub swept_first : (labels : List PlacedLabel) (line : Bounds) (next : ℕ) (running one : List PlacedLabel) → line.start
+pub swept_first : (labels : List PlacedLabel) (line : LineBounds) (next : ℕ) (running one : List PlacedLabel)
+    → line.start
     < line.after → IsAt labels line.start next running → one ≡ [] → IsSwept labels line next one running
 swept_first labels line next running one some is a = rw a (swept_init labels line next running some is)
 
 -- where no more labels start on the line
-abbrev pub IsOver : List PlacedLabel → Bounds → ℕ → Type 0
+abbrev pub IsOver : List PlacedLabel → LineBounds → ℕ → Type 0
 IsOver labels line next = next < length labels → line.after ≤ start_at labels next
 
-beyond : (labels : List PlacedLabel) (line : Bounds) (next : ℕ) → AreSorted labels → IsOver labels line next → (k : ℕ)
+beyond : (labels : List PlacedLabel) (line : LineBounds) (next : ℕ) → AreSorted labels → IsOver labels line next
+    → (k : ℕ)
     → next ≤ k → k < length labels → line.after ≤ start_at labels k
 beyond labels line next sorted over k le lt = omega (arith, over (omega arith), sorted.order next k le lt)
 
-pub swept_one : (labels : List PlacedLabel) (line : Bounds) (next : ℕ) (one multi : List PlacedLabel) → AreSorted labels
+pub swept_one : (labels : List PlacedLabel) (line : LineBounds) (next : ℕ) (one multi : List PlacedLabel)
+    → AreSorted labels
     → line.start < line.after → IsOver labels line next → IsSwept labels line next one multi →
     one ≡ filter (is_one (line_of_bounds line)) labels
 swept_one labels line next one multi sorted some over is =
     is.one_is ∙ filter_beyond (is_one (line_of_bounds line)) next labels
-    (λ k a b. (later_none line (get_or labels k nothing) (sorted.drawn k b) some
+    (λ k a b. (later_none line (get_or labels k no_label) (sorted.drawn k b) some
     (beyond labels line next sorted over k a b)).0)
 
-pub swept_on : (labels : List PlacedLabel) (line : Bounds) (next : ℕ) (one multi : List PlacedLabel) → AreSorted labels
+pub swept_on : (labels : List PlacedLabel) (line : LineBounds) (next : ℕ) (one multi : List PlacedLabel)
+    → AreSorted labels
     → line.start < line.after → IsOver labels line next → IsSwept labels line next one multi →
     IsOn labels (line_of_bounds line) next multi
 swept_on labels line next one multi sorted some over is = record {
@@ -163,17 +170,17 @@ swept_on labels line next one multi sorted some over is = record {
   before = is.before;
   later = beyond labels line next sorted over;
   multi = is.multi_is ∙ filter_beyond (is_multi (line_of_bounds line)) next labels
-      (λ k a b. (later_none line (get_or labels k nothing) (sorted.drawn k b) some
+      (λ k a b. (later_none line (get_or labels k no_label) (sorted.drawn k b) some
       (beyond labels line next sorted over k a b)).1);
 }
 
 -- of the labels that begin before a line's end those that go on past it are of several lines
-on_past : (labels : List PlacedLabel) (line : Bounds) (k : ℕ) → AreSorted labels → line.start < line.after → k
+on_past : (labels : List PlacedLabel) (line : LineBounds) (k : ℕ) → AreSorted labels → line.start < line.after → k
     < length labels → start_at labels k < line.after →
-    (is_multi (line_of_bounds line) (get_or labels k nothing) && passes line.after (get_or labels k nothing))
-    ≡ passes line.after (get_or labels k nothing)
+    (is_multi (line_of_bounds line) (get_or labels k no_label) && passes line.after (get_or labels k no_label))
+    ≡ passes line.after (get_or labels k no_label)
 on_past labels line k sorted some lt before =
-    let p : PlacedLabel = get_or labels k nothing in
+    let p : PlacedLabel = get_or labels k no_label in
     ⊎_elim {C = (is_multi (line_of_bounds line) p && passes line.after p) ≡ passes line.after p}
     (λ less. ap (λ b. b && passes line.after p) (earlier_multi line p some less) ∙ earlier_past line p some)
     (λ ge. by_cases {C = (is_multi (line_of_bounds line) p && passes line.after p) ≡ passes line.after p}
@@ -183,7 +190,7 @@ on_past labels line k sorted some lt before =
     (cases_lt (start_at labels k) line.start)
 
 -- where a line is left
-pub left_at : (labels : List PlacedLabel) (line : Bounds) (next : ℕ) (running left : List PlacedLabel)
+pub left_at : (labels : List PlacedLabel) (line : LineBounds) (next : ℕ) (running left : List PlacedLabel)
     → AreSorted labels → line.start < line.after → IsOn labels (line_of_bounds line) next running → left
     ≡ filter (passes line.after) running →
     IsAt labels line.after next left
@@ -194,8 +201,8 @@ left_at labels line next running left sorted some on is =
       later = on.later;
       carried = is ∙ ap (filter (passes line.after)) on.multi
           ∙ filter_both (is_multi (line_of_bounds line)) (passes line.after) labels
-          ∙ sym (filter_beyond both next labels (λ k a b. ap (λ m. m && passes line.after (get_or labels k nothing))
-          (later_none line (get_or labels k nothing) (sorted.drawn k b) some (on.later k a b)).1))
+          ∙ sym (filter_beyond both next labels (λ k a b. ap (λ m. m && passes line.after (get_or labels k no_label))
+          (later_none line (get_or labels k no_label) (sorted.drawn k b) some (on.later k a b)).1))
           ∙ filter_front both (passes line.after) next labels
           (λ k a b. on_past labels line k sorted some b (on.before k a));
     }

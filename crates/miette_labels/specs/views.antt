@@ -1,4 +1,5 @@
--- What the code's values stand for.
+-- What the values of the code represent.
+pub mod ProgramLabels
 pub mod Turns
 pub mod Placing
 pub mod Primary

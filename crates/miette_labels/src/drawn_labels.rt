@@ -1,19 +1,20 @@
-//! Labels as they are drawn.
+//! Prepares labels for drawing.
 
 ghost use Rattle.std.specs.Prelude.{option_copied, ◌≡◌, map, IfOk};
-ghost use Rattle.miette_label_rules.specs.rules.Labels.{style_at};
-ghost use Rattle.miette_label_rules.specs.views.GivenLabels.{text_at};
-ghost use Rattle.miette_labels.specs.views.Placing.{placed_of, placed_from, placed_one, end_drawn, begins_at_end};
-ghost use Rattle.miette_labels.specs.views.Placing.{reads_before, known_end};
+ghost use Rattle.miette_labels.specs.rules.Labels.{style_at};
+ghost use Rattle.miette_labels.specs.views.ProgramLabels.{label_text_at};
+ghost use Rattle.miette_labels.specs.views.Placing.{placement_of, placements_from, place_label, end_drawn};
+ghost use Rattle.miette_labels.specs.views.Placing.{begins_at_end};
+ghost use Rattle.miette_labels.specs.views.Placing.{reads_before, source_end_from_reads};
 
+use crate::placed::PlacedLabel;
 use crate::reading::ReadLabel;
 use crate::spans::end_of;
-use miette_label_rules::placed::PlacedLabel;
 use miette_protocol::protocol::LabeledSpan;
 use miette_style::style::Style;
 use std::alloc::{AllocError, Global};
 
-// The style of the i-th label by offset; plain where there are no styles.
+// Returns the style of the i-th label, sorted by offset. It is plain if there are no styles.
 fn style_of(styles: &[Style], i: usize) -> Style
     ensures { result ≡ style_at styles.now i }
 {
@@ -24,8 +25,8 @@ fn style_of(styles: &[Style], i: usize) -> Style
     }
 }
 
-// Where a label's drawn end lies: its own end, cut to the end of its read's contents. No read tells where the source
-// ends, but the contents of a label's read end there, or where the label does or later.
+// Returns where a drawn label ends: at its own end, or at the end of its read's contents if that is earlier. No read
+// tells where the source ends, but the contents of a label's read reach the label's end or the source's end.
 fn drawn_end(read: &ReadLabel<'_>) -> Result<usize, AllocError>
     ensures { IfOk result (λ end. end ≡ end_drawn read.now) }
 {
@@ -33,7 +34,7 @@ fn drawn_end(read: &ReadLabel<'_>) -> Result<usize, AllocError>
     Ok(end.max(read.span.offset()))
 }
 
-// Whether a read's contents have bytes before its label and none from there on.
+// Whether the contents of a read have bytes before its label and none from there on.
 fn reads_before(read: &ReadLabel<'_>) -> Result<bool, AllocError>
     ensures { IfOk result (λ before. before ≡ reads_before read.now) }
 {
@@ -43,11 +44,11 @@ fn reads_before(read: &ReadLabel<'_>) -> Result<bool, AllocError>
     Ok(span.offset() < offset && end == offset)
 }
 
-/// Where the source ends, if the reads tell: the contents of a label's read with a line of context have bytes before
-/// the label and none from there on only where the label begins at the end of the source. `AllocError` where the span
-/// of a read ends past the largest `usize`.
-pub fn known_end(reads: &[ReadLabel<'_>]) -> Result<Option<usize>, AllocError>
-    ensures { IfOk result (λ end. end ≡ known_end reads.now) }
+/// Returns the end of the source, if the reads reveal it. They do if a label is read with a line of context, and the
+/// contents end where the label begins: the label is then at the end of the source. Returns `AllocError` if the span of
+/// a read ends after `usize::MAX`.
+pub fn source_end_from_reads(reads: &[ReadLabel<'_>]) -> Result<Option<usize>, AllocError>
+    ensures { IfOk result (λ end. end ≡ source_end_from_reads reads.now) }
 {
     for read in reads {
         if reads_before(read)? {
@@ -57,7 +58,7 @@ pub fn known_end(reads: &[ReadLabel<'_>]) -> Result<Option<usize>, AllocError>
     Ok(None)
 }
 
-// Whether a label begins where the reads show the end of the source.
+// Whether a label begins at the known end of the source.
 fn begins_at_end(end: Option<usize>, offset: usize) -> bool
     ensures { result ≡ begins_at_end end offset }
 {
@@ -67,9 +68,9 @@ fn begins_at_end(end: Option<usize>, offset: usize) -> bool
     }
 }
 
-// The text of the label with this number, which is counted from 0.
+// Returns the text of the label with this zero-based index.
 fn text_of<'a>(labels: &'a [LabeledSpan], index: usize) -> Option<&'a str>
-    ensures { option_copied result ≡ text_at labels.now index }
+    ensures { option_copied result ≡ label_text_at labels.now index }
 {
     match labels.get(index) {
         Some(label) => label.label(),
@@ -77,15 +78,15 @@ fn text_of<'a>(labels: &'a [LabeledSpan], index: usize) -> Option<&'a str>
     }
 }
 
-// A label as it is drawn, in the style of the i-th one.
-fn placed_one<'a>(
+// Prepares one label, with the style of the i-th one.
+fn place_label<'a>(
     end: Option<usize>,
     styles: &[Style],
     i: usize,
     labels: &'a [LabeledSpan],
     read: &ReadLabel<'_>,
 ) -> Result<PlacedLabel<'a>, AllocError>
-    ensures { IfOk result (λ placed. placed_of placed ≡ placed_one end styles.now i labels.now read.now) }
+    ensures { IfOk result (λ placed. placement_of placed ≡ place_label end styles.now i labels.now read.now) }
 {
     let offset = read.span.offset();
     let after_text = begins_at_end(end, offset);
@@ -105,22 +106,23 @@ fn placed_one<'a>(
     })
 }
 
-/// The labels that were read of these, in the order of their reads, as they are drawn: each with its style by its place
-/// in that order, and its text. Those that begin where the reads show the end of the source stand after the text of its
-/// last line, as empty ones at its last byte. `AllocError` where memory is refused, or the span of a label or of its
-/// read ends past the largest `usize`.
-pub fn placed_labels<'a>(
+/// Prepares the labels that were read for drawing, in the order of their reads. Each gets its text, and the style of
+/// its position in that order. A label at the known end of the source becomes an empty one after the text of the last
+/// line, at that line's last byte. Returns `AllocError` if allocation fails, or if the span of a label or of its read
+/// ends after `usize::MAX`.
+pub fn place_labels<'a>(
     alloc: Global,
     styles: &[Style],
     end: Option<usize>,
     labels: &'a [LabeledSpan],
     reads: &[ReadLabel<'_>],
 ) -> Result<Vec<PlacedLabel<'a>>, AllocError>
-    ensures { IfOk result (λ placed. map placed_of placed.items ≡ placed_from end styles.now 0 labels.now reads.now) }
+    ensures { IfOk result (λ placed. map placement_of placed.items ≡ placements_from end styles.now 0 labels.now
+        reads.now) }
 {
     let mut placed = Vec::with_capacity(alloc, reads.len())?;
     for (i, read) in reads.iter().enumerate() {
-        placed.push(placed_one(end, styles, i, labels, read)?)?;
+        placed.push(place_label(end, styles, i, labels, read)?)?;
     }
     Ok(placed)
 }

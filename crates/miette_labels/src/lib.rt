@@ -1,12 +1,13 @@
-//! Labels over lines: their reads and groups, and which lie on which line.
+//! Labels: how they are read, grouped into snippets, and assigned to lines.
 #![tactic(auto)]
 
+mod data_spans;
 pub mod drawn_labels;
-pub mod grouping;
+pub mod groups;
 pub mod line_sweep;
 pub mod order;
+pub mod placed;
 pub mod primary;
 pub mod reading;
 mod spans;
-mod stretches;
 pub mod sweep;

@@ -1,17 +1,17 @@
-//! The lines of a snippet, one after another, and a sweep over labels that goes along with them.
+//! Sweeps over the labels of a snippet, line by line.
 
 ghost use Rattle.std.specs.Prelude.{◌≡◌, ◌+◌, ◌-◌, ◌<◌, ◌≤◌, ◌∷◌, ◌^◌, drop, length, OnOk};
 ghost use Rattle.std.specs.List.{filter};
 ghost use Rattle.miette_labels.specs.views.Sweeping.{IsAt, IsOn, AreSorted, is_one, line_of_bounds};
-ghost use Rattle.miette_source_lines.specs.rules.Lines.{lines_from};
-ghost use Rattle.miette_source_lines.specs.views.Walking.{line_of_text};
+ghost use Rattle.miette_lines.specs.rules.Lines.{lines_from};
+ghost use Rattle.miette_lines.specs.views.Walking.{line_of_text};
 
-use crate::sweep::{Bounds, Sweep};
-use miette_label_rules::placed::PlacedLabel;
-use miette_source_lines::lines::{LineOfText, first_line};
+use crate::placed::PlacedLabel;
+use crate::sweep::{LineBounds, Sweep};
+use miette_lines::lines::{LineOfText, first_line};
 use std::alloc::AllocError;
 
-/// The line of some bytes that begins `at` bytes after their first one, which stands at this offset.
+/// Returns the line that begins `at` bytes into these bytes. The first byte has the offset `start`.
 pub fn line_at(bytes: &[u8], start: usize, at: usize) -> LineOfText
     requires inside { at < length bytes.now }
     requires small { start + length bytes.now < 2 ^ 64 }
@@ -26,7 +26,8 @@ pub fn line_at(bytes: &[u8], start: usize, at: usize) -> LineOfText
     first_line(&bytes[at..], start + at)
 }
 
-/// Goes on to the labels of a line. `AllocError` where memory is refused; where the sweep then is, is open.
+/// Advances the sweep to the labels of a line. Returns `AllocError` if allocation fails; the position of the sweep is
+/// then unspecified.
 pub fn enter_line<'a>(
     labels: &[PlacedLabel<'a>],
     line: &LineOfText,
@@ -40,16 +41,16 @@ pub fn enter_line<'a>(
         (line_of_bounds (record { start = line.now.start; after = line.now.end })) sweep.new.next
         sweep.new.running.items) }
 {
-    let bounds = Bounds {
+    let bounds = LineBounds {
         start: line.start,
         after: line.end,
     };
     sweep.enter(labels, &bounds)
 }
 
-/// Brings a sweep over lines whose labels nobody asks for. `AllocError` where memory is refused; where the sweep then
-/// is, is open.
-pub fn pass_over<'a>(
+/// Advances the sweep over lines whose labels aren't needed. Returns `AllocError` if allocation fails; the position of
+/// the sweep is then unspecified.
+pub fn skip_lines<'a>(
     labels: &[PlacedLabel<'a>],
     from: usize,
     to: usize,
@@ -63,7 +64,7 @@ pub fn pass_over<'a>(
     if to <= from {
         return Ok(());
     }
-    let bounds = Bounds {
+    let bounds = LineBounds {
         start: from,
         after: to,
     };

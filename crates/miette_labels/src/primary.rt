@@ -1,8 +1,8 @@
-//! Where a snippet's frame points to.
+//! The location that a snippet's frame shows.
 
 ghost use Rattle.std.specs.Prelude.{◌≡◌, None, IfOk};
 ghost use Rattle.std.specs.List.Sorted.{IsNonDecreasingBy};
-ghost use Rattle.miette_source_lines.specs.views.Known.{IsKnown};
+ghost use Rattle.miette_lines.specs.views.Known.{IsKnown};
 ghost use Rattle.miette_labels.specs.views.Primary.{chosen_label, end_within as end_of_label, PointsTo};
 
 use crate::reading::ReadLabel;
@@ -11,21 +11,21 @@ use miette_protocol::protocol::SourceSpan;
 use miette_protocol::source::{KnownLines, SourceCode};
 use std::alloc::AllocError;
 
-/// Where a snippet's primary label begins.
+/// Where the primary label of a snippet begins.
 #[derive(Clone, Copy, Debug, PartialEq, Eq)]
 pub enum Place {
-    /// No label lies within the snippet's span.
+    /// The snippet has no label within its span.
     Nowhere,
-    /// The line and the column, both counted from 0.
+    /// The zero-based line and column.
     At(usize, usize),
-    /// The read of it failed.
+    /// The label could not be read.
     Unread,
 }
 
 impl Place {
     ghost use Rattle.miette_labels.specs.views.Primary.{begins_of, is_unread};
 
-    /// The line and the column, where there are any.
+    /// Returns the line and the column, if there are any.
     pub fn begins(self) -> Option<(usize, usize)>
         ensures { result ≡ begins_of self }
     {
@@ -46,7 +46,7 @@ impl Place {
     }
 }
 
-// The end of a label that must lie in its group: its beginning where labels have their own numbers of context lines.
+// Returns the end that must be within the group: the label's end, or its start if labels have their own context lines.
 fn end_within(own: bool, span: &SourceSpan) -> Result<usize, AllocError>
     ensures { IfOk result (λ end. end ≡ end_of_label own span.now) }
 {
@@ -56,7 +56,7 @@ fn end_within(own: bool, span: &SourceSpan) -> Result<usize, AllocError>
     end_of(span)
 }
 
-// The first label of a group that is marked as primary, else the first one of it.
+// Returns the first primary label of a group, or else its first label.
 fn primary(
     own: bool,
     span: &SourceSpan,
@@ -80,9 +80,9 @@ fn primary(
     Ok(first)
 }
 
-// Of labels by offset those that begin in a span or where it ends, found by halving: the span's primary label is
-// among them.
-pub fn reads_near<'r, 'a>(
+// Returns the labels that begin within a span or at its end, by binary search. The labels are sorted by offset. The
+// primary label of the span is among them.
+pub fn reads_in_span<'r, 'a>(
     own: bool,
     span: &SourceSpan,
     reads: &'r [ReadLabel<'a>],
@@ -97,11 +97,14 @@ pub fn reads_near<'r, 'a>(
     Ok(&reads[first.min(after)..after])
 }
 
-/// Where the primary label of a group with this span begins, by a read without context. A label belongs to the group
-/// where its span lies within the group's; or, where labels have their `own` numbers of context lines, where it
-/// begins in the group's bytes or at their end. `AllocError` where the group's span or a label's ends past the
-/// largest `usize`; a read that fails is the place `Unread`. Lines near the group are known.
-pub fn place_of<S: SourceCode>(
+/// Returns where the primary label of a group begins, by a read without context. A label belongs to the group if its
+/// span is within the group's span. If labels have their `own` context lines, it belongs to the group if it begins
+/// within the group's bytes or at their end. `known` are offsets near the group whose lines are known.
+///
+/// # Errors
+/// `AllocError` if the span of the group or of a label ends after `usize::MAX`. A read that fails isn't an error; the
+/// result is then `Unread`.
+pub fn primary_location_of<S: SourceCode>(
     source: &S,
     own: bool,
     known: KnownLines,

@@ -1,47 +1,46 @@
-//! Each label read with its context.
+//! Reads labels with their context.
 
 ghost use Rattle.std.specs.Prelude.{◌≡◌, ◌<◌, map, length, IfOk, unwrap_or, if◌then◌else◌, max};
 ghost use Rattle.std.specs.List.{All};
-ghost use Rattle.miette_label_rules.specs.rules.Around.{has_own};
-ghost use Rattle.miette_label_rules.specs.views.GivenLabels.{label_at};
+ghost use Rattle.miette_labels.specs.rules.Around.{has_own_context};
+ghost use Rattle.miette_labels.specs.views.ProgramLabels.{label_at};
 ghost use Rattle.miette_labels.specs.views.Reads.{AreRead};
 ghost use Rattle.miette_labels.specs.steps.Reads.{Reason};
 
-use crate::order::Turn;
+use crate::order::OrderedLabel;
 use miette_protocol::error::MietteError;
 use miette_protocol::protocol::{LabeledSpan, SourceSpan};
 use miette_protocol::source::{MietteSpanContents, START, SourceCode};
 use std::alloc::{AllocError, Global};
 
-/// A label that was read: its number in the list as given, its span, whether it is marked as primary, and the read's
-/// contents.
+/// A label that was read.
 #[derive(Debug, Drop)]
 pub struct ReadLabel<'a> {
-    /// Its number in the list as given, counted from 0.
+    /// The zero-based index of the label in the given list.
     pub index: usize,
-    /// Its span as given, in bytes of the source.
+    /// The span of the label, in bytes of the source.
     pub span: SourceSpan,
-    /// Whether it is marked as primary.
+    /// Whether the label is primary.
     pub primary: bool,
-    /// The contents of its read with the lines around it.
+    /// The contents of its read, with context lines.
     pub contents: MietteSpanContents<'a>,
 }
 
-/// Why a label is refused.
+/// Why a label could not be read.
 #[derive(Clone, Copy, Debug, PartialEq, Eq)]
 pub enum RefusalReason {
-    /// Its read failed.
+    /// The read failed.
     IoError,
-    /// Its span isn't accepted.
+    /// The span is out of bounds.
     OutOfBounds,
 }
 
-/// What the reads of all labels gave.
+/// The result of reading all labels.
 #[derive(Debug, Drop)]
 pub enum ReadLabels<'a> {
-    /// All labels, in the order of their reads.
+    /// All labels, in the order in which they were read.
     All(Vec<ReadLabel<'a>>),
-    /// The first one that is refused, by its number in the list as given.
+    /// The first label that could not be read, by its index in the given list.
     Refused(usize, RefusalReason),
 }
 
@@ -54,9 +53,9 @@ fn reason_of(error: &MietteError) -> RefusalReason
     }
 }
 
-/// Whether some label has its own number of context lines.
-pub fn some_own(labels: &[LabeledSpan]) -> bool
-    ensures { result ≡ has_own labels.now }
+/// Whether a label has its own number of context lines.
+pub fn any_own_context(labels: &[LabeledSpan]) -> bool
+    ensures { result ≡ has_own_context labels.now }
 {
     for label in labels {
         if label.context_lines().is_some() {
@@ -66,44 +65,44 @@ pub fn some_own(labels: &[LabeledSpan]) -> bool
     false
 }
 
-/// The lines around a label that has no number of its own: this one, which counts as at least 1 where some label has
-/// its own.
-pub fn usual_lines(context: usize, own: bool) -> usize
+/// Returns the number of context lines of labels that don't have their own: `context`, but at least 1 if another label
+/// has its own.
+pub fn default_context(context: usize, own: bool) -> usize
     ensures { result ≡ (if own then max 1 context else context) }
 {
     if own { context.max(1) } else { context }
 }
 
-/// The lines around a label: its own number, else that of a label that has none.
-pub fn lines_around(context: usize, own: bool, label: &LabeledSpan) -> usize
+/// Returns the number of context lines of a label: its own, or else that of labels without one.
+pub fn label_context(context: usize, own: bool, label: &LabeledSpan) -> usize
     ensures { result ≡ unwrap_or label.now.context (if own then max 1 context else context) }
 {
     match label.context_lines() {
         Some(lines) => lines,
-        None => usual_lines(context, own),
+        None => default_context(context, own),
     }
 }
 
-/// Reads the labels in this order, each near the one before it, with its own number of context lines or with this one,
-/// up to the first one that is refused. Where some label has its own number, this one counts as at least 1.
-/// `AllocError` where memory is refused.
+/// Reads labels in the given order, until one can't be read. Each is read with its own number of context lines, or else
+/// with `context`, but at least 1 if another label has its own. Each read starts near the previous one. Returns
+/// `AllocError` if allocation fails.
 pub fn read_labels<'a, S: SourceCode>(
     alloc: Global,
     source: &'a S,
     context: usize,
     labels: &[LabeledSpan],
-    order: &[Turn],
+    order: &[OrderedLabel],
 ) -> Result<ReadLabels<'a>, AllocError>
     requires { All (λ turn. turn.index < length labels.now) order.now }
     ensures { IfOk result (λ read. AreRead context (S.source source.now) labels.now
         (map (λ turn. label_at labels.now turn.index) order.now) read) }
 {
-    let own = some_own(labels);
+    let own = any_own_context(labels);
     let mut reads = Vec::with_capacity(alloc, order.len())?;
     let mut known = START;
     for turn in order {
         let label = &labels[turn.index];
-        let lines = lines_around(context, own, label);
+        let lines = label_context(context, own, label);
         match source.read_span_near(known, label.inner(), lines, lines) {
             Ok(contents) => {
                 known = contents.known();

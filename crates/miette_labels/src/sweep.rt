@@ -1,35 +1,34 @@
-//! Which labels lie on a line, by one sweep over labels that come by offset.
+//! Finds the labels of each line by one sweep over labels that are sorted by offset.
 
 ghost use Rattle.std.specs.Prelude.{◌≡◌, ◌<◌, [], OnOk, IfOk};
 ghost use Rattle.std.specs.List.{filter};
 ghost use Rattle.miette_labels.specs.views.Sweeping.{passes, is_one, IsAt, IsOn, AreSorted};
 ghost use Rattle.miette_labels.specs.views.Sweeping.{line_of_bounds};
 
-use miette_label_rules::placed::PlacedLabel;
+use crate::placed::PlacedLabel;
 use std::alloc::{AllocError, Global};
 
 /// Where a line begins, and where it ends with its terminator.
 #[derive(Clone, Copy, Debug, PartialEq, Eq, Drop)]
-pub struct Bounds {
+pub struct LineBounds {
     /// The offset of its first byte in the source.
     pub start: usize,
     /// The offset after its last byte.
     pub after: usize,
 }
 
-/// The labels that began before a place and go on past it, how many began before it, and those that lie alone on the
-/// line that was entered last.
+/// The state of a sweep between two lines.
 #[derive(Debug, Drop)]
 pub struct Sweep<'a> {
-    /// The labels that began before the place and go on past it, by offset.
+    /// The labels that began before this position and continue past it, sorted by offset.
     pub running: Vec<PlacedLabel<'a>>,
-    /// How many labels began before the place, which is the index of the next one by offset.
+    /// How many labels began before this position. It is the index of the next label.
     pub next: usize,
-    /// The labels that lie alone on the line that was entered last, by offset.
+    /// The labels that are on the last line only, sorted by offset.
     pub alone: Vec<PlacedLabel<'a>>,
 }
 
-// Whether a label goes on past a place.
+// Whether a label continues past an offset.
 fn goes_past(label: &PlacedLabel<'_>, place: usize) -> bool
     ensures { result ≡ passes place label.now }
 {
@@ -41,7 +40,7 @@ fn goes_past(label: &PlacedLabel<'_>, place: usize) -> bool
 }
 
 impl<'a> Sweep<'a> {
-    /// A sweep before the first label.
+    /// Creates a sweep before the first label.
     pub fn new(alloc: Global) -> Self
         ensures next { result.next ≡ 0 }
         ensures running { result.running.items ≡ [] }
@@ -53,7 +52,7 @@ impl<'a> Sweep<'a> {
         }
     }
 
-    /// A sweep at the same place, which has entered no line yet. `AllocError` where memory is refused.
+    /// Returns a sweep at the same position that has not entered a line yet. Returns `AllocError` if allocation fails.
     pub fn copy(&self, alloc: Global) -> Result<Sweep<'a>, AllocError>
         ensures next { IfOk result (λ copy. copy.next ≡ self.now.next) }
         ensures running { IfOk result (λ copy. copy.running.items ≡ self.now.running.items) }
@@ -65,8 +64,8 @@ impl<'a> Sweep<'a> {
         })
     }
 
-    /// Comes back to the place of another sweep over the same labels.
-    pub fn come_back(&mut self, place: Sweep<'a>)
+    /// Returns to the position of another sweep over the same labels.
+    pub fn return_to(&mut self, place: Sweep<'a>)
         ensures next { self.new.next ≡ place.entry.next }
         ensures running { self.new.running.items ≡ place.entry.running.items }
     {
@@ -74,9 +73,9 @@ impl<'a> Sweep<'a> {
         self.next = place.next;
     }
 
-    /// Goes on to the labels of the next line: `running` are then those of several lines that lie on it, and `alone`
-    /// those that lie on it alone. `AllocError` where memory is refused; where the sweep then is, is open.
-    pub fn enter(&mut self, labels: &[PlacedLabel<'a>], line: &Bounds) -> Result<(), AllocError>
+    /// Advances to the next line. Afterwards `running` has the multi-line labels on it, and `alone` the labels that are
+    /// on this line only. Returns `AllocError` if allocation fails; the position is then unspecified.
+    pub fn enter(&mut self, labels: &[PlacedLabel<'a>], line: &LineBounds) -> Result<(), AllocError>
         requires sorted { AreSorted labels.now }
         requires some { line.now.start < line.now.after }
         requires at { IsAt labels.now line.now.start self.old.next self.old.running.items }
@@ -98,7 +97,7 @@ impl<'a> Sweep<'a> {
         Ok(())
     }
 
-    /// Goes on to the end of a line whose labels `running` are: those that go on past it are left.
+    /// Leaves the line that ends at `after`. Keeps the labels in `running` that continue past it.
     pub fn leave(&mut self, after: usize)
         ensures next { self.new.next ≡ self.old.next }
         ensures running { self.new.running.items ≡ filter (passes after) self.old.running.items }

@@ -8,15 +8,16 @@ use Rattle.std.proofs.lemmas.List.{drop_more, get_or_past, length-drop, length-t
 use Rattle.std.proofs.lemmas.List.{map-append, take-append-drop}
 use Rattle.bstr.specs.Utf8.{continues, decoded, or_replacement, pieces}
 use Rattle.bstr.proofs.lemmas.PieceLemmas.{StartsClean, piece-bounds, pieces-append}
-use Rattle.miette_basics.proofs.Cases.{by_cases}
-use Rattle.miette_cells.specs.rules.Cells.{Character, characters}
-use Rattle.miette_cells.proofs.Plaining.{ascii_decoded}
-use Rattle.miette_cells.proofs.Stepping.{character, characters_end, characters_step, made}
+use Rattle.miette_lines.proofs.Cases.{by_cases}
+use Rattle.miette_columns.specs.rules.Cells.{Character, characters}
+use Rattle.miette_columns.proofs.Plaining.{ascii_decoded}
+use Rattle.miette_columns.proofs.Stepping.{character, characters_end, characters_step, made}
 use Rattle.miette_lint.specs.rules.Findings.{is_blank}
 use Rattle.miette_lint.proofs.EditPlaces.{IsBeside}
-use Rattle.miette_positions.specs.declared.place.PositionEncoding.{PositionEncoding}
-use Rattle.miette_positions.specs.declared.place.Stop.{Stop}
-use Rattle.miette_positions.specs.rules.Stops.{begins_with_lf, is_pair, moved_by, start, stop_past, stops_after, stops_of}
+use Rattle.miette_positions.specs.declared.position.PositionEncoding.{PositionEncoding}
+use Rattle.miette_positions.specs.declared.position.Stop.{Stop}
+use Rattle.miette_positions.specs.rules.Stops.{begins_with_lf, is_pair, moved_by, start, stop_past, stops_after}
+use Rattle.miette_positions.specs.rules.Stops.{stops_of}
 
 -- ---- stops of characters
 

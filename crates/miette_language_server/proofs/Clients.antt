@@ -1,12 +1,13 @@
 -- What calls leave of a client.
 use Rattle.std.proofs.Common.{◌≡◌, ◌↔◌, Bool, true, false, IsTrue, List, Option, Ok, Err, ℕ, refl}
-use Rattle.miette_devices.specs.declared.fault.Fault.{Fault}
-use Rattle.miette_devices.specs.declared.fault.Fault.TheVariants.{Read, Write}
+use Rattle.miette_devices.specs.declared.fault.ProgramError.{ProgramError}
+use Rattle.miette_devices.specs.declared.fault.ProgramError.TheVariants.{Read, Write}
 use Rattle.miette_devices.specs.views.DeviceState.{DeviceState}
 use Rattle.miette_language_server.specs.views.ClientState.{ClientState, IsOpen, WriterState}
 
 -- after a call that was done the stream has not failed
-pub not_failed : {T : Type 0} (failed : Bool) (x : T) (f : Fault) → (IsTrue failed ↔ (Ok x ≡ Err f)) → failed ≡ false
+pub not_failed : {T : Type 0} (failed : Bool) (x : T) (f : ProgramError) → (IsTrue failed ↔ (Ok x ≡ Err f)) → failed
+    ≡ false
 not_failed false x f h = refl
 not_failed true x f h = let e : Ok x ≡ Err f = h.0 refl in cc
 

@@ -5,8 +5,8 @@ use Rattle.std.proofs.Common.{◌∙◌, get_or, length, take, ◌≤◌, suc, z
 use Rattle.std.specs.Option.{option_or}
 use Rattle.std.specs.Io.KnownBytes.{Consumes, IsAtEnd}
 use Rattle.std.proofs.lemmas.Bool.{eq-eqb, ne_eqb}
-use Rattle.miette_language_server.specs.rules.Frames.{is_empty_row, known_length, length_from, row_length}
-use Rattle.miette_language_server.specs.views.Answered.{IsHeaderFrom, IsNext}
+use Rattle.miette_language_server.specs.rules.Frames.{ends_header, known_length, length_from, content_length_in}
+use Rattle.miette_language_server.specs.views.Answered.{IsHeaderFrom, IsNextByte}
 
 -- ---- one byte
 
@@ -39,17 +39,18 @@ pub within_row : (known : Option ℕ) (row : List ℕ) (b : ℕ) (ys : List ℕ)
     → length_from known row (b ∷ ys) ≡ length_from known (row ++ b ∷ []) ys
 within_row known row b ys h = rw h refl
 
-pub after_row : (known : Option ℕ) (row : List ℕ) (b : ℕ) (ys : List ℕ) → eqb b 10 ≡ true → is_empty_row row ≡ false
-    → length_from known row (b ∷ ys) ≡ length_from (option_or (row_length row) known) [] ys
+pub after_row : (known : Option ℕ) (row : List ℕ) (b : ℕ) (ys : List ℕ) → eqb b 10 ≡ true → ends_header row ≡ false
+    → length_from known row (b ∷ ys) ≡ length_from (option_or (content_length_in row) known) [] ys
 after_row known row b ys h more = rw (h, more) refl
 
-pub after_all : (known : Option ℕ) (row : List ℕ) (b : ℕ) (ys : List ℕ) → eqb b 10 ≡ true → is_empty_row row ≡ true
+pub after_all : (known : Option ℕ) (row : List ℕ) (b : ℕ) (ys : List ℕ) → eqb b 10 ≡ true → ends_header row ≡ true
     → length_from known row (b ∷ ys) ≡ known_length known ys
 after_all known row b ys h none = rw (h, none) refl
 
 -- one more byte of a row
 pub more_of_row : (known : Option ℕ) (row : List ℕ) (b : ℕ) (old mid new : Option (List ℕ)) (size : Option ℕ) → b ≢ 10
-    → IsNext old mid (Some b) → IsHeaderFrom known (row ++ b ∷ []) mid new size → IsHeaderFrom known row old new size
+    → IsNextByte old mid (Some b) → IsHeaderFrom known (row ++ b ∷ []) mid new size
+    → IsHeaderFrom known row old new size
 more_of_row known row b None mid new size ne n h = tt
 more_of_row known row b (Some xs) None new size ne n h = absurd n
 more_of_row known row b (Some xs) (Some ys) new size ne n h =
@@ -58,12 +59,12 @@ more_of_row known row b (Some xs) (Some ys) new size ne n h =
 
 -- the end of a row
 pub more_rows : (known : Option ℕ) (row : List ℕ) (b : ℕ) (old mid new : Option (List ℕ)) (size : Option ℕ) → b ≡ 10
-    → is_empty_row row ≡ false → IsNext old mid (Some b)
-    → IsHeaderFrom (option_or (row_length row) known) [] mid new size → IsHeaderFrom known row old new size
+    → ends_header row ≡ false → IsNextByte old mid (Some b)
+    → IsHeaderFrom (option_or (content_length_in row) known) [] mid new size → IsHeaderFrom known row old new size
 more_rows known row b None mid new size is more n h = tt
 more_rows known row b (Some xs) None new size is more n h = absurd n
 more_rows known row b (Some xs) (Some ys) new size is more n h =
-    header_by known (option_or (row_length row) known) row [] xs ys new size
+    header_by known (option_or (content_length_in row) known) row [] xs ys new size
     (ap (length_from known row) n ∙ after_row known row b ys (eq-eqb b 10 is) more) h
 
 known_here : (known : Option ℕ) (row xs ys : List ℕ) → length_from known row xs ≡ known_length known ys
@@ -73,14 +74,14 @@ known_here (Some n) row xs ys e = e
 
 -- the end of the header
 pub no_more_rows : (known : Option ℕ) (row : List ℕ) (b : ℕ) (old mid : Option (List ℕ)) → b ≡ 10
-    → is_empty_row row ≡ true → IsNext old mid (Some b) → IsHeaderFrom known row old mid known
+    → ends_header row ≡ true → IsNextByte old mid (Some b) → IsHeaderFrom known row old mid known
 no_more_rows known row b None mid is none n = tt
 no_more_rows known row b (Some xs) None is none n = absurd n
 no_more_rows known row b (Some xs) (Some ys) is none n =
     known_here known row xs ys (ap (length_from known row) n ∙ after_all known row b ys (eq-eqb b 10 is) none)
 
 -- the end of all
-pub no_header : (known : Option ℕ) (row : List ℕ) (old new : Option (List ℕ)) → IsNext old new None
+pub no_header : (known : Option ℕ) (row : List ℕ) (old new : Option (List ℕ)) → IsNextByte old new None
     → IsHeaderFrom known row old new None
 no_header known row None new n = tt
 no_header known row (Some xs) new n = ap (length_from known row) n

@@ -12,8 +12,8 @@ use lib.Seq.{take-append_seam}
 use Rattle.std.proofs.lemmas.Bool.Decides.{nat_tests}
 use Rattle.std.proofs.lemmas.Fmt.{decimal_by_steps}
 use Rattle.miette_language_server.specs.rules.Frames.{first_frame, framed, header_text, is_blank}
-use Rattle.miette_language_server.specs.rules.Frames.{is_empty_row, length_from, number, number_from, row_length}
-use Rattle.miette_language_server.specs.rules.Frames.{trimmed}
+use Rattle.miette_language_server.specs.rules.Frames.{ends_header, length_from, number, number_from, content_length_in}
+use Rattle.miette_language_server.specs.rules.Frames.{without_blanks}
 use Rattle.miette_language_server.specs.rules.Frames.{with_digit, without_leading, without_trailing}
 use Rattle.miette_language_server.proofs.Bodies.{cut_at, cut_whole}
 use Rattle.miette_language_server.proofs.Headers.{after_all, after_row, within_row}
@@ -150,7 +150,7 @@ colon_at xs =
     in
     rw within refl
 
-value_read : (n : ℕ) (ds : List ℕ) → Writes n ds → number (trimmed (32 ∷ (ds ++ 13 ∷ []))) ≡ Some n
+value_read : (n : ℕ) (ds : List ℕ) → Writes n ds → number (without_blanks (32 ∷ (ds ++ 13 ∷ []))) ≡ Some n
 value_read n [] h = let bad : None ≡ Some n = none_written n h in cc
   where
     none_written : (n : ℕ) → Writes n [] → None ≡ Some n
@@ -159,23 +159,24 @@ value_read n (d ∷ ds) h =
     let all : without_leading (32 ∷ ((d ∷ ds) ++ 13 ∷ [])) ≡ (d ∷ ds) ++ 13 ∷ [] =
     begin_trimmed d (ds ++ 13 ∷ []) h.digits.0
     in
-    let same : trimmed (32 ∷ ((d ∷ ds) ++ 13 ∷ [])) ≡ d ∷ ds =
+    let same : without_blanks (32 ∷ ((d ∷ ds) ++ 13 ∷ [])) ≡ d ∷ ds =
     ap without_trailing all ∙ ap (λ l. without_trailing (l ++ 13 ∷ [])) h.parts ∙ end_trimmed h.front h.last h.low
     ∙ sym h.parts
     in
     ap number same ∙ h.is
 
-length_told : (n : ℕ) (ds : List ℕ) → Writes n ds → row_length (codes "Content-Length: " ++ (ds ++ 13 ∷ [])) ≡ Some n
+length_told : (n : ℕ) (ds : List ℕ) → Writes n ds → content_length_in (codes "Content-Length: " ++ (ds ++ 13 ∷ []))
+    ≡ Some n
 length_told n ds h = rw (colon_at (ds ++ 13 ∷ [])) (value_read n ds h)
 
-not_empty : (n : ℕ) (ds : List ℕ) → Writes n ds → is_empty_row (codes "Content-Length: " ++ (ds ++ 13 ∷ [])) ≡ false
+not_empty : (n : ℕ) (ds : List ℕ) → Writes n ds → ends_header (codes "Content-Length: " ++ (ds ++ 13 ∷ [])) ≡ false
 not_empty n ds h =
     let row = codes "Content-Length: " ++ (ds ++ 13 ∷ []) in
     let front = codes "Content-Length: " ++ h.front in
     let parts : row ≡ (front ++ h.last ∷ []) ++ 13 ∷ [] =
     ap (λ l. codes "Content-Length: " ++ (l ++ 13 ∷ [])) h.parts
     in
-    let same : trimmed row ≡ front ++ h.last ∷ [] = ap without_trailing parts ∙ end_trimmed front h.last h.low in
+    let same : without_blanks row ≡ front ++ h.last ∷ [] = ap without_trailing parts ∙ end_trimmed front h.last h.low in
     ap (λ l. eqb (length l) 0) same
     ∙ ne_eqb (length (front ++ h.last ∷ [])) 0 (λ e. omega (arith, e, length-append front (h.last ∷ [])))
 

@@ -3,9 +3,9 @@ use Rattle.std.proofs.Common.{◌≡◌, ℕ, ◌<◌, List, [], ◌∷◌, ◌+
 use Rattle.std.proofs.Common.{None}
 use Rattle.std.proofs.Common.{sym, arith, length, length-drop, subst}
 use Rattle.std.specs.Option.{option_and_then, option_or}
-use Rattle.miette_basics.proofs.Cases.{by_cases}
-use Rattle.miette_language_server.specs.rules.Frames.{Frame, cut, first_frame, is_empty_row, known_length, length_from}
-use Rattle.miette_language_server.specs.rules.Frames.{row_length}
+use Rattle.miette_lines.proofs.Cases.{by_cases}
+use Rattle.miette_language_server.specs.rules.Frames.{Frame, cut, first_frame, ends_header, known_length, length_from}
+use Rattle.miette_language_server.specs.rules.Frames.{content_length_in}
 use Rattle.miette_language_server.proofs.Headers.{after_all, after_row, within_row}
 
 abbrev IsAfter : List ℕ → Option (ℕ × List ℕ) → Type 0
@@ -24,11 +24,11 @@ header_after : (known : Option ℕ) (row bytes : List ℕ) → IsAfter bytes (le
 header_after known row [] = tt
 header_after known row (b ∷ bs) =
     by_cases {C = IsAfter (b ∷ bs) (length_from known row (b ∷ bs))} (eqb b 10)
-    (λ t. by_cases {C = IsAfter (b ∷ bs) (length_from known row (b ∷ bs))} (is_empty_row row)
+    (λ t. by_cases {C = IsAfter (b ∷ bs) (length_from known row (b ∷ bs))} (ends_header row)
     (λ e. subst (IsAfter (b ∷ bs)) (sym (after_all known row b bs t e)) (known_after known b bs))
     (λ e. subst (IsAfter (b ∷ bs)) (sym (after_row known row b bs t e))
-    (further b bs (length_from (option_or (row_length row) known) [] bs)
-    (header_after (option_or (row_length row) known) [] bs))))
+    (further b bs (length_from (option_or (content_length_in row) known) [] bs)
+    (header_after (option_or (content_length_in row) known) [] bs))))
     (λ f. subst (IsAfter (b ∷ bs)) (sym (within_row known row b bs f))
     (further b bs (length_from known (row ++ b ∷ []) bs) (header_after known (row ++ b ∷ []) bs)))
 

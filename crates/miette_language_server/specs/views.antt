@@ -1,4 +1,4 @@
--- What values of the code stand for.
+-- Values of the code, as the rules represent them.
 pub mod Answered
 pub mod ClientState
 pub mod Served

@@ -3,23 +3,21 @@
 ghost use Rattle.std.specs.Prelude.{◌≡◌, ◌++◌, ◌∷◌, [], IfOk, OnOk, codes, flat_map, map, string_bytes};
 ghost use Rattle.std.specs.Option.{option_copied};
 ghost use Rattle.serde_json.specs.View.{view};
-ghost use Rattle.miette_lint.specs.rules.Coded.{coded_findings};
 ghost use Rattle.miette_lint.specs.views.Found.{coded_of};
 ghost use Rattle.miette_positions.specs.rules.Stops.{is_until};
 ghost use Rattle.miette_language_server.specs.rules.Actions.{action_value, actions, actions_at, actions_in};
 ghost use Rattle.miette_language_server.specs.rules.Actions.{changes_value, joint_of, joint_value, touches};
 ghost use Rattle.miette_language_server.specs.rules.Values.{list_value};
 
-use crate::diagnostics::{diagnostic_value, placed};
+use crate::diagnostics::{diagnostic_value, utf16_positions};
 use crate::documents::Document;
 use crate::objects::{object_with, object_with_text, with_text, with_value};
 use crate::values::{edits_value, part};
 use miette_fixes::fix::Fix;
 use miette_lint::coded::{CodedFinding, coded_findings};
-use miette_lint::joint::joint_proposal;
-use miette_lint::laws::coded_laws;
+use miette_lint::combined::combined_proposal;
 use miette_positions::index::PositionIndex;
-use miette_positions::place::{Position, Region};
+use miette_positions::position::{Position, Region};
 use serde_json::{Map, Value, json, push};
 use std::alloc::{AllocError, Global};
 
@@ -71,7 +69,7 @@ fn action_value(
         alloc,
         it,
         "isPreferred",
-        Value::Bool(fix.applicability().is_sure()),
+        Value::Bool(fix.applicability().is_machine_applicable()),
     )?;
     let diagnostics = list_of_one(alloc, diagnostic)?;
     object_with(alloc, it, "diagnostics", diagnostics)
@@ -167,19 +165,16 @@ fn own_actions(
     Ok(list)
 }
 
-// All fixes of a document whose lines may have so many columns, by all that is found in it.
+// All fixes of a document whose lines may have so many columns.
 fn joint_of(
     alloc: Global,
     uri: &str,
     source: &PositionIndex<'_>,
     width: usize,
-    found: &[CodedFinding],
 ) -> Result<Value, AllocError>
-    requires { map coded_of found.now ≡ coded_findings source.now.source width }
     ensures { IfOk result (λ value. view value ≡ joint_of uri.now source.now width) }
 {
-    coded_laws();
-    let joint = joint_proposal(alloc, source.source(), width, found.len())?;
+    let joint = combined_proposal(alloc, source.source(), width)?;
     joint_value(alloc, uri, source, &joint)
 }
 
@@ -202,13 +197,13 @@ fn actions(
     ensures { IfOk result (λ list. map view list.items
         ≡ actions width document.now.uri document.now.text region) }
 {
-    let source = placed(alloc, document.text())?;
+    let source = utf16_positions(alloc, document.text())?;
     let found = coded_findings(alloc, document.text(), width)?;
     let own = own_actions(alloc, document.uri(), &source, region, found.as_slice())?;
     if own.is_empty() {
         return Ok(own);
     }
-    let joint = joint_of(alloc, document.uri(), &source, width, found.as_slice())?;
+    let joint = joint_of(alloc, document.uri(), &source, width)?;
     with_last(own, joint)
 }
 

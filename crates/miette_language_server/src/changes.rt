@@ -1,23 +1,23 @@
-//! A text after changes.
+//! Applies the client's changes to a text.
 
 ghost use Rattle.std.specs.Prelude.{◌≡◌, IfOk, drop, map, take};
 ghost use Rattle.serde_json.specs.View.{view};
-ghost use Rattle.miette_language_server.specs.rules.Changes.{changed, changed_by, offset, replaced, spliced};
+ghost use Rattle.miette_language_server.specs.rules.Changes.{changed, apply_changes, offset, replace_region, spliced};
 
 use crate::members::{region_at, text_at};
-use miette_positions::place::{Position, PositionEncoding, Region};
+use miette_positions::position::{Position, PositionEncoding, Region};
 use miette_positions::spans::clamped_offset;
 use serde_json::Value;
 use std::alloc::{AllocError, Global};
 
-// The offset of a position, cut to the source.
+// Offset of a position, moved into the source.
 fn offset(source: &[u8], position: Position) -> usize
     ensures { result ≡ offset source.now position }
 {
     clamped_offset(position, source, PositionEncoding::Utf16)
 }
 
-// A text in place of the bytes from one offset to another.
+// Replaces the bytes between two offsets by a text.
 fn spliced(
     alloc: Global,
     source: &[u8],
@@ -34,7 +34,7 @@ fn spliced(
     Ok(made)
 }
 
-// The bytes before an offset, all where it is after the end.
+// The bytes before an offset, or all if it is beyond the end.
 fn before(source: &[u8], at: usize) -> &[u8]
     ensures { result.now ≡ take at source.now }
 {
@@ -45,7 +45,7 @@ fn before(source: &[u8], at: usize) -> &[u8]
     }
 }
 
-// The bytes from an offset on, none where it is after the end.
+// The bytes from an offset on, or none if it is beyond the end.
 fn after_offset(source: &[u8], at: usize) -> &[u8]
     ensures { result.now ≡ drop at source.now }
 {
@@ -56,14 +56,14 @@ fn after_offset(source: &[u8], at: usize) -> &[u8]
     }
 }
 
-// A text in place of a part of the source, or of all of it.
-fn replaced(
+// Replaces a region of the source, or all of it, by a text.
+fn replace_region(
     alloc: Global,
     source: &[u8],
     text: &str,
     region: Option<Region>,
 ) -> Result<Vec<u8>, AllocError>
-    ensures { IfOk result (λ made. made.items ≡ replaced source.now text.now region) }
+    ensures { IfOk result (λ made. made.items ≡ replace_region source.now text.now region) }
 {
     match region {
         Some(region) => {
@@ -75,26 +75,26 @@ fn replaced(
     }
 }
 
-// A source after a change.
+// Applies a change to a source.
 fn changed(alloc: Global, source: Vec<u8>, change: &Value) -> Result<Vec<u8>, AllocError>
     ensures { IfOk result (λ made. made.items ≡ changed source.items (view change.now)) }
 {
     match text_at(change, "/text") {
-        Some(text) => replaced(alloc, source.as_slice(), text, region_at(change, "/range")),
+        Some(text) => replace_region(alloc, source.as_slice(), text, region_at(change, "/range")),
         None => Ok(source),
     }
 }
 
-/// A source after one change after the other.
+/// Applies changes to a source, one after another.
 ///
 /// # Errors
-/// `AllocError` where memory for the text is refused.
-pub(crate) fn changed_by(
+/// `AllocError` if allocation for the text fails.
+pub(crate) fn apply_changes(
     alloc: Global,
     source: &[u8],
     changes: &[Value],
 ) -> Result<Vec<u8>, AllocError>
-    ensures { IfOk result (λ made. made.items ≡ changed_by source.now (map view changes.now)) }
+    ensures { IfOk result (λ made. made.items ≡ apply_changes source.now (map view changes.now)) }
 {
     let mut made = Vec::from_slice(alloc, source)?;
     for change in changes {

@@ -1,4 +1,5 @@
-//! A client: its two streams, of which one is read only where all that was written to the other was sent.
+//! The connection to a client: the stream it writes and the stream it reads. The server reads only after everything it
+//! wrote was flushed.
 
 ghost use Rattle.std.specs.Prelude.{◌≡◌, ◌↔◌, ◌++◌, ◌<◌, ◌≤◌, IfOk, IsTrue, OnErr, OnOk, false, length, take, true};
 ghost use Rattle.std.specs.Io.{ReadsAtMost};
@@ -7,14 +8,14 @@ ghost use Rattle.miette_devices.specs.views.Device.{TakesBeginning};
 ghost use Rattle.miette_language_server.specs.views.ClientState.{ClientState, IsOpen};
 
 use miette_devices::device::Device;
-use miette_devices::fault::Fault;
+use miette_devices::fault::ProgramError;
 use std::io::{Read, Write};
 use std::marker::Model;
 
-/// What a client writes, and what is written to it.
+/// A client: the reader of what it sends, and the writer to it.
 ///
-/// It knows whether a call of one of these failed, also one that was interrupted, and whether all that was written was
-/// sent. It is read only where that is so: no answer is held back while the next message is awaited.
+/// The client records whether a call failed (interrupted calls included), and whether everything written was flushed.
+/// It is read only after a flush, so no response is held back while the server waits.
 #[derive(Drop)]
 pub struct Client<R, W> {
     reader: Device<R>,
@@ -35,7 +36,7 @@ impl<R, W> Model for Client<R, W> {
 }
 
 impl<R, W> Client<R, W> {
-    /// Over these streams, none of whose calls failed yet; nothing was written.
+    /// Creates a client over these streams. No call has failed yet, and nothing was written.
     pub fn new(reader: R, writer: W) -> Client<R, W>
         ensures reader { result.reader.inner ≡ reader }
         ensures writer { result.writer.inner ≡ writer }
@@ -51,30 +52,30 @@ impl<R, W> Client<R, W> {
 }
 
 impl<R: Read, W> Client<R, W> {
-    /// Reads into the buffer, and gives how many bytes there were: 0 at the end, or where the buffer is empty.
+    /// Reads into the buffer and returns the number of bytes: 0 at the end of input, or if the buffer is empty.
     ///
     /// # Errors
-    /// `Read` exactly where the call failed.
-    pub(crate) fn read(&mut self, buf: &mut [u8]) -> Result<usize, Fault>
+    /// `Read` exactly if the call failed.
+    pub(crate) fn read(&mut self, buf: &mut [u8]) -> Result<usize, ProgramError>
         requires sound { self.old.reader.failed ≡ false }
         requires sent { self.old.writer.is_sent ≡ true }
         ensures bound { ReadsAtMost result buf.new }
         ensures bytes { ReadConsumes (R.remaining self.old.reader.inner) (R.remaining self.new.reader.inner) result
             buf.new }
-        ensures failed { IsTrue self.new.reader.failed ↔ (result ≡ Err Fault.Read) }
-        ensures fault { OnErr result (result ≡ Err Fault.Read) }
+        ensures failed { IsTrue self.new.reader.failed ↔ (result ≡ Err ProgramError.Read) }
+        ensures fault { OnErr result (result ≡ Err ProgramError.Read) }
         ensures writer { self.new.writer ≡ self.old.writer }
     {
         match self.reader.read(buf) {
             Ok(n) => Ok(n),
-            Err(_) => Err(Fault::Read),
+            Err(_) => Err(ProgramError::Read),
         }
     }
 }
 
 impl<R, W: Write> Client<R, W> {
-    // Hands a beginning of the bytes to the writer, which may hold it back: how many it took.
-    fn put_part(&mut self, bytes: &[u8]) -> Result<usize, Fault>
+    // Writes a beginning of the bytes without flushing. Returns how many were taken.
+    fn put_part(&mut self, bytes: &[u8]) -> Result<usize, ProgramError>
         requires sound { self.old.writer.failed ≡ false }
         ensures some { IfOk result (λ n. 0 < n) }
         ensures within { IfOk result (λ n. n ≤ length bytes.now) }
@@ -82,8 +83,8 @@ impl<R, W: Write> Client<R, W> {
             (W.contents self.new.writer.inner) (take n bytes.now)) }
         ensures err { OnErr result (TakesBeginning (W.contents self.old.writer.inner)
             (W.contents self.new.writer.inner) bytes.now) }
-        ensures failed { IsTrue self.new.writer.failed ↔ (result ≡ Err Fault.Write) }
-        ensures fault { OnErr result (result ≡ Err Fault.Write) }
+        ensures failed { IsTrue self.new.writer.failed ↔ (result ≡ Err ProgramError.Write) }
+        ensures fault { OnErr result (result ≡ Err ProgramError.Write) }
         ensures reader { self.new.reader ≡ self.old.reader }
     {
         self.is_sent = false;
@@ -91,20 +92,20 @@ impl<R, W: Write> Client<R, W> {
             Ok(n) if n > 0 => Ok(n),
             _ => {
                 self.write_failed = true;
-                Err(Fault::Write)
+                Err(ProgramError::Write)
             }
         }
     }
 
-    // Hands all of the bytes to the writer, which may hold them back.
-    fn put(&mut self, bytes: &[u8]) -> Result<(), Fault>
+    // Writes all bytes without flushing.
+    fn put(&mut self, bytes: &[u8]) -> Result<(), ProgramError>
         requires sound { self.old.writer.failed ≡ false }
         ensures ok { OnOk result (Appends (W.contents self.old.writer.inner) (W.contents self.new.writer.inner)
             bytes.now) }
         ensures err { OnErr result (TakesBeginning (W.contents self.old.writer.inner)
             (W.contents self.new.writer.inner) bytes.now) }
-        ensures failed { IsTrue self.new.writer.failed ↔ (result ≡ Err Fault.Write) }
-        ensures fault { OnErr result (result ≡ Err Fault.Write) }
+        ensures failed { IsTrue self.new.writer.failed ↔ (result ≡ Err ProgramError.Write) }
+        ensures fault { OnErr result (result ≡ Err ProgramError.Write) }
         ensures reader { self.new.reader ≡ self.old.reader }
     {
         let mut rest = bytes;
@@ -115,12 +116,12 @@ impl<R, W: Write> Client<R, W> {
         Ok(())
     }
 
-    // Sends what the writer holds back.
-    fn flush(&mut self) -> Result<(), Fault>
+    // Flushes the writer.
+    fn flush(&mut self) -> Result<(), ProgramError>
         requires sound { self.old.writer.failed ≡ false }
         ensures bytes { Keeps (W.contents self.old.writer.inner) (W.contents self.new.writer.inner) }
-        ensures failed { IsTrue self.new.writer.failed ↔ (result ≡ Err Fault.Write) }
-        ensures fault { OnErr result (result ≡ Err Fault.Write) }
+        ensures failed { IsTrue self.new.writer.failed ↔ (result ≡ Err ProgramError.Write) }
+        ensures fault { OnErr result (result ≡ Err ProgramError.Write) }
         ensures sent { OnOk result (self.new.writer.is_sent ≡ true) }
         ensures reader { self.new.reader ≡ self.old.reader }
     {
@@ -131,23 +132,23 @@ impl<R, W: Write> Client<R, W> {
             }
             Err(_) => {
                 self.write_failed = true;
-                Err(Fault::Write)
+                Err(ProgramError::Write)
             }
         }
     }
 
-    /// Writes a header and a body, and sends what the writer holds back.
+    /// Writes a header and a body, then flushes.
     ///
     /// # Errors
-    /// `Write` exactly where a call failed, or took nothing. The writer then took a beginning of both.
-    pub(crate) fn send(&mut self, header: &[u8], body: &[u8]) -> Result<(), Fault>
+    /// `Write` exactly if a call failed or took nothing. The writer then has a beginning of both.
+    pub(crate) fn send(&mut self, header: &[u8], body: &[u8]) -> Result<(), ProgramError>
         requires sound { self.old.writer.failed ≡ false }
         ensures ok { OnOk result (Appends (W.contents self.old.writer.inner) (W.contents self.new.writer.inner)
             (header.now ++ body.now)) }
         ensures err { OnErr result (TakesBeginning (W.contents self.old.writer.inner)
             (W.contents self.new.writer.inner) (header.now ++ body.now)) }
-        ensures failed { IsTrue self.new.writer.failed ↔ (result ≡ Err Fault.Write) }
-        ensures fault { OnErr result (result ≡ Err Fault.Write) }
+        ensures failed { IsTrue self.new.writer.failed ↔ (result ≡ Err ProgramError.Write) }
+        ensures fault { OnErr result (result ≡ Err ProgramError.Write) }
         ensures sent { OnOk result (self.new.writer.is_sent ≡ true) }
         ensures reader { self.new.reader ≡ self.old.reader }
     {

@@ -1,13 +1,14 @@
-//! What `lint` finds in a document, as diagnostics of the protocol.
+//! Findings of `lint` in a document, as diagnostics of the Language Server Protocol.
 
 ghost use Rattle.std.specs.Prelude.{◌≡◌, [], IfOk, codes, map, unwrap_or};
 ghost use Rattle.serde_json.specs.Data.{member, string};
 ghost use Rattle.serde_json.specs.View.{members_view, view};
-ghost use Rattle.miette_lint.specs.rules.Coded.{coded_findings};
+ghost use Rattle.miette_lint.specs.rules.FindingWithFixes.{coded_findings};
 ghost use Rattle.miette_lint.specs.views.Found.{coded_of};
 ghost use Rattle.miette_language_server.specs.rules.Diagnostics.{diagnostic_value, diagnostics, diagnostics_of};
-ghost use Rattle.miette_language_server.specs.rules.Diagnostics.{fixable_value, fixes_value, placed, plain_value};
-ghost use Rattle.miette_language_server.specs.rules.Diagnostics.{published_value};
+ghost use Rattle.miette_language_server.specs.rules.Diagnostics.{fixable_value, fixes_value, utf16_positions};
+ghost use Rattle.miette_language_server.specs.rules.Diagnostics.{plain_value};
+ghost use Rattle.miette_language_server.specs.rules.Diagnostics.{publish_params};
 ghost use Rattle.miette_language_server.specs.rules.Diagnostics.{told};
 ghost use Rattle.miette_language_server.specs.rules.Values.{fix_value};
 
@@ -17,19 +18,19 @@ use crate::values::{fix_value, part, range_value};
 use miette_fixes::fix::Fix;
 use miette_lint::coded::{CodedFinding, coded_findings};
 use miette_positions::index::PositionIndex;
-use miette_positions::place::PositionEncoding;
+use miette_positions::position::PositionEncoding;
 use miette_protocol::protocol::LabeledSpan;
 use serde_json::{Map, Value, push};
 use std::alloc::{AllocError, Global};
 
-/// A text with an index of its positions in units of UTF-16.
-pub(crate) fn placed(alloc: Global, text: &[u8]) -> Result<PositionIndex<'_>, AllocError>
-    ensures { IfOk result (λ it. it ≡ placed text.now) }
+/// Creates an index of a text's positions, in UTF-16 code units.
+pub(crate) fn utf16_positions(alloc: Global, text: &[u8]) -> Result<PositionIndex<'_>, AllocError>
+    ensures { IfOk result (λ it. it ≡ utf16_positions text.now) }
 {
     PositionIndex::new(alloc, text, PositionEncoding::Utf16)
 }
 
-// These fixes.
+// Converts fixes.
 fn fix_values(
     alloc: Global,
     uri: &str,
@@ -46,7 +47,7 @@ fn fix_values(
     Ok(values)
 }
 
-// What is proposed for a finding.
+// The proposed fixes of a finding.
 fn fixes_value(
     alloc: Global,
     uri: &str,
@@ -59,7 +60,7 @@ fn fixes_value(
     object_with(alloc, Map::new(alloc), "fixes", Value::Array(values))
 }
 
-// What is said of a place.
+// The message of a finding.
 fn message(label: &LabeledSpan) -> &str
     ensures { result.now ≡ unwrap_or label.now.text [] }
 {
@@ -69,7 +70,7 @@ fn message(label: &LabeledSpan) -> &str
     }
 }
 
-// What all diagnostics have.
+// The members that all diagnostics have.
 fn told(
     alloc: Global,
     source: &PositionIndex<'_>,
@@ -86,7 +87,7 @@ fn told(
     with_text(alloc, it, "message", message(&found.label))
 }
 
-// A diagnostic of a finding for which nothing is proposed.
+// A diagnostic without fixes.
 fn plain_value(
     alloc: Global,
     source: &PositionIndex<'_>,
@@ -98,7 +99,7 @@ fn plain_value(
     Ok(Value::Object(it))
 }
 
-// A diagnostic of a finding for which something is.
+// A diagnostic with fixes.
 fn fixable_value(
     alloc: Global,
     uri: &str,
@@ -112,7 +113,7 @@ fn fixable_value(
     object_with(alloc, it, "data", fixes)
 }
 
-/// A diagnostic of a document with a uri.
+/// Returns the diagnostic of a finding in the document with this URI.
 pub(crate) fn diagnostic_value(
     alloc: Global,
     uri: &str,
@@ -128,7 +129,7 @@ pub(crate) fn diagnostic_value(
     }
 }
 
-// The diagnostics of these findings.
+// Returns the diagnostics of these findings.
 fn diagnostic_values(
     alloc: Global,
     uri: &str,
@@ -146,7 +147,7 @@ fn diagnostic_values(
     Ok(values)
 }
 
-// All diagnostics of a text with an index.
+// Returns all diagnostics of an indexed text.
 fn placed_diagnostics(
     alloc: Global,
     width: usize,
@@ -160,7 +161,7 @@ fn placed_diagnostics(
     diagnostic_values(alloc, uri, source, found.as_slice())
 }
 
-// All diagnostics of a text.
+// Returns all diagnostics of a text.
 fn diagnostics(
     alloc: Global,
     width: usize,
@@ -169,18 +170,18 @@ fn diagnostics(
 ) -> Result<Vec<Value>, AllocError>
     ensures { IfOk result (λ list. map view list.items ≡ diagnostics width uri.now text.now) }
 {
-    let source = placed(alloc, text)?;
+    let source = utf16_positions(alloc, text)?;
     placed_diagnostics(alloc, width, uri, &source)
 }
 
-/// What the client is told of a document: its diagnostics, and the version that they are of.
-pub(crate) fn published_value(
+/// Returns the parameters of `textDocument/publishDiagnostics`: the diagnostics of a document, and its version.
+pub(crate) fn publish_params(
     alloc: Global,
     uri: &str,
     version: Option<i64>,
     list: Vec<Value>,
 ) -> Result<Value, AllocError>
-    ensures { IfOk result (λ value. view value ≡ published_value uri.now version (map view list.items)) }
+    ensures { IfOk result (λ value. view value ≡ publish_params uri.now version (map view list.items)) }
 {
     let it = with_value(alloc, Map::new(alloc), "diagnostics", Value::Array(list))?;
     let it = with_text(alloc, it, "uri", uri)?;
@@ -190,7 +191,7 @@ pub(crate) fn published_value(
     }
 }
 
-/// What the client is told of an open document.
+/// Returns these parameters for an open document.
 pub(crate) fn diagnostics_of(
     alloc: Global,
     width: usize,
@@ -199,5 +200,5 @@ pub(crate) fn diagnostics_of(
     ensures { IfOk result (λ value. view value ≡ diagnostics_of width document.now) }
 {
     let list = diagnostics(alloc, width, document.uri(), document.text())?;
-    published_value(alloc, document.uri(), document.version(), list)
+    publish_params(alloc, document.uri(), document.version(), list)
 }

@@ -1,18 +1,19 @@
-//! The documents that are open.
+//! The open documents.
 
 ghost use Rattle.std.specs.Prelude.{◌≡◌, ◌<◌, IfOk, IfSome, OnOk, bytes_eq, length, position};
 ghost use Rattle.std.specs.Option.{option_copied};
 ghost use Rattle.serde_json.specs.View.{view};
-ghost use Rattle.miette_language_server.specs.rules.Documents.{changed_in, document_at, document_in, opened_in};
+ghost use Rattle.miette_language_server.specs.rules.Documents.{document_changed_in, document_at, document_in};
+ghost use Rattle.miette_language_server.specs.rules.Documents.{document_opened_in};
 ghost use Rattle.miette_language_server.specs.rules.Documents.{uri_in, version_in, with_document, without};
 
-use crate::changes::changed_by;
+use crate::changes::apply_changes;
 use crate::members::{integer_at, items_at, text_at};
 use serde_json::Value;
 use std::alloc::{AllocError, Global};
 use std::marker::Model;
 
-/// A document that is open.
+/// An open document.
 #[derive(Drop)]
 pub struct Document {
     uri: String,
@@ -30,21 +31,21 @@ impl Model for Document {
 }
 
 impl Document {
-    /// The uri that its client names it by.
+    /// The URI that the client uses for it.
     pub fn uri(&self) -> &str
         ensures { result.now ≡ self.now.uri }
     {
         self.uri.as_str()
     }
 
-    /// The version, if its client told one.
+    /// Its version, if the client gave one.
     pub fn version(&self) -> Option<i64>
         ensures { result ≡ self.now.version }
     {
         self.version
     }
 
-    /// The text.
+    /// Its text.
     pub fn text(&self) -> &[u8]
         ensures { result.now ≡ self.now.text }
     {
@@ -52,21 +53,21 @@ impl Document {
     }
 }
 
-// The uri of the document that a message speaks of.
+// The URI of the document in a message.
 pub(crate) fn uri_in(message: &Value) -> Option<&str>
     ensures { option_copied result ≡ uri_in (view message.now) }
 {
     text_at(message, "/params/textDocument/uri")
 }
 
-// The version of the document that a message speaks of.
+// The version of the document in a message.
 fn version_in(message: &Value) -> Option<i64>
     ensures { result ≡ version_in (view message.now) }
 {
     integer_at(message, "/params/textDocument/version")
 }
 
-// Where the document with a uri stands.
+// Index of the document with a URI.
 fn place_of(documents: &[Document], uri: &str) -> Option<usize>
     ensures at { result ≡ position (λ d. bytes_eq d.uri uri.now) documents.now }
     ensures within { IfSome result (λ at. at < length documents.now) }
@@ -74,21 +75,21 @@ fn place_of(documents: &[Document], uri: &str) -> Option<usize>
     documents.iter().position(|d| d.uri() == uri)
 }
 
-/// The document with a uri, if it is open.
+/// Returns the document with a URI, if it is open.
 pub(crate) fn document_at<'d>(documents: &'d [Document], uri: &str) -> Option<&'d Document>
     ensures { option_copied result ≡ document_at documents.now uri.now }
 {
     documents.iter().find(|d| d.uri() == uri)
 }
 
-/// The document that a message speaks of, if it is open.
+/// Returns the document in a message, if it is open.
 pub(crate) fn document_in<'d>(documents: &'d [Document], message: &Value) -> Option<&'d Document>
     ensures { option_copied result ≡ document_in documents.now (view message.now) }
 {
     document_at(documents, uri_in(message)?)
 }
 
-/// One more document, in place of one with the same uri.
+/// Adds a document, or replaces the one with the same URI.
 pub(crate) fn put_document(
     documents: &mut Vec<Document>,
     document: Document,
@@ -102,8 +103,8 @@ pub(crate) fn put_document(
     Ok(())
 }
 
-/// No document with this uri.
-pub(crate) fn take_out(documents: &mut Vec<Document>, uri: &str)
+/// Removes the document with this URI.
+pub(crate) fn remove_document(documents: &mut Vec<Document>, uri: &str)
     ensures { documents.new.items ≡ without documents.old.items uri.now }
 {
     match place_of(documents.as_slice(), uri) {
@@ -112,7 +113,7 @@ pub(crate) fn take_out(documents: &mut Vec<Document>, uri: &str)
     }
 }
 
-// A document with copies of these texts.
+// Creates a document with copies of these texts.
 fn document_of(
     alloc: Global,
     uri: &str,
@@ -128,9 +129,12 @@ fn document_of(
     })
 }
 
-/// The document that a message opens, if it says one.
-pub(crate) fn opened_in(alloc: Global, message: &Value) -> Result<Option<Document>, AllocError>
-    ensures { IfOk result (λ it. it ≡ opened_in (view message.now)) }
+/// Returns the document that a message opens, if it has a URI and a text.
+pub(crate) fn document_opened_in(
+    alloc: Global,
+    message: &Value,
+) -> Result<Option<Document>, AllocError>
+    ensures { IfOk result (λ it. it ≡ document_opened_in (view message.now)) }
 {
     let Some(uri) = uri_in(message) else {
         return Ok(None);
@@ -142,18 +146,18 @@ pub(crate) fn opened_in(alloc: Global, message: &Value) -> Result<Option<Documen
     Ok(Some(document))
 }
 
-/// A document after the changes of a message.
-pub(crate) fn changed_in(
+/// Returns a document with the changes of a message.
+pub(crate) fn document_changed_in(
     alloc: Global,
     document: &Document,
     message: &Value,
 ) -> Result<Document, AllocError>
-    ensures { IfOk result (λ it. it ≡ changed_in document.now (view message.now)) }
+    ensures { IfOk result (λ it. it ≡ document_changed_in document.now (view message.now)) }
 {
     let changes = items_at(message, "/params/contentChanges");
     Ok(Document {
         uri: String::from_str(alloc, document.uri())?,
         version: version_in(message),
-        text: changed_by(alloc, document.text(), changes)?,
+        text: apply_changes(alloc, document.text(), changes)?,
     })
 }

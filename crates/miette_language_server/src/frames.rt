@@ -1,29 +1,29 @@
-//! Messages in frames, read and written.
+//! Reads and writes frames: a header and a message body.
 
 ghost use Rattle.std.specs.Prelude.{◌≡◌, ◌↔◌, ◌⊎◌, ◌++◌, ◌∷◌, [], IfOk, IsTrue, OnErr, OnOk, false, string_bytes, true};
 ghost use Rattle.std.specs.Io.KnownBytes.{Appends};
 ghost use Rattle.miette_devices.specs.views.Device.{TakesBeginning};
 ghost use Rattle.miette_language_server.specs.rules.Frames.{framed, header_text};
-ghost use Rattle.miette_language_server.specs.views.Answered.{IsBody, IsFirstFrame, IsHeader, IsNext};
+ghost use Rattle.miette_language_server.specs.views.Answered.{IsBody, IsFirstFrame, IsHeader, IsNextByte};
 
 use crate::client::Client;
-use crate::fields::{is_empty_row, row_length};
+use crate::header_fields::{content_length_in, ends_header};
 use itoa::Buffer;
-use miette_devices::fault::Fault;
+use miette_devices::fault::ProgramError;
 use std::alloc::{AllocError, Global};
 use std::io::{Read, Write};
 
-// How many bytes of a body are asked for at a time.
+// Number of bytes that are read at a time.
 const CHUNK: usize = 16384;
 
-// The next byte, if there is one.
-fn next_byte<R: Read, W>(client: &mut Client<R, W>) -> Result<Option<u8>, Fault>
+// Reads the next byte, if there is one.
+fn next_byte<R: Read, W>(client: &mut Client<R, W>) -> Result<Option<u8>, ProgramError>
     requires sound { client.old.reader.failed ≡ false }
     requires sent { client.old.writer.is_sent ≡ true }
     ensures next { IfOk result
-        (IsNext (R.remaining client.old.reader.inner) (R.remaining client.new.reader.inner)) }
-    ensures failed { IsTrue client.new.reader.failed ↔ (result ≡ Err Fault.Read) }
-    ensures fault { OnErr result (result ≡ Err Fault.Read) }
+        (IsNextByte (R.remaining client.old.reader.inner) (R.remaining client.new.reader.inner)) }
+    ensures failed { IsTrue client.new.reader.failed ↔ (result ≡ Err ProgramError.Read) }
+    ensures fault { OnErr result (result ≡ Err ProgramError.Read) }
     ensures writer { client.new.writer ≡ client.old.writer }
 {
     let mut byte = [0u8; 1];
@@ -34,7 +34,7 @@ fn next_byte<R: Read, W>(client: &mut Client<R, W>) -> Result<Option<u8>, Fault>
     }
 }
 
-// One more byte of a row.
+// Appends a byte to a line.
 fn push_byte(row: &mut Vec<u8>, byte: u8) -> Result<(), AllocError>
     ensures { OnOk result (row.new.items ≡ row.old.items ++ byte ∷ []) }
 {
@@ -42,14 +42,17 @@ fn push_byte(row: &mut Vec<u8>, byte: u8) -> Result<(), AllocError>
     Ok(())
 }
 
-// Reads a header with the empty row after it. The length that it states, if it does.
-fn read_header<R: Read, W>(alloc: Global, client: &mut Client<R, W>) -> Result<Option<usize>, Fault>
+// Reads a header with the empty line after it. Returns the length that it states, if it does.
+fn read_header<R: Read, W>(
+    alloc: Global,
+    client: &mut Client<R, W>,
+) -> Result<Option<usize>, ProgramError>
     requires sound { client.old.reader.failed ≡ false }
     requires sent { client.old.writer.is_sent ≡ true }
     ensures header { IfOk result
         (IsHeader (R.remaining client.old.reader.inner) (R.remaining client.new.reader.inner)) }
-    ensures failed { IsTrue client.new.reader.failed ↔ (result ≡ Err Fault.Read) }
-    ensures others { OnErr result ((result ≡ Err Fault.Read) ⊎ (result ≡ Err Fault.Memory)) }
+    ensures failed { IsTrue client.new.reader.failed ↔ (result ≡ Err ProgramError.Read) }
+    ensures others { OnErr result ((result ≡ Err ProgramError.Read) ⊎ (result ≡ Err ProgramError.Memory)) }
     ensures writer { client.new.writer ≡ client.old.writer }
 {
     let mut row = Vec::new(alloc);
@@ -62,27 +65,27 @@ fn read_header<R: Read, W>(alloc: Global, client: &mut Client<R, W>) -> Result<O
             push_byte(&mut row, byte)?;
             continue;
         }
-        if is_empty_row(row.as_slice()) {
+        if ends_header(row.as_slice()) {
             return Ok(known);
         }
-        known = row_length(row.as_slice()).or(known);
+        known = content_length_in(row.as_slice()).or(known);
         row.clear();
     }
-    Err(Fault::Memory)
+    Err(ProgramError::Memory)
 }
 
-// Reads `size` bytes, where they are there. Takes no more memory than twice what is there.
+// Reads `size` bytes. Returns `None` if the input ends early. It allocates at most twice as many bytes as there are.
 fn read_body<R: Read, W>(
     alloc: Global,
     client: &mut Client<R, W>,
     size: usize,
-) -> Result<Option<Vec<u8>>, Fault>
+) -> Result<Option<Vec<u8>>, ProgramError>
     requires sound { client.old.reader.failed ≡ false }
     requires sent { client.old.writer.is_sent ≡ true }
     ensures body { IfOk result
         (IsBody (R.remaining client.old.reader.inner) (R.remaining client.new.reader.inner) size) }
-    ensures failed { IsTrue client.new.reader.failed ↔ (result ≡ Err Fault.Read) }
-    ensures others { OnErr result ((result ≡ Err Fault.Read) ⊎ (result ≡ Err Fault.Memory)) }
+    ensures failed { IsTrue client.new.reader.failed ↔ (result ≡ Err ProgramError.Read) }
+    ensures others { OnErr result ((result ≡ Err ProgramError.Read) ⊎ (result ≡ Err ProgramError.Memory)) }
     ensures writer { client.new.writer ≡ client.old.writer }
 {
     let mut body = Vec::new(alloc);
@@ -98,25 +101,26 @@ fn read_body<R: Read, W>(
             Err(fault) => return Err(fault),
         }
     }
-    Err(Fault::Memory)
+    Err(ProgramError::Memory)
 }
 
-/// Reads the body of the next frame. None where the frame states no length, or ends early; also where nothing is left.
+/// Reads the body of the next frame. Returns `None` if the frame states no length or ends early, and at the end of
+/// input.
 ///
-/// However large the length is that the frame states, memory is taken for what is there alone.
+/// Memory is allocated only for bytes that arrive, however large the stated length is.
 ///
 /// # Errors
-/// `Read` exactly where a call of the reader failed, and `Memory`.
+/// `Read` exactly if a call of the reader failed, and `Memory` if allocation fails.
 pub fn read_frame<R: Read, W>(
     alloc: Global,
     client: &mut Client<R, W>,
-) -> Result<Option<Vec<u8>>, Fault>
+) -> Result<Option<Vec<u8>>, ProgramError>
     requires sound { client.old.reader.failed ≡ false }
     requires sent { client.old.writer.is_sent ≡ true }
     ensures frame { IfOk result
         (IsFirstFrame (R.remaining client.old.reader.inner) (R.remaining client.new.reader.inner)) }
-    ensures failed { IsTrue client.new.reader.failed ↔ (result ≡ Err Fault.Read) }
-    ensures others { OnErr result ((result ≡ Err Fault.Read) ⊎ (result ≡ Err Fault.Memory)) }
+    ensures failed { IsTrue client.new.reader.failed ↔ (result ≡ Err ProgramError.Read) }
+    ensures others { OnErr result ((result ≡ Err ProgramError.Read) ⊎ (result ≡ Err ProgramError.Memory)) }
     ensures writer { client.new.writer ≡ client.old.writer }
 {
     match read_header(alloc, client)? {
@@ -125,7 +129,7 @@ pub fn read_frame<R: Read, W>(
     }
 }
 
-// What stands before a body of `size` bytes.
+// The header of a body with `size` bytes.
 fn header_text(alloc: Global, size: usize) -> Result<String, AllocError>
     ensures { IfOk result (λ text. string_bytes text ≡ header_text size) }
 {
@@ -135,23 +139,23 @@ fn header_text(alloc: Global, size: usize) -> Result<String, AllocError>
     Ok(text)
 }
 
-/// Writes a body in a frame, and sends what the writer holds back.
+/// Writes a body in a frame, then flushes.
 ///
 /// # Errors
-/// `Write` exactly where a call of the writer failed, or took nothing, and `Memory`. A beginning of the frame was then
-/// taken.
+/// `Write` exactly if a call of the writer failed or took nothing, and `Memory` if allocation fails. The writer then
+/// has a beginning of the frame.
 pub fn write_frame<R, W: Write>(
     alloc: Global,
     client: &mut Client<R, W>,
     body: &[u8],
-) -> Result<(), Fault>
+) -> Result<(), ProgramError>
     requires { client.old.writer.failed ≡ false }
     ensures ok { OnOk result (Appends (W.contents client.old.writer.inner) (W.contents client.new.writer.inner)
         (framed body.now)) }
     ensures err { OnErr result (TakesBeginning (W.contents client.old.writer.inner)
         (W.contents client.new.writer.inner) (framed body.now)) }
-    ensures failed { IsTrue client.new.writer.failed ↔ (result ≡ Err Fault.Write) }
-    ensures others { OnErr result ((result ≡ Err Fault.Write) ⊎ (result ≡ Err Fault.Memory)) }
+    ensures failed { IsTrue client.new.writer.failed ↔ (result ≡ Err ProgramError.Write) }
+    ensures others { OnErr result ((result ≡ Err ProgramError.Write) ⊎ (result ≡ Err ProgramError.Memory)) }
     ensures sent { OnOk result (client.new.writer.is_sent ≡ true) }
     ensures reader { client.new.reader ≡ client.old.reader }
 {

@@ -1,4 +1,4 @@
-//! A language server that tells an editor what `lint` finds, over any reader and any writer.
+//! A language server that reports the findings of `lint` to an editor, over any reader and writer.
 #![tactic(auto)]
 
 mod actions;
@@ -6,12 +6,12 @@ mod changes;
 pub mod client;
 mod diagnostics;
 pub mod documents;
-mod fields;
 pub mod frames;
+mod header_fields;
 pub mod laws;
 mod members;
 mod messages;
-mod names;
+mod methods;
 mod objects;
 pub mod serve;
 pub mod session;

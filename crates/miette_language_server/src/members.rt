@@ -1,4 +1,4 @@
-//! The members of a message, by their paths and types.
+//! Access to the members of a message by path and type.
 
 ghost use Rattle.std.specs.Prelude.{◌≡◌, map, option_and_then, option_map};
 ghost use Rattle.std.specs.Option.{option_copied};
@@ -7,17 +7,17 @@ ghost use Rattle.serde_json.specs.View.{view};
 ghost use Rattle.miette_language_server.specs.rules.Members.{count_at, id_of, integer_at, is_id, items_at};
 ghost use Rattle.miette_language_server.specs.rules.Members.{items_of_list, position_of, region_at, region_of, text_at};
 
-use miette_positions::place::{Position, Region};
+use miette_positions::position::{Position, Region};
 use serde_json::Value;
 
-// What stands at a path.
+// The value at a path.
 fn found_at<'v>(value: &'v Value, path: &str) -> Option<&'v Value>
     ensures { option_map (λ v. view v.now) result ≡ pointer path.now (view value.now) }
 {
     value.pointer(path)
 }
 
-/// The text at a path.
+/// The string at a path.
 pub(crate) fn text_at<'v>(value: &'v Value, path: &str) -> Option<&'v str>
     ensures { option_copied result ≡ text_at path.now (view value.now) }
 {
@@ -31,7 +31,7 @@ pub(crate) fn integer_at(value: &Value, path: &str) -> Option<i64>
     found_at(value, path)?.as_i64()
 }
 
-// The number at a path, from 0 on.
+// The non-negative integer at a path.
 fn count_at(value: &Value, path: &str) -> Option<usize>
     ensures { result ≡ count_at path.now (view value.now) }
 {
@@ -39,7 +39,7 @@ fn count_at(value: &Value, path: &str) -> Option<usize>
     Some(count as usize)
 }
 
-// The items of a list; what is no list has none.
+// The items of a list, or none for another value.
 fn items_in(value: &Value) -> &[Value]
     ensures { map view result.now ≡ items_of_list (as_array (view value.now)) }
 {
@@ -59,14 +59,14 @@ pub(crate) fn items_at<'v>(value: &'v Value, path: &str) -> &'v [Value]
     }
 }
 
-// Whether it names a request.
+// Whether a value may be a request's id.
 fn is_id(value: &Value) -> bool
     ensures { result ≡ is_id (view value.now) }
 {
     value.is_string() || value.is_i64() || value.is_u64()
 }
 
-/// What names the request that a message is, if it is one.
+/// The id of a message, if it is a request.
 pub(crate) fn id_of(value: &Value) -> Option<&Value>
     ensures { option_map (λ v. view v.now) result ≡ id_of (view value.now) }
 {
@@ -74,7 +74,7 @@ pub(crate) fn id_of(value: &Value) -> Option<&Value>
     if is_id(id) { Some(id) } else { None }
 }
 
-// A position.
+// Converts a position.
 fn position_of(value: &Value) -> Option<Position>
     ensures { result ≡ position_of (view value.now) }
 {
@@ -91,7 +91,7 @@ fn position_at(value: &Value, path: &str) -> Option<Position>
     position_of(found_at(value, path)?)
 }
 
-// A range of the protocol.
+// Converts a range.
 fn region_of(value: &Value) -> Option<Region>
     ensures { result ≡ region_of (view value.now) }
 {

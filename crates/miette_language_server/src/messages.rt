@@ -1,11 +1,12 @@
-//! What a server writes: answers, refusals and notifications of JSON-RPC 2.0.
+//! Messages that the server writes: responses, errors and notifications of JSON-RPC 2.0.
 
 ghost use Rattle.std.specs.Prelude.{◌≡◌, IfOk, codes};
 ghost use Rattle.serde_json.specs.Data.{object, put as with_member, string};
 ghost use Rattle.serde_json.specs.View.{members_view, view};
-ghost use Rattle.miette_language_server.specs.rules.Messages.{actions_kinds, answer, capabilities, code_of};
+ghost use Rattle.miette_language_server.specs.rules.Messages.{actions_kinds, success_response, capabilities, code_of};
 ghost use Rattle.miette_language_server.specs.rules.Messages.{error_value};
-ghost use Rattle.miette_language_server.specs.rules.Messages.{publication, reason_of, refused, server_value};
+ghost use Rattle.miette_language_server.specs.rules.Messages.{diagnostics_notification, reason_of, error_response};
+ghost use Rattle.miette_language_server.specs.rules.Messages.{initialize_result};
 ghost use Rattle.miette_language_server.specs.rules.Messages.{sync_value};
 
 use crate::objects::{object_with, object_with_text, with_text, with_value};
@@ -15,18 +16,18 @@ use std::alloc::{AllocError, Global};
 /// Why a request is refused.
 #[derive(Clone, Copy)]
 pub enum Refusal {
-    /// A message is no JSON.
+    /// The message is not JSON.
     NotJson,
-    /// A request comes before `initialize`.
+    /// The request comes before `initialize`.
     NotInitialized,
-    /// A request comes after `shutdown`, or is a second `initialize`.
+    /// The request comes after `shutdown`, or is a second `initialize`.
     NotNow,
-    /// A request isn't known.
+    /// The method is unknown.
     Unknown,
 }
 
 impl Refusal {
-    // The number that the protocol has for it.
+    // The error code of the protocol.
     fn code(self) -> i64
         ensures { result ≡ code_of self }
     {
@@ -38,7 +39,7 @@ impl Refusal {
         }
     }
 
-    // The same in words.
+    // The error message.
     fn reason(self) -> &'static str
         ensures { result.now ≡ reason_of self }
     {
@@ -51,7 +52,7 @@ impl Refusal {
     }
 }
 
-// What is told of the request with this id.
+// Completes a response to the request with this id.
 fn with_id(alloc: Global, members: Map<String, Value>, id: &Value) -> Result<Value, AllocError>
     ensures { IfOk result (λ value. view value ≡ object (with_member (codes "id") (view id.now)
         (with_member (codes "jsonrpc") (string (codes "2.0")) (members_view members.entries)))) }
@@ -61,15 +62,15 @@ fn with_id(alloc: Global, members: Map<String, Value>, id: &Value) -> Result<Val
     object_with(alloc, it, "id", id)
 }
 
-/// What a request with this id is answered by.
-pub(crate) fn answer(alloc: Global, id: &Value, given: Value) -> Result<Value, AllocError>
-    ensures { IfOk result (λ value. view value ≡ answer (view id.now) (view given)) }
+/// Returns the response to the request with this id.
+pub(crate) fn success_response(alloc: Global, id: &Value, given: Value) -> Result<Value, AllocError>
+    ensures { IfOk result (λ value. view value ≡ success_response (view id.now) (view given)) }
 {
     let it = with_value(alloc, Map::new(alloc), "result", given)?;
     with_id(alloc, it, id)
 }
 
-// What an error is.
+// Returns an error object.
 fn error_value(alloc: Global, why: Refusal) -> Result<Value, AllocError>
     ensures { IfOk result (λ value. view value ≡ error_value why) }
 {
@@ -77,25 +78,25 @@ fn error_value(alloc: Global, why: Refusal) -> Result<Value, AllocError>
     object_with_text(alloc, it, "message", why.reason())
 }
 
-/// What refuses a request with this id.
-pub(crate) fn refused(alloc: Global, id: &Value, why: Refusal) -> Result<Value, AllocError>
-    ensures { IfOk result (λ value. view value ≡ refused (view id.now) why) }
+/// Returns the error response to the request with this id.
+pub(crate) fn error_response(alloc: Global, id: &Value, why: Refusal) -> Result<Value, AllocError>
+    ensures { IfOk result (λ value. view value ≡ error_response (view id.now) why) }
 {
     let error = error_value(alloc, why)?;
     let it = with_value(alloc, Map::new(alloc), "error", error)?;
     with_id(alloc, it, id)
 }
 
-/// A notification of diagnostics.
-pub(crate) fn publication(alloc: Global, params: Value) -> Result<Value, AllocError>
-    ensures { IfOk result (λ value. view value ≡ publication (view params)) }
+/// Returns the notification that publishes diagnostics.
+pub(crate) fn diagnostics_notification(alloc: Global, params: Value) -> Result<Value, AllocError>
+    ensures { IfOk result (λ value. view value ≡ diagnostics_notification (view params)) }
 {
     let it = with_value(alloc, Map::new(alloc), "params", params)?;
     let it = with_text(alloc, it, "jsonrpc", "2.0")?;
     object_with_text(alloc, it, "method", "textDocument/publishDiagnostics")
 }
 
-// Documents are opened, closed, saved, and told as a whole where they change.
+// The client sends documents when they are opened, closed and saved, and their whole text when they change.
 fn sync_value(alloc: Global) -> Result<Value, AllocError>
     ensures { IfOk result (λ value. view value ≡ sync_value) }
 {
@@ -104,7 +105,7 @@ fn sync_value(alloc: Global) -> Result<Value, AllocError>
     object_with(alloc, it, "save", Value::Bool(true))
 }
 
-// Quick fixes.
+// The server offers quick fixes.
 fn actions_kinds(alloc: Global) -> Result<Value, AllocError>
     ensures { IfOk result (λ value. view value ≡ actions_kinds) }
 {
@@ -112,7 +113,7 @@ fn actions_kinds(alloc: Global) -> Result<Value, AllocError>
     object_with(alloc, Map::new(alloc), "codeActionKinds", kinds)
 }
 
-// What a server can do.
+// The capabilities of the server.
 fn capabilities(alloc: Global) -> Result<Value, AllocError>
     ensures { IfOk result (λ value. view value ≡ capabilities) }
 {
@@ -123,9 +124,9 @@ fn capabilities(alloc: Global) -> Result<Value, AllocError>
     object_with_text(alloc, it, "positionEncoding", "utf-16")
 }
 
-/// The answer to `initialize`.
-pub(crate) fn server_value(alloc: Global) -> Result<Value, AllocError>
-    ensures { IfOk result (λ value. view value ≡ server_value) }
+/// Returns the result of `initialize`.
+pub(crate) fn initialize_result(alloc: Global) -> Result<Value, AllocError>
+    ensures { IfOk result (λ value. view value ≡ initialize_result) }
 {
     let info = object_with_text(alloc, Map::new(alloc), "name", "lint")?;
     let it = with_value(alloc, Map::new(alloc), "serverInfo", info)?;

@@ -1,4 +1,4 @@
-//! Lists of JSON, and objects, member by member: nothing is held while a member is made, as it is inside `json!`.
+//! Lists and objects of JSON, built member by member. `json!` would hold a half-built value while a member is created.
 
 ghost use Rattle.std.specs.Prelude.{◌≡◌, IfOk, map};
 ghost use Rattle.serde_json.specs.Data.{object, put as with_member, string};
@@ -8,17 +8,17 @@ ghost use Rattle.miette_language_server.specs.rules.Values.{list_value};
 use serde_json::{Map, Value, put};
 use std::alloc::{AllocError, Global};
 
-/// A list.
+/// Creates a list.
 pub(crate) fn list_value(values: Vec<Value>) -> Value
     ensures { view result ≡ list_value (map view values.items) }
 {
     Value::Array(values)
 }
 
-/// Members with one more, or with another value of one.
+/// Adds a member, or replaces its value.
 ///
 /// # Errors
-/// `AllocError` where memory is refused.
+/// `AllocError` if allocation fails.
 pub(crate) fn with_value(
     alloc: Global,
     members: Map<String, Value>,
@@ -33,10 +33,10 @@ pub(crate) fn with_value(
     Ok(members)
 }
 
-/// Members with one more that is a text.
+/// Adds a string member.
 ///
 /// # Errors
-/// `AllocError` where memory is refused.
+/// `AllocError` if allocation fails.
 pub(crate) fn with_text(
     alloc: Global,
     members: Map<String, Value>,
@@ -50,10 +50,10 @@ pub(crate) fn with_text(
     with_value(alloc, members, key, value)
 }
 
-/// An object of members and one more.
+/// Returns an object of members and one more.
 ///
 /// # Errors
-/// `AllocError` where memory is refused.
+/// `AllocError` if allocation fails.
 pub(crate) fn object_with(
     alloc: Global,
     members: Map<String, Value>,
@@ -67,10 +67,10 @@ pub(crate) fn object_with(
     Ok(Value::Object(members))
 }
 
-/// An object of members and one more that is a text.
+/// Returns an object of members and one more string member.
 ///
 /// # Errors
-/// `AllocError` where memory is refused.
+/// `AllocError` if allocation fails.
 pub(crate) fn object_with_text(
     alloc: Global,
     members: Map<String, Value>,

@@ -1,4 +1,4 @@
-//! The server over any reader and any writer.
+//! The server's loop, over any reader and writer.
 
 ghost use Rattle.std.specs.Prelude.{◌≡◌, ◌↔◌, ◌⊎◌, ◌<◌, IfOk, IfSome, IsTrue, OnErr, OnOk, false, true};
 ghost use Rattle.std.specs.Io.KnownBytes.{Appends};
@@ -8,30 +8,30 @@ ghost use Rattle.miette_devices.specs.views.Device.{TakesBeginning};
 ghost use Rattle.miette_language_server.specs.rules.Frames.{framed};
 ghost use Rattle.miette_language_server.specs.rules.Serving.{served};
 ghost use Rattle.miette_language_server.specs.views.ClientState.{IsOpen};
-ghost use Rattle.miette_language_server.specs.views.Served.{IsBegun, IsTurn, moment};
+ghost use Rattle.miette_language_server.specs.views.Served.{IsServiceBegun, IsTurn, moment};
 
 use crate::client::Client;
 use crate::frames::{read_frame, write_frame};
-use crate::session::{Outcome, Session};
-use miette_devices::fault::Fault;
+use crate::session::{ServerOutcome, Session};
+use miette_devices::fault::ProgramError;
 use serde_json::Value;
 use std::alloc::Global;
 use std::io::{Read, Write};
 
-// Writes a message that has no fraction in a frame.
+// Writes a message in a frame. The message has no fractions.
 fn write_message<R, W: Write>(
     alloc: Global,
     client: &mut Client<R, W>,
     message: &Value,
-) -> Result<(), Fault>
+) -> Result<(), ProgramError>
     requires whole { has_float (view message.now) ≡ false }
     requires sound { client.old.writer.failed ≡ false }
     ensures ok { OnOk result (Appends (W.contents client.old.writer.inner) (W.contents client.new.writer.inner)
         (framed (compact_text (view message.now)))) }
     ensures err { OnErr result (TakesBeginning (W.contents client.old.writer.inner)
         (W.contents client.new.writer.inner) (framed (compact_text (view message.now)))) }
-    ensures failed { IsTrue client.new.writer.failed ↔ (result ≡ Err Fault.Write) }
-    ensures others { OnErr result ((result ≡ Err Fault.Write) ⊎ (result ≡ Err Fault.Memory)) }
+    ensures failed { IsTrue client.new.writer.failed ↔ (result ≡ Err ProgramError.Write) }
+    ensures others { OnErr result ((result ≡ Err ProgramError.Write) ⊎ (result ≡ Err ProgramError.Memory)) }
     ensures sent { OnOk result (client.new.writer.is_sent ≡ true) }
     ensures reader { client.new.reader ≡ client.old.reader }
 {
@@ -39,22 +39,22 @@ fn write_message<R, W: Write>(
     write_frame(alloc, client, text.as_bytes())
 }
 
-// One frame: the status, where the server ends.
+// Handles one frame. Returns the exit code if the server ends.
 fn turn<R: Read, W: Write>(
     alloc: Global,
     session: &mut Session,
     client: &mut Client<R, W>,
-) -> Result<Option<u8>, Fault>
+) -> Result<Option<u8>, ProgramError>
     requires { IsOpen client.old }
     ensures served { IfOk result (IsTurn
         (moment session.old (R.remaining client.old.reader.inner) (W.contents client.old.writer.inner))
         (moment session.new (R.remaining client.new.reader.inner) (W.contents client.new.writer.inner))) }
-    ensures begun { OnErr result (IsBegun session.old (R.remaining client.old.reader.inner)
+    ensures begun { OnErr result (IsServiceBegun session.old (R.remaining client.old.reader.inner)
         (W.contents client.old.writer.inner) (W.contents client.new.writer.inner)) }
-    ensures read_failed { IsTrue client.new.reader.failed ↔ (result ≡ Err Fault.Read) }
-    ensures write_failed { IsTrue client.new.writer.failed ↔ (result ≡ Err Fault.Write) }
-    ensures others { OnErr result ((result ≡ Err Fault.Memory) ⊎ (result ≡ Err Fault.Read)
-        ⊎ (result ≡ Err Fault.Write)) }
+    ensures read_failed { IsTrue client.new.reader.failed ↔ (result ≡ Err ProgramError.Read) }
+    ensures write_failed { IsTrue client.new.writer.failed ↔ (result ≡ Err ProgramError.Write) }
+    ensures others { OnErr result ((result ≡ Err ProgramError.Memory) ⊎ (result ≡ Err ProgramError.Read)
+        ⊎ (result ≡ Err ProgramError.Write)) }
     ensures sent { OnOk result (client.new.writer.is_sent ≡ true) }
     ensures status { IfOk result (λ it. IfSome it (λ status. status < 3)) }
 {
@@ -65,29 +65,29 @@ fn turn<R: Read, W: Write>(
     };
     let outcome = session.step(alloc, body.as_slice())?;
     match outcome {
-        Outcome::Nothing => Ok(None),
-        Outcome::Ended(status) => Ok(Some(status)),
-        Outcome::Written(message) => {
+        ServerOutcome::Nothing => Ok(None),
+        ServerOutcome::Ended(status) => Ok(Some(status)),
+        ServerOutcome::Written(message) => {
             write_message(alloc, client, &message)?;
             Ok(None)
         }
     }
 }
 
-/// Serves a client, whose lines may have `width` columns, until it ends the server or its frames end: the status, which
-/// is 0, 1 or 2.
+/// Serves a client until it ends the server or its input ends. Lines may have `width` columns. Returns the exit code:
+/// 0, 1 or 2.
 ///
-/// What is written for what the reader has is a function of its bytes: `served`. The reader is called only where all
-/// that was written was sent (`Client`).
+/// The output depends only on the input bytes: see `served`. The reader is called only after everything written was
+/// flushed (`Client`).
 ///
 /// # Errors
-/// `Read` and `Write` exactly where a call of the reader or the writer failed, and `Memory`. A beginning of `served`
-/// was written.
+/// `Read` or `Write` exactly if a call of the reader or writer failed, and `Memory` if allocation fails. The writer
+/// then has a beginning of `served`.
 pub fn serve<R: Read, W: Write>(
     alloc: Global,
     width: usize,
     client: &mut Client<R, W>,
-) -> Result<u8, Fault>
+) -> Result<u8, ProgramError>
     requires { IsOpen client.old }
     ensures served { IfOk result (λ status. IfSome (R.remaining client.old.reader.inner) (λ bytes.
         Appends (W.contents client.old.writer.inner) (W.contents client.new.writer.inner) (served width bytes).output
@@ -95,10 +95,10 @@ pub fn serve<R: Read, W: Write>(
     ensures begun { OnErr result (IfSome (R.remaining client.old.reader.inner) (λ bytes.
         TakesBeginning (W.contents client.old.writer.inner) (W.contents client.new.writer.inner)
         (served width bytes).output)) }
-    ensures read_failed { IsTrue client.new.reader.failed ↔ (result ≡ Err Fault.Read) }
-    ensures write_failed { IsTrue client.new.writer.failed ↔ (result ≡ Err Fault.Write) }
-    ensures others { OnErr result ((result ≡ Err Fault.Memory) ⊎ (result ≡ Err Fault.Read)
-        ⊎ (result ≡ Err Fault.Write)) }
+    ensures read_failed { IsTrue client.new.reader.failed ↔ (result ≡ Err ProgramError.Read) }
+    ensures write_failed { IsTrue client.new.writer.failed ↔ (result ≡ Err ProgramError.Write) }
+    ensures others { OnErr result ((result ≡ Err ProgramError.Memory) ⊎ (result ≡ Err ProgramError.Read)
+        ⊎ (result ≡ Err ProgramError.Write)) }
     ensures sent { OnOk result (client.new.writer.is_sent ≡ true) }
     ensures status { IfOk result (λ status. status < 3) }
 {
@@ -110,5 +110,5 @@ pub fn serve<R: Read, W: Write>(
             None => {}
         }
     }
-    Err(Fault::Memory)
+    Err(ProgramError::Memory)
 }

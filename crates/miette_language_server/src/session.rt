@@ -1,26 +1,31 @@
-//! A session of a client with the server, message by message.
+//! A session with a client, message by message.
 
 ghost use Rattle.std.specs.Prelude.{◌≡◌, IfOk, option_map};
 ghost use Rattle.serde_json.specs.View.{view};
-ghost use Rattle.miette_language_server.specs.rules.Session.{asked_first, asked_in, asked_then, called, first_state};
-ghost use Rattle.miette_language_server.specs.rules.Session.{message_of, exit_alone, noticed, noticed_in, step, told};
-ghost use Rattle.miette_language_server.specs.rules.Session.{actions_value, closed, held};
+ghost use Rattle.miette_language_server.specs.rules.Session.{request_before_initialize, asked_in};
+ghost use Rattle.miette_language_server.specs.rules.Session.{request_while_running, called, first_state};
+ghost use Rattle.miette_language_server.specs.rules.Session.{message_of, exit_alone, notification_while_running};
+ghost use Rattle.miette_language_server.specs.rules.Session.{noticed_in, step, told};
+ghost use Rattle.miette_language_server.specs.rules.Session.{actions_value, without_document, held};
 ghost use Rattle.miette_language_server.specs.views.Answered.{IsStep, outcome_of};
 
 use crate::actions::actions_in;
-use crate::diagnostics::{diagnostics_of, published_value};
+use crate::diagnostics::{diagnostics_of, publish_params};
 use crate::documents::{
-    Document, changed_in, document_in, opened_in, put_document, take_out, uri_in,
+    Document, document_changed_in, document_in, document_opened_in, put_document, remove_document,
+    uri_in,
 };
 use crate::members::{id_of, region_at, text_at};
-use crate::messages::{Refusal, answer, publication, refused, server_value};
-use crate::names::{Notice, Request, notice_named, request_named};
+use crate::messages::{
+    Refusal, diagnostics_notification, error_response, initialize_result, success_response,
+};
+use crate::methods::{Notification, Request, notification_named, request_named};
 use crate::objects::list_value;
 use serde_json::Value;
 use std::alloc::{AllocError, Global};
 use std::marker::Model;
 
-/// How far a session is.
+/// The phase of a session.
 #[derive(Clone, Copy, Debug, PartialEq, Eq)]
 pub enum Phase {
     /// Before `initialize`.
@@ -31,18 +36,18 @@ pub enum Phase {
     Stopping,
 }
 
-/// What a message has the server do.
+/// What the server does for a message.
 #[derive(Drop)]
-pub enum Outcome {
+pub enum ServerOutcome {
     /// Nothing.
     Nothing,
-    /// To write a message.
+    /// Write a message.
     Written(Value),
-    /// To end with a status.
+    /// Exit with this code.
     Ended(u8),
 }
 
-/// A session: how far it is, and the documents that are open.
+/// A session: its phase, and the open documents.
 #[derive(Drop)]
 pub struct Session {
     phase: Phase,
@@ -51,14 +56,14 @@ pub struct Session {
 }
 
 impl Model for Session {
-    ghost use Rattle.miette_language_server.specs.rules.Session.{State};
+    ghost use Rattle.miette_language_server.specs.rules.Session.{SessionState};
 
-    ghost Value = { State };
+    ghost Value = { SessionState };
 
     ghost view = { λ it. record { phase = it.phase; width = it.width; documents = it.documents.items } };
 }
 
-// The value that a body is, if it is one.
+// Parses the body of a frame. Returns `None` if it is not JSON.
 fn message_of(alloc: Global, body: &[u8]) -> Result<Option<Value>, AllocError>
     ensures { IfOk result (λ it. option_map view it ≡ message_of body.now) }
 {
@@ -69,19 +74,22 @@ fn message_of(alloc: Global, body: &[u8]) -> Result<Option<Value>, AllocError>
     }
 }
 
-// What the server does at a notification where `exit` alone is heard.
-fn exit_alone(status: u8, notice: Notice) -> Outcome
-    ensures { outcome_of result ≡ exit_alone status notice }
+// Handles a notification in a phase in which only `exit` has an effect.
+fn exit_alone(status: u8, notification: Notification) -> ServerOutcome
+    ensures { outcome_of result ≡ exit_alone status notification }
 {
-    match notice {
-        Notice::Exit => Outcome::Ended(status),
-        Notice::Opened | Notice::Changed | Notice::Saved | Notice::Closed | Notice::Ignored =>
-            Outcome::Nothing,
+    match notification {
+        Notification::Exit => ServerOutcome::Ended(status),
+        Notification::Opened
+        | Notification::Changed
+        | Notification::Saved
+        | Notification::Closed
+        | Notification::Ignored => ServerOutcome::Nothing,
     }
 }
 
 impl Session {
-    /// A session before its first message, of lines that may have `width` columns.
+    /// Creates a session before its first message. Lines may have `width` columns.
     pub fn new(alloc: Global, width: usize) -> Session
         ensures { result ≡ first_state width }
     {
@@ -92,29 +100,29 @@ impl Session {
         }
     }
 
-    // A request before `initialize`.
-    fn asked_first(
+    // Handles a request before `initialize`.
+    fn request_before_initialize(
         &mut self,
         alloc: Global,
         id: &Value,
         request: Request,
-    ) -> Result<Outcome, AllocError>
-        ensures { IfOk result (IsStep (asked_first self.old (view id.now) request) self.new) }
+    ) -> Result<ServerOutcome, AllocError>
+        ensures { IfOk result (IsStep (request_before_initialize self.old (view id.now) request) self.new) }
     {
         match request {
             Request::Initialize => {
-                let server = server_value(alloc)?;
-                let written = answer(alloc, id, server)?;
+                let server = initialize_result(alloc)?;
+                let written = success_response(alloc, id, server)?;
                 self.phase = Phase::Running;
-                Ok(Outcome::Written(written))
+                Ok(ServerOutcome::Written(written))
             }
             Request::CodeAction | Request::Shutdown | Request::Other => {
-                Ok(Outcome::Written(refused(alloc, id, Refusal::NotInitialized)?))
+                Ok(ServerOutcome::Written(error_response(alloc, id, Refusal::NotInitialized)?))
             }
         }
     }
 
-    // The quick fixes at the place that a request names.
+    // Returns the quick fixes in the range that a request names.
     fn actions_value(&self, alloc: Global, message: &Value) -> Result<Value, AllocError>
         ensures { IfOk result (λ value. view value ≡ actions_value self.now (view message.now)) }
     {
@@ -124,176 +132,188 @@ impl Session {
         Ok(list_value(actions))
     }
 
-    // A request between `initialize` and `shutdown`.
-    fn asked_then(
+    // Handles a request between `initialize` and `shutdown`.
+    fn request_while_running(
         &mut self,
         alloc: Global,
         id: &Value,
         message: &Value,
         request: Request,
-    ) -> Result<Outcome, AllocError>
-        ensures { IfOk result (IsStep (asked_then self.old (view id.now) (view message.now) request) self.new) }
+    ) -> Result<ServerOutcome, AllocError>
+        ensures { IfOk result (IsStep (request_while_running self.old (view id.now) (view message.now) request)
+            self.new) }
     {
         let written = match request {
-            Request::Initialize => refused(alloc, id, Refusal::NotNow)?,
+            Request::Initialize => error_response(alloc, id, Refusal::NotNow)?,
             Request::CodeAction => {
                 let actions = self.actions_value(alloc, message)?;
-                answer(alloc, id, actions)?
+                success_response(alloc, id, actions)?
             }
             Request::Shutdown => {
-                let written = answer(alloc, id, Value::Null)?;
+                let written = success_response(alloc, id, Value::Null)?;
                 self.phase = Phase::Stopping;
                 written
             }
-            Request::Other => refused(alloc, id, Refusal::Unknown)?,
+            Request::Other => error_response(alloc, id, Refusal::Unknown)?,
         };
-        Ok(Outcome::Written(written))
+        Ok(ServerOutcome::Written(written))
     }
 
-    // A request.
+    // Handles a request.
     fn asked(
         &mut self,
         alloc: Global,
         id: &Value,
         message: &Value,
         request: Request,
-    ) -> Result<Outcome, AllocError>
+    ) -> Result<ServerOutcome, AllocError>
         ensures { IfOk result
             (IsStep (asked_in self.old.phase self.old (view id.now) (view message.now) request) self.new) }
     {
         match self.phase {
-            Phase::Waiting => self.asked_first(alloc, id, request),
-            Phase::Running => self.asked_then(alloc, id, message, request),
-            Phase::Stopping => Ok(Outcome::Written(refused(alloc, id, Refusal::NotNow)?)),
+            Phase::Waiting => self.request_before_initialize(alloc, id, request),
+            Phase::Running => self.request_while_running(alloc, id, message, request),
+            Phase::Stopping => Ok(ServerOutcome::Written(error_response(
+                alloc,
+                id,
+                Refusal::NotNow,
+            )?)),
         }
     }
 
-    // A document is open with its text.
-    fn hold(&mut self, alloc: Global, document: Document) -> Result<Outcome, AllocError>
+    // Stores an open document and publishes its diagnostics.
+    fn hold(&mut self, alloc: Global, document: Document) -> Result<ServerOutcome, AllocError>
         ensures { IfOk result (IsStep (held self.old document) self.new) }
     {
         let params = diagnostics_of(alloc, self.width, &document)?;
-        let written = publication(alloc, params)?;
+        let written = diagnostics_notification(alloc, params)?;
         put_document(&mut self.documents, document)?;
-        Ok(Outcome::Written(written))
+        Ok(ServerOutcome::Written(written))
     }
 
-    // No document with a uri is open.
-    fn close(&mut self, alloc: Global, uri: &str) -> Result<Outcome, AllocError>
-        ensures { IfOk result (IsStep (closed self.old uri.now) self.new) }
+    // Removes a document and publishes that it has no diagnostics.
+    fn close(&mut self, alloc: Global, uri: &str) -> Result<ServerOutcome, AllocError>
+        ensures { IfOk result (IsStep (without_document self.old uri.now) self.new) }
     {
-        let params = published_value(alloc, uri, None, Vec::new(alloc))?;
-        let written = publication(alloc, params)?;
-        take_out(&mut self.documents, uri);
-        Ok(Outcome::Written(written))
+        let params = publish_params(alloc, uri, None, Vec::new(alloc))?;
+        let written = diagnostics_notification(alloc, params)?;
+        remove_document(&mut self.documents, uri);
+        Ok(ServerOutcome::Written(written))
     }
 
     // A document was opened.
-    fn open(&mut self, alloc: Global, message: &Value) -> Result<Outcome, AllocError>
-        ensures { IfOk result (IsStep (noticed self.old (view message.now) Notice.Opened) self.new) }
+    fn open(&mut self, alloc: Global, message: &Value) -> Result<ServerOutcome, AllocError>
+        ensures { IfOk result (IsStep (notification_while_running self.old (view message.now) Notification.Opened)
+            self.new) }
     {
-        match opened_in(alloc, message)? {
+        match document_opened_in(alloc, message)? {
             Some(document) => self.hold(alloc, document),
-            None => Ok(Outcome::Nothing),
+            None => Ok(ServerOutcome::Nothing),
         }
     }
 
     // A document was changed.
-    fn change(&mut self, alloc: Global, message: &Value) -> Result<Outcome, AllocError>
-        ensures { IfOk result (IsStep (noticed self.old (view message.now) Notice.Changed) self.new) }
+    fn change(&mut self, alloc: Global, message: &Value) -> Result<ServerOutcome, AllocError>
+        ensures { IfOk result (IsStep (notification_while_running self.old (view message.now) Notification.Changed)
+            self.new) }
     {
         let Some(document) = document_in(self.documents.as_slice(), message) else {
-            return Ok(Outcome::Nothing);
+            return Ok(ServerOutcome::Nothing);
         };
-        let changed = changed_in(alloc, document, message)?;
+        let changed = document_changed_in(alloc, document, message)?;
         self.hold(alloc, changed)
     }
 
     // A document was saved.
-    fn save(&self, alloc: Global, message: &Value) -> Result<Outcome, AllocError>
-        ensures { IfOk result (IsStep (noticed self.now (view message.now) Notice.Saved) self.now) }
+    fn save(&self, alloc: Global, message: &Value) -> Result<ServerOutcome, AllocError>
+        ensures { IfOk result (IsStep (notification_while_running self.now (view message.now) Notification.Saved)
+            self.now) }
     {
         let Some(document) = document_in(self.documents.as_slice(), message) else {
-            return Ok(Outcome::Nothing);
+            return Ok(ServerOutcome::Nothing);
         };
         let params = diagnostics_of(alloc, self.width, document)?;
-        Ok(Outcome::Written(publication(alloc, params)?))
+        Ok(ServerOutcome::Written(diagnostics_notification(alloc, params)?))
     }
 
-    // A notification between `initialize` and `shutdown`.
-    fn noticed(
+    // Handles a notification between `initialize` and `shutdown`.
+    fn notification_while_running(
         &mut self,
         alloc: Global,
         message: &Value,
-        notice: Notice,
-    ) -> Result<Outcome, AllocError>
-        ensures { IfOk result (IsStep (noticed self.old (view message.now) notice) self.new) }
+        notification: Notification,
+    ) -> Result<ServerOutcome, AllocError>
+        ensures { IfOk result (IsStep (notification_while_running self.old (view message.now) notification) self.new) }
     {
-        match notice {
-            Notice::Opened => self.open(alloc, message),
-            Notice::Changed => self.change(alloc, message),
-            Notice::Saved => self.save(alloc, message),
-            Notice::Closed => match uri_in(message) {
+        match notification {
+            Notification::Opened => self.open(alloc, message),
+            Notification::Changed => self.change(alloc, message),
+            Notification::Saved => self.save(alloc, message),
+            Notification::Closed => match uri_in(message) {
                 Some(uri) => self.close(alloc, uri),
-                None => Ok(Outcome::Nothing),
+                None => Ok(ServerOutcome::Nothing),
             },
-            Notice::Exit => Ok(Outcome::Ended(1)),
-            Notice::Ignored => Ok(Outcome::Nothing),
+            Notification::Exit => Ok(ServerOutcome::Ended(1)),
+            Notification::Ignored => Ok(ServerOutcome::Nothing),
         }
     }
 
-    // A notification.
+    // Handles a notification.
     fn notified(
         &mut self,
         alloc: Global,
         message: &Value,
-        notice: Notice,
-    ) -> Result<Outcome, AllocError>
+        notification: Notification,
+    ) -> Result<ServerOutcome, AllocError>
         ensures { IfOk result
-            (IsStep (noticed_in self.old.phase self.old (view message.now) notice) self.new) }
+            (IsStep (noticed_in self.old.phase self.old (view message.now) notification) self.new) }
     {
         match self.phase {
-            Phase::Waiting => Ok(exit_alone(1, notice)),
-            Phase::Running => self.noticed(alloc, message, notice),
-            Phase::Stopping => Ok(exit_alone(0, notice)),
+            Phase::Waiting => Ok(exit_alone(1, notification)),
+            Phase::Running => self.notification_while_running(alloc, message, notification),
+            Phase::Stopping => Ok(exit_alone(0, notification)),
         }
     }
 
-    // A message with a method.
+    // Handles a message with a method.
     fn called(
         &mut self,
         alloc: Global,
         message: &Value,
         method: &str,
-    ) -> Result<Outcome, AllocError>
+    ) -> Result<ServerOutcome, AllocError>
         ensures { IfOk result (IsStep (called self.old (view message.now) method.now) self.new) }
     {
         match id_of(message) {
             Some(id) => self.asked(alloc, id, message, request_named(method)),
-            None => self.notified(alloc, message, notice_named(method)),
+            None => self.notified(alloc, message, notification_named(method)),
         }
     }
 
-    // A message.
-    fn told(&mut self, alloc: Global, message: &Value) -> Result<Outcome, AllocError>
+    // Handles a message.
+    fn told(&mut self, alloc: Global, message: &Value) -> Result<ServerOutcome, AllocError>
         ensures { IfOk result (IsStep (told self.old (view message.now)) self.new) }
     {
         match text_at(message, "/method") {
             Some(method) => self.called(alloc, message, method),
-            None => Ok(Outcome::Nothing),
+            None => Ok(ServerOutcome::Nothing),
         }
     }
 
-    /// Takes the body of a frame: what the server does.
+    /// Handles the body of a frame, and returns what the server does.
     ///
     /// # Errors
-    /// `AllocError` where memory is refused. What documents are open is then not said.
-    pub fn step(&mut self, alloc: Global, body: &[u8]) -> Result<Outcome, AllocError>
+    /// `AllocError` if allocation fails. The set of open documents is then unspecified.
+    pub fn step(&mut self, alloc: Global, body: &[u8]) -> Result<ServerOutcome, AllocError>
         ensures { IfOk result (IsStep (step self.old body.now) self.new) }
     {
         match message_of(alloc, body)? {
             Some(message) => self.told(alloc, &message),
-            None => Ok(Outcome::Written(refused(alloc, &Value::Null, Refusal::NotJson)?)),
+            None => Ok(ServerOutcome::Written(error_response(
+                alloc,
+                &Value::Null,
+                Refusal::NotJson,
+            )?)),
         }
     }
 }

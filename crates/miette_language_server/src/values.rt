@@ -1,19 +1,19 @@
-//! Places, edits and fixes as values of the protocol.
+//! Positions, edits and fixes as values of the Language Server Protocol.
 
 ghost use Rattle.std.specs.Prelude.{◌≡◌, IfOk, map};
 ghost use Rattle.serde_json.specs.View.{view};
-ghost use Rattle.miette_language_server.specs.rules.Values.{edit_value, edits_value, fix_value, origin, part};
+ghost use Rattle.miette_language_server.specs.rules.Values.{edit_value, edits_value, fix_value, empty_region, part};
 ghost use Rattle.miette_language_server.specs.rules.Values.{position_value, range_value};
 
 use crate::objects::{list_value, object_with, object_with_text, with_text, with_value};
 use miette_fixes::fix::{Edit, Fix};
 use miette_positions::index::PositionIndex;
-use miette_positions::place::{Position, Region};
+use miette_positions::position::{Position, Region};
 use miette_protocol::protocol::SourceSpan;
 use serde_json::{Map, Value, push};
 use std::alloc::{AllocError, Global};
 
-// A position.
+// Converts a position.
 fn position_value(alloc: Global, position: Position) -> Result<Value, AllocError>
     ensures { IfOk result (λ value. view value ≡ position_value position) }
 {
@@ -21,7 +21,7 @@ fn position_value(alloc: Global, position: Position) -> Result<Value, AllocError
     object_with(alloc, it, "character", Value::from(position.column))
 }
 
-/// A range.
+/// Converts a region to a range.
 pub(crate) fn range_value(alloc: Global, region: Region) -> Result<Value, AllocError>
     ensures { IfOk result (λ value. view value ≡ range_value region) }
 {
@@ -31,25 +31,25 @@ pub(crate) fn range_value(alloc: Global, region: Region) -> Result<Value, AllocE
     object_with(alloc, it, "end", end)
 }
 
-// The empty part at the beginning of a source.
-fn origin() -> Region
-    ensures { result ≡ origin }
+// The empty region at the beginning of a source.
+fn empty_region() -> Region
+    ensures { result ≡ empty_region }
 {
     let start = Position { line: 0, column: 0 };
     Region { start, end: start }
 }
 
-/// The part of a source that a span is.
+/// Returns the region of a span.
 pub(crate) fn part(source: &PositionIndex<'_>, span: SourceSpan) -> Region
     ensures { result ≡ part source.now span }
 {
     match source.region(span) {
         Some(region) => region,
-        None => origin(),
+        None => empty_region(),
     }
 }
 
-// An edit.
+// Converts an edit.
 fn edit_value(alloc: Global, source: &PositionIndex<'_>, edit: &Edit) -> Result<Value, AllocError>
     ensures { IfOk result (λ value. view value ≡ edit_value source.now edit.now) }
 {
@@ -58,7 +58,7 @@ fn edit_value(alloc: Global, source: &PositionIndex<'_>, edit: &Edit) -> Result<
     object_with_text(alloc, it, "newText", edit.text())
 }
 
-/// A list of edits.
+/// Converts edits to a list.
 pub(crate) fn edits_value(
     alloc: Global,
     source: &PositionIndex<'_>,
@@ -74,7 +74,7 @@ pub(crate) fn edits_value(
     Ok(list_value(values))
 }
 
-/// A fix of the document with a uri.
+/// Converts a fix of the document with this URI.
 pub(crate) fn fix_value(
     alloc: Global,
     uri: &str,

@@ -9,26 +9,26 @@ use Rattle.std.specs.Option.{option_map}
 use Rattle.std.proofs.lemmas.Bool.{eqb-true, eqb-false, eq-eqb, ne_eqb, lt-ltb, le-ltb, cases_lt}
 use Rattle.std.proofs.lemmas.Bool.{and_left, and_right, or_from, or_left}
 use Rattle.std.proofs.lemmas.List.{at_drop_more}
-use Rattle.miette_basics.proofs.Cases.{by_cases}
+use Rattle.miette_lines.proofs.Cases.{by_cases}
 use Rattle.miette_protocol.specs.views.Meaning.{Label}
-use Rattle.miette_protocol.specs.rules.Outcome.{Refuses}
-use Rattle.miette_protocol.specs.rules.Reading.{Contents, IsAccepted, Source, Span}
+use Rattle.miette_protocol.specs.rules.Outcome.{IsReadError}
+use Rattle.miette_protocol.specs.rules.Reading.{Contents, IsInBounds, Source, Span}
 use Rattle.miette_protocol.specs.declared.error.MietteError.{MietteError}
 use Rattle.miette_protocol.specs.declared.error.MietteError.TheVariants as errors
-use Rattle.miette_label_rules.specs.rules.Answers.{Answers}
-use Rattle.miette_label_rules.specs.rules.Around.{has_own, lines_around}
-use Rattle.miette_label_rules.specs.rules.Contexts.{contents}
-use Rattle.miette_label_rules.specs.rules.Groups.{in_order, refusal}
-use Rattle.miette_label_rules.specs.rules.Labels.{is_at_end, shows_end, some_shows_end}
-use Rattle.miette_page.specs.rules.Rows.{Row}
-use Rattle.miette_page.specs.views.Printouts.{Printout, ◌⊕◌}
-use Rattle.miette_page.specs.views.Tokens.{rows_tokens}
+use Rattle.miette_labels.specs.rules.Answers.{Answers}
+use Rattle.miette_labels.specs.rules.Around.{has_own_context, label_context}
+use Rattle.miette_labels.specs.rules.Contexts.{contents}
+use Rattle.miette_labels.specs.rules.Groups.{in_order, first_refusal}
+use Rattle.miette_labels.specs.rules.Labels.{is_at_end, shows_end, some_shows_end}
+use Rattle.miette_style.specs.rules.Rows.{Row}
+use Rattle.miette_style.specs.views.Printouts.{Printout, ◌⊕◌}
+use Rattle.miette_style.specs.views.Tokens.{rows_tokens}
 use Rattle.miette_snippet_rules.specs.declared.options.LayoutOptions.{LayoutOptions}
 use Rattle.miette_snippet_rules.specs.rules.Frames.{refused_row}
-use Rattle.miette_snippet_rules.specs.rules.Settings.{SnippetSettings}
+use Rattle.miette_snippet_rules.specs.rules.SnippetSettings.{SnippetSettings}
 use Rattle.miette_snippet_rules.specs.rules.SnippetLayout.{asks_for_end, end_lines, rows_unless}
 use Rattle.miette_labels.proofs.SourceEnd.{any_same, tells}
-use Rattle.miette_layout.specs.views.Outcomes.{GivesAround, MayGive, Printing}
+use Rattle.miette_layout.specs.views.PrintedSnippets.{GivesAround, MayGive, SnippetPrinting}
 use Rattle.miette_layout.specs.views.SourceEnds.{AreEndLines, AsksForEnd, TellsEnd, asks_at, last_offset}
 
 -- ---- the greatest offset
@@ -102,12 +102,12 @@ told_beyond source offset lt = record {
 
 -- a read there that is refused
 pub refused_there : (source : Source) (offset : ℕ) (span : Span) (e : MietteError) → span
-    ≡ record { offset = offset; len = 0 } → Refuses source span e → TellsEnd source offset false
+    ≡ record { offset = offset; len = 0 } → IsReadError source span e → TellsEnd source offset false
 refused_there source offset span (errors.IoError x) is h = told_nothing source offset h
 refused_there source offset span errors.OutOfBounds is h =
     elim (cases_lt (length source.bytes) offset) [
       | inl lt ↦ told_beyond source offset lt
-      | inr le ↦ absurd (h (subst (λ (s : Span). IsAccepted source.bytes s) (sym is)
+      | inr le ↦ absurd (h (subst (λ (s : Span). IsInBounds source.bytes s) (sym is)
           (record { begins = le; ends = omega (arith, le) })))
     ]
 
@@ -150,8 +150,8 @@ around_one false number = refl
 
 some_at : (n : ℕ) (labels : List Label) → some_shows_end 1 n labels ≡ (ltb 0 n && list_any (asks_at n) labels)
 some_at n labels =
-    any_same (λ l. shows_end n (lines_around 1 labels l) l) (λ l. ltb 0 n && asks_at n l)
-    (λ l. ap (λ b. ltb 0 n && (is_at_end n l && b)) (around_one (has_own labels) l.context)) labels
+    any_same (λ l. shows_end n (label_context 1 labels l) l) (λ l. ltb 0 n && asks_at n l)
+    (λ l. ap (λ b. ltb 0 n && (is_at_end n l && b)) (around_one (has_own_context labels) l.context)) labels
     ∙ any_and (ltb 0 n) (asks_at n) labels
 
 asked_here : (n last : ℕ) (labels : List Label) → last ≡ n
@@ -169,7 +169,7 @@ asked n labels =
           ∙ sym (and_right (some_shows_end 1 n labels) _ (ap not (any_beyond n labels ∙ lt-ltb n last lt)))
       | inr le ↦ elim (cases_lt last n) [
         | inl lt ↦ and_left _ _ (and_right (ltb 0 n) _ (ne_eqb last n (λ e. omega (arith, e, lt))))
-            ∙ sym (and_left _ _ (none_at n (λ l. ltb 0 (lines_around 1 labels l)) labels lt))
+            ∙ sym (and_left _ _ (none_at n (λ l. ltb 0 (label_context 1 labels l)) labels lt))
         | inr ge ↦ asked_here n last labels (omega (arith, le, ge))
             ∙ sym (ap (λ b. some_shows_end 1 n labels && not b) (any_beyond n labels ∙ le-ltb n last le)
             ∙ and_true (some_shows_end 1 n labels))
@@ -254,7 +254,7 @@ ends_aside s source labels a fails None = refl
 abbrev pub with_lines : ℕ → SnippetSettings → SnippetSettings
 with_lines lines s = record s { layout = record s.layout { context_lines = lines } }
 
-given_around : (by : Printing) (source : Source) (labels : List Label) (fails : Bool) (before : Printout)
+given_around : (by : SnippetPrinting) (source : Source) (labels : List Label) (fails : Bool) (before : Printout)
     (page : Option Printout) → (source.always_reads ≡ true → fails ≡ false)
     → GivesAround (record by { settings = with_lines (end_lines by.settings.layout fails source labels) by.settings })
     source labels before page → MayGive by source labels before page
@@ -272,11 +272,11 @@ given_around by source labels fails before page always g =
       plain = g.plain;
       calls = g.calls;
       is = g.is ∙ ap (option_map (λ rows. before ⊕ rows_tokens rows)) (sym (ends_aside s source (in_order labels)
-          g.answers fails (option_map (refused_row s) (refusal source.bytes g.answers.label_fails
+          g.answers fails (option_map (refused_row s) (first_refusal source.bytes g.answers.label_fails
           (in_order labels)))));
     }
 
-pub given_asked : (by : Printing) (source : Source) (labels : List Label) (lines : ℕ) (before : Printout)
+pub given_asked : (by : SnippetPrinting) (source : Source) (labels : List Label) (lines : ℕ) (before : Printout)
     (page : Option Printout) → AreEndLines by.settings.layout source labels lines
     → GivesAround (record by { settings = with_lines lines by.settings }) source labels before page
     → MayGive by source labels before page

@@ -1,23 +1,23 @@
 -- Lines that are left out after one that is left out have no rows, and none is asked for without a highlighter.
-use Rattle.miette_page.specs.views.Printouts.{Printout, ◌⊕◌}
+use Rattle.miette_style.specs.views.Printouts.{Printout, ◌⊕◌}
 use Rattle.std.proofs.Common.{ℕ, ◌+◌, ◌-◌, ◌≤◌, ◌≡◌, Bool, true, false, List, [], ◌∷◌, ◌++◌, length, drop, refl, sym}
 use Rattle.std.proofs.Common.{ap, ◌∙◌, subst, arith}
-use Rattle.miette_source_lines.specs.rules.Lines as P
-use Rattle.miette_source_lines.specs.rules.Lines.{Line, IsCut}
+use Rattle.miette_lines.specs.rules.Lines as P
+use Rattle.miette_lines.specs.rules.Lines.{Line, IsCut}
 use Rattle.miette_highlight.specs.rules.HighlighterCalls.{Call}
-use Rattle.miette_page.specs.views.Tokens.{rows_tokens}
-use Rattle.miette_label_rules.specs.rules.Labels.{DrawnLabel}
-use Rattle.miette_snippet_rules.specs.rules.Folds.{Spread, leaves_out}
+use Rattle.miette_style.specs.views.Tokens.{rows_tokens}
+use Rattle.miette_labels.specs.rules.Labels.{DrawnLabel}
+use Rattle.miette_snippet_rules.specs.rules.FoldedLabels.{LabelExtent, leaves_out}
 use Rattle.miette_snippet_rules.specs.rules.Highlighting.{ArePieces, decoded_text, line_calls}
 use Rattle.miette_snippet_rules.specs.rules.SnippetLayout.{line_or_break, left_out}
-use Rattle.miette_folds.specs.declared.folds.LineStart.{LineStart}
-use Rattle.miette_frames.specs.views.ContentsRows.{cells_in, text_in, texts_in}
+use Rattle.miette_snippet_folds.specs.declared.folds.LineStart.{LineStart}
+use Rattle.miette_snippet_frames.specs.views.ContentsRows.{cells_in, text_in, texts_in}
 use Rattle.miette_layout.proofs.ReadRows.{AreLinedBefore, AreLined}
-use Rattle.miette_folds.proofs.GapLines.{IsBetween}
-use Rattle.miette_folds.proofs.LeftOutGaps.{first_between}
-use Rattle.miette_folds.proofs.Starts.{Begins, RunOf, run_of}
+use Rattle.miette_snippet_folds.proofs.GapLines.{IsBetween}
+use Rattle.miette_snippet_folds.proofs.LeftOutGaps.{first_between}
+use Rattle.miette_snippet_folds.proofs.Starts.{Begins, RunOf, run_of}
 use Rattle.miette_snippet_rules.specs.rules.SnippetLayout.{snippet_context, rows_of_lines}
-use Rattle.miette_snippet_rules.specs.rules.Settings.{SnippetSettings}
+use Rattle.miette_snippet_rules.specs.rules.SnippetSettings.{SnippetSettings}
 
 -- lines with numbers from this one on are left out
 abbrev EachOut : (ℕ → Line → Bool) → ℕ → List Line → Type 0
@@ -61,37 +61,42 @@ each_skipped out s w columns drawn start bytes first blank begun now (l ∷ run)
     (one_skipped out s w columns drawn start bytes first blank begun now l (run ++ rest) number before page o.0 free h))
 
 -- the lines of a run are left out by their numbers
-each_out : (s : SnippetSettings) (ahead : ℕ) (lines : List Line) (spreads : List Spread) (from to : LineStart)
-    → ((k : ℕ) (other : Line) → IsBetween from to k other → leaves_out s.layout.label_lines lines spreads k other
+each_out : (s : SnippetSettings) (ahead : ℕ) (lines : List Line) (label_extents : List LabelExtent)
+    (from to : LineStart)
+    → ((k : ℕ) (other : Line) → IsBetween from to k other → leaves_out s.layout.label_lines lines label_extents k other
     ≡ true) →
     (run : List Line) (at k number : ℕ) → IsCut at run to.offset → from.offset ≤ at → from.place ≤ k → k + length run
-    ≡ to.place → number ≡ ahead + k + 1 → EachOut (left_out s ahead lines spreads) number run
-each_out s ahead lines spreads from to outs [] at k number cut low first size e = tt
-each_out s ahead lines spreads from to outs (l ∷ run) at k number cut low first size e =
+    ≡ to.place → number ≡ ahead + k + 1 → EachOut (left_out s ahead lines label_extents) number run
+each_out s ahead lines label_extents from to outs [] at k number cut low first size e = tt
+each_out s ahead lines label_extents from to outs (l ∷ run) at k number cut low first size e =
     let same : number - (ahead + 1) ≡ k = omega (arith, e) in
     let own = first_between from to l run at k cut low first size in (
-      ap (λ n. leaves_out s.layout.label_lines lines spreads n l) same ∙ outs k l own,
-      each_out s ahead lines spreads from to outs run l.end (k + 1) (number + 1) cut.4 (omega (arith, low, cut.3))
+      ap (λ n. leaves_out s.layout.label_lines lines label_extents n l) same ∙ outs k l own,
+      each_out s ahead lines label_extents from to outs run l.end (k + 1) (number + 1) cut.4 (omega (arith, low, cut.3))
           (omega (arith, first)) (omega (arith, size)) (omega (arith, e)),
     )
 
 -- every line between two places is left out
-abbrev pub AllOut : SnippetSettings → List Spread → ℕ → List ℕ → LineStart → LineStart → Type 0
-AllOut s spreads start bytes near far = (k : ℕ) (other : Line) → IsBetween near far k other →
-    leaves_out s.layout.label_lines (P.lines_from start bytes) spreads k other ≡ true
+abbrev pub AllOut : SnippetSettings → List LabelExtent → ℕ → List ℕ → LineStart → LineStart → Type 0
+AllOut s label_extents start bytes near far = (k : ℕ) (other : Line) → IsBetween near far k other →
+    leaves_out s.layout.label_lines (P.lines_from start bytes) label_extents k other ≡ true
 
-run_skipped : (s : SnippetSettings) (spreads : List Spread) (w columns : ℕ) (drawn : List DrawnLabel) (start : ℕ)
+run_skipped : (s : SnippetSettings) (label_extents : List LabelExtent) (w columns : ℕ) (drawn : List DrawnLabel)
+    (start : ℕ)
     (bytes : List ℕ) (ahead first : ℕ) (blank : Bool) (begun now : List Call → Type 0) (near far : LineStart)
     (before page : Printout) →
     ((calls : List Call) → now calls) → Begins start bytes near.offset near.place
     → Begins start bytes far.offset far.place → near.offset ≤ far.offset →
-    AllOut s spreads start bytes near far →
-    AreLined (left_out s ahead (P.lines_from start bytes) spreads) true s w columns drawn start bytes first blank begun
+    AllOut s label_extents start bytes near far →
+    AreLined (left_out s ahead (P.lines_from start bytes) label_extents) true s w columns drawn start bytes first blank
+    begun
     now (near.offset - start) (ahead + near.place + 1) before page →
-    AreLined (left_out s ahead (P.lines_from start bytes) spreads) true s w columns drawn start bytes first blank begun
+    AreLined (left_out s ahead (P.lines_from start bytes) label_extents) true s w columns drawn start bytes first blank
+    begun
     now (far.offset - start) (ahead + far.place + 1) before page
-run_skipped s spreads w columns drawn start bytes ahead first blank begun now near far before page free a b le outs h =
-    let out : ℕ → Line → Bool = left_out s ahead (P.lines_from start bytes) spreads in
+run_skipped s label_extents w columns drawn start bytes ahead first blank begun now near far before page free a b le
+    outs h =
+    let out : ℕ → Line → Bool = left_out s ahead (P.lines_from start bytes) label_extents in
     let r : RunOf start bytes near far = run_of start bytes near far a b le in
     let rest : List Line = P.lines_from far.offset (drop (far.offset - start) bytes) in
     let low : start + (near.offset - start) ≡ near.offset = omega (arith, a.low) in
@@ -100,7 +105,7 @@ run_skipped s spreads w columns drawn start bytes ahead first blank begun now ne
     ap (λ n. P.lines_from n (drop (near.offset - start) bytes)) low ∙ r.parts in
     let sums : ahead + near.place + 1 + length r.run ≡ ahead + far.place + 1 = omega (arith, r.size) in
     let each : EachOut out (ahead + near.place + 1) r.run =
-    each_out s ahead (P.lines_from start bytes) spreads near far outs r.run near.offset near.place
+    each_out s ahead (P.lines_from start bytes) label_extents near far outs r.run near.offset near.place
     (ahead + near.place + 1) r.cut (omega arith) (omega arith) r.size refl in
     let passed : AreLinedBefore out true s w columns drawn start bytes first blank begun now rest
     (ahead + near.place + 1 + length r.run) before page =
@@ -114,27 +119,32 @@ run_skipped s spreads w columns drawn start bytes ahead first blank begun now ne
     sums passed)
 
 -- the lines before the place are drawn to which a program goes on after a line
-pub lines_run : (s : SnippetSettings) (spreads : List Spread) (left jumps : Bool) (w columns : ℕ)
+pub lines_run : (s : SnippetSettings) (label_extents : List LabelExtent) (left jumps : Bool) (w columns : ℕ)
     (drawn : List DrawnLabel) (start : ℕ) (bytes : List ℕ) (ahead first : ℕ) (blank : Bool)
     (begun now : List Call → Type 0) (near far : LineStart) (before page : Printout) →
     (jumps ≡ true → left ≡ true) → (jumps ≡ true → (calls : List Call) → now calls) → (jumps ≡ false → far ≡ near)
     → Begins start bytes near.offset near.place → Begins start bytes far.offset far.place → near.offset ≤ far.offset →
-    AllOut s spreads start bytes near far →
-    AreLined (left_out s ahead (P.lines_from start bytes) spreads) left s w columns drawn start bytes first blank begun
+    AllOut s label_extents start bytes near far →
+    AreLined (left_out s ahead (P.lines_from start bytes) label_extents) left s w columns drawn start bytes first blank
+    begun
     now (near.offset - start) (ahead + near.place + 1) before page →
-    AreLined (left_out s ahead (P.lines_from start bytes) spreads) left s w columns drawn start bytes first blank begun
+    AreLined (left_out s ahead (P.lines_from start bytes) label_extents) left s w columns drawn start bytes first blank
+    begun
     now (far.offset - start) (ahead + far.place + 1) before page
-lines_run s spreads left true w columns drawn start bytes ahead first blank begun now near far before page gone free one
+lines_run s label_extents left true w columns drawn start bytes ahead first blank begun now near far before page gone
+    free one
     a b le outs h =
-    let out : ℕ → Line → Bool = left_out s ahead (P.lines_from start bytes) spreads in
+    let out : ℕ → Line → Bool = left_out s ahead (P.lines_from start bytes) label_extents in
     subst (λ (g : Bool). AreLined out g s w columns drawn start bytes first blank begun now (far.offset - start)
     (ahead + far.place + 1) before page) (sym (gone refl))
-    (run_skipped s spreads w columns drawn start bytes ahead first blank begun now near far before page (free refl) a b
+    (run_skipped s label_extents w columns drawn start bytes ahead first blank begun now near far before page
+    (free refl) a b
     le outs
     (subst (λ (g : Bool). AreLined out g s w columns drawn start bytes first blank begun now (near.offset - start)
     (ahead + near.place + 1) before page) (gone refl) h))
-lines_run s spreads left false w columns drawn start bytes ahead first blank begun now near far before page gone free
+lines_run s label_extents left false w columns drawn start bytes ahead first blank begun now near far before page gone
+    free
     one a b le outs h =
-    let out : ℕ → Line → Bool = left_out s ahead (P.lines_from start bytes) spreads in
+    let out : ℕ → Line → Bool = left_out s ahead (P.lines_from start bytes) label_extents in
     subst (λ (x : LineStart). AreLined out left s w columns drawn start bytes first blank begun now (x.offset - start)
     (ahead + x.place + 1) before page) (sym (one refl)) h

@@ -1,18 +1,18 @@
 -- What the rows of a line tell.
-use Rattle.miette_page.specs.views.Printouts.{Printout, ◌⊕◌}
+use Rattle.miette_style.specs.views.Printouts.{Printout, ◌⊕◌}
 use Rattle.std.proofs.Common.{ℕ, ◌-◌, ◌<◌, ◌≡◌, List, [], ◌∷◌, ◌++◌, map, length, replicate, decimal, refl, sym, ap}
 use Rattle.std.proofs.Common.{◌∙◌, append-nil, arith}
-use Rattle.miette_page.specs.rules.Rows.{Row, styled_run}
+use Rattle.miette_style.specs.rules.Rows.{Row, styled_run}
 use Rattle.miette_style.specs.rules.Styles.{plain}
-use Rattle.miette_snippet_rules.specs.declared.marks.Mark.{Mark as MadeMark}
-use Rattle.miette_snippet_rules.specs.rules.Marks.{Mark}
-use Rattle.miette_snippet_rules.specs.rules.Drawing.{blank, mark_runs, rows_below, marked_rows}
+use Rattle.miette_snippet_rules.specs.declared.underlines.Underline.{Underline as MadeUnderline}
+use Rattle.miette_snippet_rules.specs.rules.Underlines.{Underline}
+use Rattle.miette_snippet_rules.specs.rules.LabelRows.{blank, underline_runs, label_text_rows, underline_rows}
 use Rattle.miette_snippet_rules.specs.rules.Frames.{number_start, break_start}
 use Rattle.miette_snippet_rules.specs.rules.SnippetLayout.{before_each}
-use Rattle.miette_page.specs.views.Tokens.{begins, row_end, row_tokens, rows_tokens, styled_tokens, text_tokens}
+use Rattle.miette_style.specs.views.Tokens.{begins, row_end, row_tokens, rows_tokens, styled_tokens, text_tokens}
 use Rattle.miette_snippet_rules.proofs.RowTokens.{then, told_as, run_one, blank_told, styled_row}
-use Rattle.miette_frames.proofs.TextRows.{row_done, rows_then, parts_then}
-use Rattle.miette_snippet_rules.specs.rules.Settings.{SnippetSettings}
+use Rattle.miette_snippet_frames.proofs.TextRows.{row_done, rows_then, parts_then}
+use Rattle.miette_snippet_rules.specs.rules.SnippetSettings.{SnippetSettings}
 
 pub number_put : (s : SnippetSettings) (w number : ℕ) (p b l d v n : Printout) → b ≡ p
     ⊕ styled_tokens plain (replicate 1 32) → l ≡ b ⊕ begins s.theme.styles.linum ∷ [] → d ≡ l
@@ -76,8 +76,8 @@ marked_put before row below p a m e n ha hm he hn =
     rows_then ((before ++ row) ∷ []) (before_each before below) p e n
     (row_done (before ++ row) p m e (parts_then before row p a m ha hm) he) hn
 
-pub marked_some : (s : SnippetSettings) (f : MadeMark → Mark) (ms : List MadeMark) → 0 < length ms
-    → mark_runs s 0 (map f ms) ∷ rows_below s [] (map f ms) ≡ marked_rows s (map f ms)
+pub marked_some : (s : SnippetSettings) (f : MadeUnderline → Underline) (ms : List MadeUnderline) → 0 < length ms
+    → underline_runs s 0 (map f ms) ∷ label_text_rows s [] (map f ms) ≡ underline_rows s (map f ms)
 marked_some s f [] h = absurd (omega arith)
 marked_some s f (m ∷ ms) h = refl
 

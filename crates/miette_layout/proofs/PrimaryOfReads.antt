@@ -5,18 +5,19 @@ use Rattle.std.proofs.lemmas.List.Elements.{All-tail}
 use Rattle.std.specs.List.{filter}
 use Rattle.std.specs.Option.{option_map}
 use Rattle.miette_protocol.specs.views.Meaning.{Label}
-use Rattle.miette_protocol.specs.rules.Reading.{Span, Source, IsAccepted}
+use Rattle.miette_protocol.specs.rules.Reading.{Span, Source, IsInBounds}
 use Rattle.miette_labels.specs.declared.primary.Place.{Place as Found}
 use Rattle.miette_labels.specs.declared.primary.Place.TheVariants as places
 use Rattle.miette_labels.specs.declared.reading.ReadLabel.{ReadLabel}
-use Rattle.miette_label_rules.specs.rules.Around.{has_own}
-use Rattle.miette_label_rules.specs.rules.Contexts.{contents}
+use Rattle.miette_labels.specs.rules.Around.{has_own_context}
+use Rattle.miette_labels.specs.rules.Contexts.{contents}
 use Rattle.miette_snippet_rules.specs.rules.Frames.{Place}
-use Rattle.miette_label_rules.specs.views.GivenLabels.{label_at}
-use Rattle.miette_snippet_rules.specs.rules.SnippetLayout.{is_within, first_marked, primary_of, begins_at, place_of}
+use Rattle.miette_labels.specs.views.ProgramLabels.{label_at}
+use Rattle.miette_snippet_rules.specs.rules.SnippetLayout.{belongs_to, first_marked, primary_of, start_of_label}
+use Rattle.miette_snippet_rules.specs.rules.SnippetLayout.{place_of}
 use Rattle.miette_labels.specs.views.Primary.{lies_within, chosen_label, PointsTo, begins_of, is_unread}
 use Rattle.miette_labels.specs.views.Reads.{IsRead}
-use Rattle.miette_basics.proofs.Cases.{by_cases}
+use Rattle.miette_lines.proofs.Cases.{by_cases}
 use Rattle.miette_labels.proofs.RefusedLabel.{read_of}
 
 -- the span of the first label that is marked, else of the first one that was found
@@ -38,38 +39,38 @@ marked_primary (l ∷ ls) =
 
 chosen_marked : (context : ℕ) (source : Source) (labels : List Label) (own : Bool) (group : Span) (first : Option Span)
     (reads : List ReadLabel) → All (IsRead context source labels) reads →
-    chosen_label own group first reads ≡ marked first (filter (is_within own group) (map (read_of labels) reads))
+    chosen_label own group first reads ≡ marked first (filter (belongs_to own group) (map (read_of labels) reads))
 chosen_marked context source labels own group first [] h = refl
 chosen_marked context source labels own group first (r ∷ rs) h =
     let mine : IsRead context source labels r = h 0 r (omega arith) in
     let later : All (IsRead context source labels) rs = All-tail (IsRead context source labels) r rs h in
     let l : Label = label_at labels r.index in
-    let within : is_within own group l ≡ lies_within own group r.span = ap (lies_within own group) (sym mine.span) in
+    let within : belongs_to own group l ≡ lies_within own group r.span = ap (lies_within own group) (sym mine.span) in
     by_cases {C = chosen_label own group first (r ∷ rs) ≡ marked first
-    (filter (is_within own group) (map (read_of labels) (r ∷ rs)))} (lies_within own group r.span)
-    (λ t. let u : is_within own group l ≡ true = within ∙ t in
+    (filter (belongs_to own group) (map (read_of labels) (r ∷ rs)))} (lies_within own group r.span)
+    (λ t. let u : belongs_to own group l ≡ true = within ∙ t in
     rw (t, u) (ap (λ b. cond b (Some r.span) (chosen_label own group (Some (unwrap_or first r.span)) rs)) mine.primary
     ∙ ap (λ s. cond l.primary (Some s) (chosen_label own group (Some (unwrap_or first s)) rs)) mine.span
     ∙ ap (cond l.primary (Some l.span)) (chosen_marked context source labels own group (Some (unwrap_or first l.span))
     rs later)))
-    (λ f. let u : is_within own group l ≡ false = within ∙ f in
+    (λ f. let u : belongs_to own group l ≡ false = within ∙ f in
     rw (f, u) (chosen_marked context source labels own group first rs later))
 
 -- the chosen span is that of the primary label
 pub chosen_is : (context : ℕ) (source : Source) (labels : List Label) (own : Bool) (group : Span)
     (reads : List ReadLabel) → All (IsRead context source labels) reads →
     chosen_label own group None reads ≡ option_map (λ l. l.span)
-    (primary_of (filter (is_within own group) (map (read_of labels) reads)))
+    (primary_of (filter (belongs_to own group) (map (read_of labels) reads)))
 chosen_is context source labels own group reads h =
     chosen_marked context source labels own group None reads h
-    ∙ marked_primary (filter (is_within own group) (map (read_of labels) reads))
+    ∙ marked_primary (filter (belongs_to own group) (map (read_of labels) reads))
 
 abbrev IfAccepted : List ℕ → Option Span → Type 0
 IfAccepted bytes None = Unit {0}
-IfAccepted bytes (Some span) = IsAccepted bytes span
+IfAccepted bytes (Some span) = IsInBounds bytes span
 
-accepted_else : (bytes : List ℕ) (first : Option Span) (span : Span) → IfAccepted bytes first → IsAccepted bytes span
-    → IsAccepted bytes (unwrap_or first span)
+accepted_else : (bytes : List ℕ) (first : Option Span) (span : Span) → IfAccepted bytes first → IsInBounds bytes span
+    → IsInBounds bytes (unwrap_or first span)
 accepted_else bytes None span h mine = mine
 accepted_else bytes (Some first) span h mine = h
 
@@ -109,7 +110,7 @@ framed_place found = option_map (λ p. record { line = p.0; column = p.1 }) (beg
 
 place_from : (source : Source) (label : Option Label) (found : Found)
     → PointsTo source (option_map (λ l. l.span) label) found → is_unread found ≡ false → framed_place found
-    ≡ option_map (begins_at source) label
+    ≡ option_map (start_of_label source) label
 place_from source None found p u = ap framed_place p
 place_from source (Some label) places.Nowhere p u = absurd p
 place_from source (Some label) (places.At line column) p u =
@@ -118,12 +119,13 @@ place_from source (Some label) (places.At line column) p u =
 place_from source (Some label) places.Unread p u = cc
 
 pub place_is : (context : ℕ) (source : Source) (labels : List Label) (own : Bool) (group : Span)
-    (reads : List ReadLabel) (found : Found) → own ≡ has_own (map (read_of labels) reads)
+    (reads : List ReadLabel) (found : Found) → own ≡ has_own_context (map (read_of labels) reads)
     → All (IsRead context source labels) reads →
     PointsTo source (chosen_label own group None reads) found → is_unread found ≡ false → framed_place found
     ≡ place_of source group (map (read_of labels) reads)
 place_is context source labels own group reads found which h p u =
-    place_from source (primary_of (filter (is_within own group) (map (read_of labels) reads))) found
+    place_from source (primary_of (filter (belongs_to own group) (map (read_of labels) reads))) found
     (subst (λ (o : Option Span). PointsTo source o found) (chosen_is context source labels own group reads h) p) u
-    ∙ ap (λ b. option_map (begins_at source) (primary_of (filter (is_within b group) (map (read_of labels) reads))))
+    ∙ ap (λ b. option_map (start_of_label source) (primary_of (filter (belongs_to b group)
+    (map (read_of labels) reads))))
     which

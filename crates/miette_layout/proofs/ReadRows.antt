@@ -1,6 +1,6 @@
 -- The rows that are drawn from a read's contents are those of the definition, which has the whole source.
-use Rattle.miette_page.proofs.Paging.{put_append, put_nil}
-use Rattle.miette_page.specs.views.Printouts.{Printout, ◌⊕◌}
+use Rattle.miette_style.proofs.Paging.{put_append, put_nil}
+use Rattle.miette_style.specs.views.Printouts.{Printout, ◌⊕◌}
 use Rattle.std.proofs.Common.{ℕ, ◌+◌, ◌-◌, ◌^◌, ◌<◌, ◌≤◌, ◌≡◌, max, Bool, true, false, cond, eqb, ltb, List}
 use Rattle.std.proofs.Common.{[], ◌∷◌, ◌++◌, length, map, take, drop, Option, refl, sym, ap, ◌∙◌, subst, arith, All}
 use Rattle.std.proofs.Common.{slice_index_or}
@@ -10,49 +10,49 @@ use Rattle.std.proofs.lemmas.List.{drop-drop, drop-take, length-take, length-map
 use Rattle.std.proofs.Math.Seq.{take-take}
 use Rattle.std.proofs.lemmas.Bool.{ne_eqb, eqb-true, eqb-false}
 use Rattle.std.proofs.lemmas.List.Elements.{All-from_recursion, All-tail}
-use Rattle.miette_source_lines.specs.rules.Lines as P
-use Rattle.miette_source_lines.specs.rules.Lines.{Line, IsCut}
+use Rattle.miette_lines.specs.rules.Lines as P
+use Rattle.miette_lines.specs.rules.Lines.{Line, IsCut}
 use Rattle.miette_protocol.specs.views.Meaning.{Label}
 use Rattle.miette_protocol.specs.rules.Reading.{Span, Source, Contents, data_start, data_end}
 use Rattle.miette_style.specs.declared.style.Style.{Style}
 use Rattle.miette_highlight.specs.rules.HighlighterCalls.{Call, Leads, asked, restarted}
 use Rattle.miette_labels.specs.declared.reading.ReadLabel.{ReadLabel}
-use Rattle.miette_source_lines.specs.declared.lines.LineOfText.{LineOfText}
-use Rattle.miette_label_rules.specs.declared.placed.PlacedLabel.{PlacedLabel}
-use Rattle.miette_label_rules.specs.rules.Answers.{Highlight, first_of}
-use Rattle.miette_page.specs.rules.Rows.{Row}
-use Rattle.miette_cells.specs.rules.Cells.{Cell, characters, cells_from}
-use Rattle.miette_label_rules.specs.rules.Contexts.{contents, lines_of_contents}
-use Rattle.miette_snippet_rules.specs.rules.Folds.{Spread}
+use Rattle.miette_lines.specs.declared.lines.LineOfText.{LineOfText}
+use Rattle.miette_labels.specs.declared.placed.PlacedLabel.{PlacedLabel}
+use Rattle.miette_labels.specs.rules.Answers.{Highlight, first_of}
+use Rattle.miette_style.specs.rules.Rows.{Row}
+use Rattle.miette_columns.specs.rules.Cells.{Cell, characters, cells_from}
+use Rattle.miette_labels.specs.rules.Contexts.{contents, lines_of_contents}
+use Rattle.miette_snippet_rules.specs.rules.FoldedLabels.{LabelExtent}
 use Rattle.miette_snippet_rules.specs.rules.Frames.{Place, top_row, top_row_of, bottom_row}
 use Rattle.miette_snippet_rules.specs.rules.Frames.{number_width, width_of_lines}
-use Rattle.miette_label_rules.specs.views.GivenLabels.{drawn_of}
-use Rattle.miette_label_rules.specs.rules.Groups.{in_order}
+use Rattle.miette_labels.specs.views.ProgramLabels.{drawn_of}
+use Rattle.miette_labels.specs.rules.Groups.{in_order}
 use Rattle.miette_snippet_rules.specs.rules.Gutters.{gutter_columns, most_labels}
-use Rattle.miette_label_rules.specs.rules.Labels.{DrawnLabel, is_one_line, is_multi_line, one_line, multi_line}
+use Rattle.miette_labels.specs.rules.Labels.{DrawnLabel, is_one_line, is_multi_line, one_line, multi_line}
 use Rattle.miette_snippet_rules.specs.rules.SnippetLayout.{cells_of, line_or_break, line_or_break_of, rows_of_lines}
 use Rattle.miette_snippet_rules.specs.rules.SnippetLayout.{left_out, body_rows}
 use Rattle.miette_snippet_rules.specs.rules.Highlighting.{EachHasPieces, ArePieces, decoded_text, texts_of, line_calls}
 use Rattle.miette_snippet_rules.specs.rules.Highlighting.{piece_of}
-use Rattle.miette_frames.specs.views.ContentsRows.{cells_in, text_in, texts_in, contents_snippet, PutsRows}
-use Rattle.miette_frames.specs.views.Widths.{width_of_count, gutter_of}
-use Rattle.miette_labels.specs.views.Placing.{Placed, placed_of, placed_one, placed_from}
+use Rattle.miette_snippet_frames.specs.views.ContentsRows.{cells_in, text_in, texts_in, contents_snippet, PutsRows}
+use Rattle.miette_snippet_frames.specs.views.Widths.{width_of_count, gutter_of}
+use Rattle.miette_labels.specs.views.Placing.{LabelPlacement, placement_of, place_label, placements_from}
 use Rattle.miette_labels.specs.views.Placing.{begins_at_end, end_drawn}
 use Rattle.miette_labels.specs.views.Reads.{IsRead}
-use Rattle.miette_source_lines.specs.views.Walking.{line_of_text}
+use Rattle.miette_lines.specs.views.Walking.{line_of_text}
 use Rattle.miette_labels.specs.views.Sweeping.{is_one, is_multi, AreSorted}
-use Rattle.miette_label_rules.specs.views.GivenLabels.{nothing}
+use Rattle.miette_labels.specs.views.ProgramLabels.{no_label}
 use Rattle.miette_labels.specs.views.LabelCounts.{most_multi}
-use Rattle.miette_page.specs.views.Tokens.{rows_tokens}
-use Rattle.miette_basics.proofs.Cases.{by_cases}
-use Rattle.miette_source_lines.proofs.Cuts.{cut_from, cut_le}
+use Rattle.miette_style.specs.views.Tokens.{rows_tokens}
+use Rattle.miette_lines.proofs.Cases.{by_cases}
+use Rattle.miette_lines.proofs.Cuts.{cut_from, cut_le}
 use Rattle.miette_labels.proofs.LabelEnds.{end_told}
 use Rattle.miette_labels.proofs.GroupsOfReads.{reads_ascend}
 use Rattle.miette_labels.proofs.SortedLabels.{Rises, non_decreasing}
 use Rattle.miette_labels.proofs.RefusedLabel.{read_of}
 use Rattle.miette_snippet_rules.proofs.RowTokens.{told_rows-append}
 use Rattle.miette_snippet_rules.specs.rules.SnippetLayout.{snippet_context, line_in, line_shown}
-use Rattle.miette_snippet_rules.specs.rules.Settings.{SnippetSettings}
+use Rattle.miette_snippet_rules.specs.rules.SnippetSettings.{SnippetSettings}
 
 -- a part of a part
 pub slices : (bytes : List ℕ) (from to a b : ℕ) → from ≤ a → a ≤ b → b ≤ from + (to - from)
@@ -114,20 +114,20 @@ lines_inside bytes from to =
     (omega (arith, length-take (to - from) (drop from bytes)))
 
 -- a snippet from its read's contents
-abbrev pub contents_lines : SnippetSettings → List Spread → List DrawnLabel → Contents → List (List Highlight)
+abbrev pub contents_lines : SnippetSettings → List LabelExtent → List DrawnLabel → Contents → List (List Highlight)
     → List Row
-contents_lines s spreads drawn held pieces =
-    rows_of_lines (left_out s held.line (lines_of_contents held) spreads) false
+contents_lines s label_extents drawn held pieces =
+    rows_of_lines (left_out s held.line (lines_of_contents held) label_extents) false
     (snippet_context s (number_width held) (gutter_columns drawn (lines_of_contents held)) drawn
     (cells_in s held.span.offset held.bytes)) (held.line + 1) pieces (lines_of_contents held)
 
-pub contents_body : (s : SnippetSettings) (spreads : List Spread) (drawn : List DrawnLabel) (context : ℕ)
+pub contents_body : (s : SnippetSettings) (label_extents : List LabelExtent) (drawn : List DrawnLabel) (context : ℕ)
     (source : Source) (span : Span) (pieces : List (List Highlight)) →
-    contents_lines s spreads drawn (contents context source span) pieces
-    ≡ body_rows s spreads drawn source.bytes (contents context source span) pieces
-contents_body s spreads drawn context source span pieces =
+    contents_lines s label_extents drawn (contents context source span) pieces
+    ≡ body_rows s label_extents drawn source.bytes (contents context source span) pieces
+contents_body s label_extents drawn context source span pieces =
     let held : Contents = contents context source span in
-    contents_from (left_out s held.line (lines_of_contents held) spreads) false s (number_width held)
+    contents_from (left_out s held.line (lines_of_contents held) label_extents) false s (number_width held)
     (gutter_columns drawn (lines_of_contents held)) drawn source.bytes (data_start source.bytes span context)
     (data_end source.bytes span context) (held.line + 1) pieces (lines_of_contents held)
     (lines_inside source.bytes (data_start source.bytes span context) (data_end source.bytes span context))
@@ -207,7 +207,7 @@ placed_after false offset after le = le
 placed_ascends : (ends : Bool) (styles : List Style) (context : ℕ) (source : Source) (labels : List Label) (from i : ℕ)
     (reads : List ReadLabel) (ps : List PlacedLabel) → All (IsRead context source labels) reads →
     Rises (λ r. r.span.offset) from reads →
-    map placed_of ps ≡ placed_from (end_told ends (length source.bytes)) styles i labels reads →
+    map placement_of ps ≡ placements_from (end_told ends (length source.bytes)) styles i labels reads →
     Rises (λ (p : PlacedLabel). p.start)
     (cond (begins_at_end (end_told ends (length source.bytes)) from) (from - 1) from) ps
     × AllByRecursion (λ (p : PlacedLabel). p.start ≤ p.after) ps
@@ -219,12 +219,12 @@ placed_ascends ends styles context source labels from i (r ∷ rs) (p ∷ ps) h 
     let own : IsRead context source labels r = h 0 r (omega arith) in
     let next = placed_ascends ends styles context source labels r.span.offset (i + 1) rs ps
     (All-tail (IsRead context source labels) r rs h) up.1 (ap (drop 1) is) in
-    let first : placed_of p ≡ placed_one end styles i labels r =
-    ap (λ xs. slice_index_or xs 0 (placed_of p)) is in
+    let first : placement_of p ≡ place_label end styles i labels r =
+    ap (λ xs. slice_index_or xs 0 (placement_of p)) is in
     let start : p.start ≡ cond (begins_at_end end r.span.offset) (r.span.offset - 1) r.span.offset =
-    ap (λ (x : Placed). x.start) first in
+    ap (λ (x : LabelPlacement). x.start) first in
     let after : p.after ≡ cond (begins_at_end end r.span.offset) (r.span.offset - 1) (end_drawn r) =
-    ap (λ (x : Placed). x.after) first in
+    ap (λ (x : LabelPlacement). x.after) first in
     let low = lower_le ends (length source.bytes) from r.span.offset up.0 own.accepted.begins in
     let high = placed_after (begins_at_end end r.span.offset) r.span.offset (end_drawn r) (omega arith) in (
       (
@@ -237,14 +237,14 @@ placed_ascends ends styles context source labels from i (r ∷ rs) (p ∷ ps) h 
 pub placed_sorted : (ends : Bool) (styles : List Style) (context : ℕ) (source : Source) (labels : List Label)
     (reads : List ReadLabel) (ps : List PlacedLabel) → All (IsRead context source labels) reads →
     map (read_of labels) reads ≡ in_order labels →
-    map placed_of ps ≡ placed_from (end_told ends (length source.bytes)) styles 0 labels reads → AreSorted ps
+    map placement_of ps ≡ placements_from (end_told ends (length source.bytes)) styles 0 labels reads → AreSorted ps
 placed_sorted ends styles context source labels reads ps h e is =
     let from : ℕ = cond (begins_at_end (end_told ends (length source.bytes)) 0) (0 - 1) 0 in
     let both = placed_ascends ends styles context source labels 0 0 reads ps h
     (reads_ascend context source labels reads e h) is in
     record {
-      order = λ i j le lt. non_decreasing (λ (p : PlacedLabel). p.start) from ps both.0 i j nothing le lt;
-      drawn = λ i lt. All-from_recursion (λ (p : PlacedLabel). p.start ≤ p.after) ps both.1 i nothing lt;
+      order = λ i j le lt. non_decreasing (λ (p : PlacedLabel). p.start) from ps both.0 i j no_label le lt;
+      drawn = λ i lt. All-from_recursion (λ (p : PlacedLabel). p.start ≤ p.after) ps both.1 i no_label lt;
     }
 
 pub told_parts : (p0 p1 p2 p3 : Printout) (top bottom : Row) (body : List Row) → p1 ≡ p0 ⊕ rows_tokens (top ∷ []) → p2
@@ -405,21 +405,21 @@ lines_all out gap s w columns drawn start bytes first blank begun now at number 
     }
 
 -- the rows of a snippet whose lines are counted
-told_counted : (s : SnippetSettings) (spreads : List Spread) (placed : List PlacedLabel)
+told_counted : (s : SnippetSettings) (label_extents : List LabelExtent) (placed : List PlacedLabel)
     (held : Contents) (place : Option Place) (pieces : List (List Highlight)) (w columns lines most : ℕ)
     (p0 p1 p2 p3 : Printout) →
     lines ≡ length (lines_of_contents held) → most ≡ most_multi placed (lines_of_contents held) → w
     ≡ width_of_count held.line lines → columns ≡ gutter_of most →
     p1 ≡ p0 ⊕ rows_tokens (top_row_of s w held.name (ltb 1 lines) place ∷ []) →
-    p2 ≡ p1 ⊕ rows_tokens (rows_of_lines (left_out s held.line (lines_of_contents held) spreads) false
+    p2 ≡ p1 ⊕ rows_tokens (rows_of_lines (left_out s held.line (lines_of_contents held) label_extents) false
     (snippet_context s w columns (map drawn_of placed) (cells_in s held.span.offset held.bytes))
     (held.line + 1) pieces (lines_of_contents held)) →
     p3 ≡ p2 ⊕ rows_tokens (bottom_row s w ∷ []) → p3 ≡ p0
-    ⊕ rows_tokens (contents_snippet s spreads (map drawn_of placed) held place pieces)
-told_counted s spreads placed held place pieces w columns lines most p0 p1 p2 p3 many widest width gutter a b c =
+    ⊕ rows_tokens (contents_snippet s label_extents (map drawn_of placed) held place pieces)
+told_counted s label_extents placed held place pieces w columns lines most p0 p1 p2 p3 many widest width gutter a b c =
     let drawn : List DrawnLabel = map drawn_of placed in
     let real : List Line = lines_of_contents held in
-    let out : ℕ → Line → Bool = left_out s held.line real spreads in
+    let out : ℕ → Line → Bool = left_out s held.line real label_extents in
     let whole : w ≡ number_width held = width ∙ ap (width_of_count held.line) many ∙ sym (width_is held.line real) in
     let room : columns ≡ gutter_columns drawn real = gutter ∙ ap gutter_of (widest ∙ most_is placed real) in
     told_parts p0 p1 p2 p3 (top_row_of s w held.name (ltb 1 lines) place) (bottom_row s w)
@@ -438,7 +438,7 @@ told_counted s spreads placed held place pieces w columns lines most p0 p1 p2 p3
     pieces real ++ bottom_row s (number_width held) ∷ [])) room
 
 -- what the getters of a read gave stands for its parts
-pub told_contents : (s : SnippetSettings) (spreads : List Spread) (placed : List PlacedLabel)
+pub told_contents : (s : SnippetSettings) (label_extents : List LabelExtent) (placed : List PlacedLabel)
     (held : Contents) (place : Option Place) (blank : Bool) (happen : List Call → Type 0)
     (w columns lines most line start : ℕ) (name : Option (List ℕ)) (bytes : List ℕ) (p0 p1 p2 p3 : Printout) →
     line ≡ held.line → start ≡ held.span.offset → name ≡ held.name → bytes ≡ held.bytes →
@@ -446,12 +446,14 @@ pub told_contents : (s : SnippetSettings) (spreads : List Spread) (placed : List
     ≡ width_of_count line lines → columns ≡ gutter_of most →
     p1 ≡ p0 ⊕ rows_tokens (top_row_of s w name (ltb 1 lines) place ∷ []) →
     PutsRows blank happen (texts_in start bytes (P.lines_from start bytes))
-    (λ pieces. rows_of_lines (left_out s line (P.lines_from start bytes) spreads) false
+    (λ pieces. rows_of_lines (left_out s line (P.lines_from start bytes) label_extents) false
     (snippet_context s w columns (map drawn_of placed) (cells_in s start bytes)) (line + 1) pieces
     (P.lines_from start bytes)) p1 p2 →
     p3 ≡ p2 ⊕ rows_tokens (bottom_row s w ∷ []) →
-    PutsRows blank happen (contents_texts held) (contents_snippet s spreads (map drawn_of placed) held place) p0 p3
-told_contents s spreads placed held place blank happen w columns lines most line start name bytes p0 p1 p2 p3 la at
+    PutsRows blank happen (contents_texts held) (contents_snippet s label_extents (map drawn_of placed) held place) p0
+    p3
+told_contents s label_extents placed held place blank happen w columns lines most line start name bytes p0 p1 p2 p3 la
+    at
     named data' many widest width gutter a b c =
     let drawn : List DrawnLabel = map drawn_of placed in
     let same : P.lines_from start bytes ≡ lines_of_contents held = ap (λ n. P.lines_from n bytes) at
@@ -466,19 +468,19 @@ told_contents s spreads placed held place blank happen w columns lines most line
           (subst (λ (n : ℕ). EachHasPieces blank (texts_in n held.bytes (P.lines_from start bytes)) b.pieces) at
           (subst (λ (bs : List ℕ). EachHasPieces blank (texts_in start bs (P.lines_from start bytes)) b.pieces)
           data' b.are));
-      is = told_counted s spreads placed held place b.pieces w columns lines most p0 p1 p2 p3
+      is = told_counted s label_extents placed held place b.pieces w columns lines most p0 p1 p2 p3
           (many ∙ ap length same) (widest ∙ ap (most_multi placed) same) (width ∙ ap (λ n. width_of_count n lines) la)
           gutter
           (a ∙ ap (λ n. p0 ⊕ rows_tokens (top_row_of s w n (ltb 1 lines) place ∷ [])) named)
-          (b.is ∙ ap (λ ls. p1 ⊕ rows_tokens (rows_of_lines (left_out s line ls spreads) false
+          (b.is ∙ ap (λ ls. p1 ⊕ rows_tokens (rows_of_lines (left_out s line ls label_extents) false
           (snippet_context s w columns drawn (cells_in s start bytes)) (line + 1) b.pieces ls)) same
-          ∙ ap (λ n. p1 ⊕ rows_tokens (rows_of_lines (left_out s line (lines_of_contents held) spreads) false
+          ∙ ap (λ n. p1 ⊕ rows_tokens (rows_of_lines (left_out s line (lines_of_contents held) label_extents) false
           (snippet_context s w columns drawn (cells_in s n bytes)) (line + 1) b.pieces (lines_of_contents held)))
           at
-          ∙ ap (λ n. p1 ⊕ rows_tokens (rows_of_lines (left_out s line (lines_of_contents held) spreads) false
+          ∙ ap (λ n. p1 ⊕ rows_tokens (rows_of_lines (left_out s line (lines_of_contents held) label_extents) false
           (snippet_context s w columns drawn (cells_in s held.span.offset n)) (line + 1) b.pieces
           (lines_of_contents held))) data'
-          ∙ ap (λ n. p1 ⊕ rows_tokens (rows_of_lines (left_out s n (lines_of_contents held) spreads) false
+          ∙ ap (λ n. p1 ⊕ rows_tokens (rows_of_lines (left_out s n (lines_of_contents held) label_extents) false
           (snippet_context s w columns drawn (cells_in s held.span.offset held.bytes)) (n + 1) b.pieces
           (lines_of_contents held))) la)
           c;

@@ -1,4 +1,4 @@
--- What the code's values stand for.
-pub mod Outcomes
+-- What the values of the code represent.
+pub mod PrintedSnippets
 pub mod SnippetRows
 pub mod SourceEnds

@@ -1,4 +1,4 @@
-//! What a highlighter answers for the lines of a snippet.
+//! Highlighting the lines of a snippet.
 
 ghost use Rattle.std.specs.Prelude.{◌≡◌, ℕ, List, [], ◌∷◌, true, map, IfOk, if◌then◌else◌};
 ghost use Rattle.miette_snippet_rules.specs.rules.Highlighting.{AreCallsOn, ArePieces, decoded_text};
@@ -8,13 +8,13 @@ ghost use Rattle.miette_highlight.specs.rules.Pieces.{CutsLine, plain_pieces};
 
 use bstr::ByteSlice;
 use miette_highlight::highlight::Highlighter;
-use miette_page::page::PLAIN;
 use miette_protocol::source::MietteSpanContents;
 use miette_style::laws::comparison_laws;
+use miette_style::page::PLAIN;
 use miette_style::style::Style;
 use std::alloc::{AllocError, Global};
 
-/// Begins a new snippet, of its read's contents.
+/// Tells the highlighter that a new snippet begins.
 pub(crate) fn restart<H: Highlighter>(
     highlighter: &mut Option<H>,
     contents: &MietteSpanContents<'_>,
@@ -28,7 +28,7 @@ pub(crate) fn restart<H: Highlighter>(
     }
 }
 
-// A highlighter's pieces for the bytes of a line's text, which it is given decoded.
+// Returns the highlighter's pieces for a line. The highlighter gets the decoded text.
 fn line_pieces<H: Highlighter>(
     alloc: Global,
     highlighter: &mut H,
@@ -45,7 +45,7 @@ fn line_pieces<H: Highlighter>(
     highlighter.highlight_line(alloc, line.as_str())
 }
 
-// Whether a line is left in one plain piece.
+// Returns whether the pieces leave the line plain.
 fn is_plain(pieces: &[(usize, Style)]) -> bool
     ensures plain { (line : List ℕ) → pieces.now ≡ plain_pieces line → result ≡ true }
     ensures counts { listed_pieces pieces.now ≡ (if result then [] else pieces.now) }
@@ -57,9 +57,8 @@ fn is_plain(pieces: &[(usize, Style)]) -> bool
     }
 }
 
-/// A highlighter's pieces for the bytes of a line's text; none where it leaves the line plain, and where there is no
-/// highlighter. Each is a length in bytes of the decoded text, and a style. `AllocError` where memory is refused, to
-/// the highlighter too.
+/// Returns the highlighter's pieces for a line, or none if the line stays plain or there is no highlighter. Each piece
+/// is a length in bytes of the decoded text and a style. `AllocError` if allocation fails, also in the highlighter.
 pub(crate) fn pieces_of<H: Highlighter>(
     alloc: Global,
     highlighter: &mut Option<H>,
@@ -83,8 +82,7 @@ pub(crate) fn pieces_of<H: Highlighter>(
     }
 }
 
-/// Whether the lines after a line may be passed over: it is left out, and there is no highlighter, which is asked for
-/// each of them.
+/// Returns whether the lines after a line that is left out may be skipped. A highlighter needs to see them.
 pub(crate) fn may_pass<H: Highlighter>(highlighter: &Option<H>, left_out: bool) -> bool
     ensures out { result ≡ true → left_out ≡ true }
     ensures free { result ≡ true → (calls : List Call) → follows H.may_follow highlighter.now calls }

@@ -1,14 +1,14 @@
-//! The rows of a diagnostic's snippets: which labels are shown together, how their lines are numbered and marked, where
-//! texts stand, and what a refused label shows.
+//! The snippets of a diagnostic: which labels share a snippet, how its lines are numbered and underlined, and where
+//! label texts go. If a label is out of bounds, one row replaces the snippets.
 #![tactic(auto)]
 
-mod ends;
 mod highlighting;
 pub mod laws;
 mod line;
 mod shown_line;
 mod snippet;
 pub mod snippets;
+mod source_end;
 
-pub use miette_page::page;
 pub use miette_snippet_rules::options;
+pub use miette_style::page;

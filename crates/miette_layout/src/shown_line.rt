@@ -1,21 +1,21 @@
-//! A line as its own rows show it.
+//! A line and what its own rows show.
 
-use miette_label_rules::placed::PlacedLabel;
+use miette_labels::placed::PlacedLabel;
 use miette_style::style::Style;
 
-/// A line as its own rows show it.
+/// A line and what its own rows show.
 #[derive(Clone, Copy)]
 pub(crate) struct ShownLine<'a> {
-    /// Its number, counted from 1.
+    /// The one-based line number.
     pub(crate) number: usize,
-    /// The bytes of its text.
+    /// The bytes of the text.
     pub(crate) text: &'a [u8],
-    /// The labels that lie on it alone, by offset.
+    /// The one-line labels, sorted by offset.
     pub(crate) one: &'a [PlacedLabel<'a>],
-    /// A highlighter's pieces of its text, each a length in bytes and a style.
+    /// The highlighter's pieces, each a length in bytes and a style.
     pub(crate) pieces: &'a [(usize, Style)],
-    /// Whether it is left out.
+    /// Whether the line is left out.
     pub(crate) left_out: bool,
-    /// Whether the line before it is left out.
+    /// Whether the previous line is left out.
     pub(crate) gap: bool,
 }

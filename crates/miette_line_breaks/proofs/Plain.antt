@@ -6,14 +6,14 @@ use Rattle.std.specs.Char.{is_ascii_alphabetic}
 use Rattle.ucd_breaks.specs.declared.LineBreak.{LineBreak}
 use Rattle.ucd_breaks.specs.declared.LineBreak.TheVariants.{Alphabetic}
 use Rattle.miette_line_breaks.specs.declared.opportunity.BreakOpportunity.TheVariants.{Allowed}
-use Rattle.miette_line_breaks.specs.declared.state.State.{State}
+use Rattle.miette_line_breaks.specs.declared.state.BreakState.{BreakState}
 use Rattle.miette_line_breaks.specs.rules.Characters.{lone_mark}
 use Rattle.miette_line_breaks.specs.steps.States.{break_in, is_alphabetic, is_in_word, is_plain, spaced, state_after}
 use Rattle.miette_line_breaks.specs.views.Places.{after_code, found_before}
 use Rattle.miette_line_breaks.proofs.AsciiClasses.{alphabetic_is, letter-is, space-is, space_character}
 
 -- after a letter, or spaces after it
-abbrev plain_state : Bool → State
+abbrev plain_state : Bool → BreakState
 plain_state b = record {
   base = lone_mark;
   is_spaced = b;
@@ -33,7 +33,7 @@ none-counts false false false false true h = absurd (cc)
 none-counts false false false false false h = (refl, refl, refl, refl, refl)
 
 -- a state of these parts
-abbrev pub made : LineBreak → Bool → Bool → Bool → Bool → Bool → Bool → State
+abbrev pub made : LineBreak → Bool → Bool → Bool → Bool → Bool → Bool → BreakState
 made class wide future spaced joined hebrew half = record {
   base = record { class = class; is_wide = wide; is_future_emoji = future };
   is_spaced = spaced;
@@ -42,7 +42,7 @@ made class wide future spaced joined hebrew half = record {
   has_half_flag = half;
 }
 
-plain-is : (s : State) → is_plain s ≡ true → s ≡ plain_state s.is_spaced
+plain-is : (s : BreakState) → is_plain s ≡ true → s ≡ plain_state s.is_spaced
 plain-is s h =
     let p = and_parts (is_alphabetic s.base.class)
     (not (s.base.is_wide || s.base.is_future_emoji || s.is_joined || s.follows_hebrew || s.has_half_flag)) h in
@@ -68,7 +68,7 @@ space-after : (b : Bool) → state_after (plain_state b) space_character ≡ pla
 space-after true = refl
 space-after false = refl
 
-pub plain-letter : (s : State) (c : ℕ) → is_plain s ≡ true → is_ascii_alphabetic c ≡ true →
+pub plain-letter : (s : BreakState) (c : ℕ) → is_plain s ≡ true → is_ascii_alphabetic c ≡ true →
     (found_before s c ≡ (if s.is_spaced then Some Allowed else None)) × (after_code s c ≡ spaced false s)
 plain-letter s c h l =
     let e = plain-is s h in
@@ -77,7 +77,7 @@ plain-letter s c h l =
       ap₂ state_after e x ∙ letter-after s.is_spaced ∙ ap (spaced false) (sym e),
     )
 
-pub plain-space : (s : State) → is_plain s ≡ true → (found_before s 32 ≡ None) × (after_code s 32 ≡ spaced true s)
+pub plain-space : (s : BreakState) → is_plain s ≡ true → (found_before s 32 ≡ None) × (after_code s 32 ≡ spaced true s)
 plain-space s h =
     let e = plain-is s h in (
       ap₂ break_in e space-is ∙ space-found s.is_spaced,
@@ -88,7 +88,7 @@ no-spaces : (b : Bool) → not b ≡ true → b ≡ false
 no-spaces true h = absurd (cc)
 no-spaces false h = refl
 
-pub in-word : (s : State) (c : ℕ) → is_in_word s ≡ true → is_ascii_alphabetic c ≡ true →
+pub in-word : (s : BreakState) (c : ℕ) → is_in_word s ≡ true → is_ascii_alphabetic c ≡ true →
     (found_before s c ≡ None) × (after_code s c ≡ s)
 in-word s c h l =
     let p = and_parts (not s.is_spaced) (is_plain s) h in

@@ -13,15 +13,15 @@ use Rattle.ucd_breaks.specs.declared.LineBreak.{LineBreak}
 use Rattle.ucd_breaks.specs.declared.LineBreak.TheVariants.{Ambiguous, Space}
 use Rattle.miette_line_breaks.specs.declared.ascii.TheConstants.{CLASSES}
 use Rattle.miette_line_breaks.specs.declared.characters.Character.{Character}
-use Rattle.miette_line_breaks.specs.declared.printable.TheConstants.{KINDS, KIND_CLASSES, TRANSITIONS}
-use Rattle.miette_line_breaks.specs.declared.state.State.{State}
+use Rattle.miette_line_breaks.specs.declared.ascii_state.TheConstants.{KINDS, KIND_CLASSES, TRANSITIONS}
+use Rattle.miette_line_breaks.specs.declared.state.BreakState.{BreakState}
 use Rattle.miette_line_breaks.specs.rules.Characters.{character_of, lone_mark}
-use Rattle.miette_line_breaks.specs.rules.Classes.{is_joiner, is_mark, is_regional, is_space}
-use Rattle.miette_line_breaks.specs.steps.Printable.{kind_character, row_state}
+use Rattle.miette_line_breaks.specs.rules.Classes.{is_joiner, is_mark, is_regional, is_space_class}
+use Rattle.miette_line_breaks.specs.steps.AsciiState.{kind_character, row_state}
 use Rattle.miette_line_breaks.specs.steps.States.{attaches, base_after, break_in, ends_hebrew, is_empty, is_lone}
 use Rattle.miette_line_breaks.specs.steps.States.{is_start, joined_after, state_after}
 use Rattle.miette_line_breaks.specs.views.Places.{after_code}
-use Rattle.miette_line_breaks.specs.views.Printable.{begins, is_printable}
+use Rattle.miette_line_breaks.specs.views.AsciiState.{begins_ascii_state, is_printable}
 use Rattle.miette_line_breaks.proofs.AsciiClasses.{ascii-is, same_class, space-is}
 use Rattle.miette_line_breaks.proofs.Plain.{made, none-counts}
 
@@ -123,13 +123,13 @@ high-none c h = grind (arith, nat_tests)
 abbrev pub next_of : ℕ → ℕ → ℕ
 next_of row k = slice_index_or (slice_index_or TRANSITIONS row []) k 0
 
-abbrev same_state : State → State → Bool
+abbrev same_state : BreakState → BreakState → Bool
 same_state a b =
     (line_break_number a.base.class == line_break_number b.base.class) && beq a.base.is_wide b.base.is_wide
     && beq a.base.is_future_emoji b.base.is_future_emoji && beq a.is_spaced b.is_spaced
     && beq a.is_joined b.is_joined && beq a.follows_hebrew b.follows_hebrew && beq a.has_half_flag b.has_half_flag
 
-same-is : (a b : State) → same_state a b ≡ true → a ≡ b
+same-is : (a b : BreakState) → same_state a b ≡ true → a ≡ b
 same-is a b h =
     let class = line_break_number a.base.class == line_break_number b.base.class in
     let wide = beq a.base.is_wide b.base.is_wide in
@@ -268,7 +268,7 @@ step-none row k h s n = elim (k == 14) as (λ v. (k == 14) ≡ v → 14 ≤ k) [
 -- ---- after any character but a Hebrew letter
 
 abbrev counts : LineBreak → Bool
-counts q = is_mark q || is_space q || is_joiner q || is_regional q
+counts q = is_mark q || is_space_class q || is_joiner q || is_regional q
 
 class-tests : all_below (λ k. not (counts (kind_character k).class)) 13 ≡ true
 unfolding all_below
@@ -282,7 +282,7 @@ none-of false false true d h = absurd (cc)
 none-of false false false true h = absurd (cc)
 none-of false false false false h = (refl, refl, refl, refl)
 
-abbrev place : Character → Bool → Bool → Bool → Bool → State
+abbrev place : Character → Bool → Bool → Bool → Bool → BreakState
 place base spaced joined hebrew half = record {
   base = base;
   is_spaced = spaced;
@@ -291,12 +291,12 @@ place base spaced joined hebrew half = record {
   has_half_flag = half;
 }
 
-pub any-after : (s : State) (k : ℕ) → k < 13 → ends_hebrew s ≡ false →
+pub any-after : (s : BreakState) (k : ℕ) → k < 13 → ends_hebrew s ≡ false →
     state_after s (kind_character k) ≡ row_state k
 any-after s k l h =
     let x = kind_character k in
     let q = x.class in
-    let n = none-of (is_mark q) (is_space q) (is_joiner q) (is_regional q)
+    let n = none-of (is_mark q) (is_space_class q) (is_joiner q) (is_regional q)
     (all_below-at (λ k. not (counts (kind_character k).class)) 13 k class-tests l) in
     ap (λ (m : Bool). if m && attaches s then joined_after s (is_joiner q)
     else base_after s (if m then lone_mark else x) (is_joiner q)) n.0
@@ -313,10 +313,10 @@ and-false false = refl
 not-space : (c : ℕ) → (c ≡ 32 → ⊥) → (c == 32) ≡ false
 not-space c h = grind (arith, nat_tests)
 
-pub begins-none : (s : State) (c : ℕ) → is_printable c ≡ false → begins s c ≡ false
-begins-none s c h = ap (λ (b : Bool). b && (if c == 32 then is_empty s else not (ends_hebrew s))) h
+pub begins_ascii_state-none : (s : BreakState) (c : ℕ) → is_printable c ≡ false → begins_ascii_state s c ≡ false
+begins_ascii_state-none s c h = ap (λ (b : Bool). b && (if c == 32 then is_empty s else not (ends_hebrew s))) h
 
-pub hebrew-none : (s : State) (c : ℕ) → (c ≡ 32 → ⊥) → ends_hebrew s ≡ true → begins s c ≡ false
+pub hebrew-none : (s : BreakState) (c : ℕ) → (c ≡ 32 → ⊥) → ends_hebrew s ≡ true → begins_ascii_state s c ≡ false
 hebrew-none s c e h = ap₂ (λ (a b : Bool). is_printable c && (if a then is_empty s else not b)) (not-space c e) h
     ∙ and-false (is_printable c)
 
@@ -367,7 +367,7 @@ code-hyphen row c small below next =
     )
 
 -- a character of a kind but the space's
-pub kind-after : (s : State) (c : ℕ) → c < 128 → (c ≡ 32 → ⊥) → (kind_of c ≡ 14 → ⊥) → ends_hebrew s ≡ false →
+pub kind-after : (s : BreakState) (c : ℕ) → c < 128 → (c ≡ 32 → ⊥) → (kind_of c ≡ 14 → ⊥) → ends_hebrew s ≡ false →
     (is_printable c ≡ true) × (after_code s c ≡ row_state (kind_of c))
 kind-after s c below e f h =
     let l : kind_of c < 13 = before_13 (kind_of c) (kind-small c below) f (kind-space c below (not-space c e)) in
@@ -378,7 +378,7 @@ kind-after s c below e f h =
 
 -- ---- at the start of a text
 
-space_class : (q : LineBreak) → is_space q ≡ true → q ≡ Space
+space_class : (q : LineBreak) → is_space_class q ≡ true → q ≡ Space
 space_class Space h = refl
 space_class q h = absurd (cc)
 
@@ -386,10 +386,10 @@ unspaced : (b : Bool) → not b ≡ true → b ≡ false
 unspaced true h = absurd (cc)
 unspaced false h = refl
 
-empty-is : (s : State) → is_empty s ≡ true → s ≡ row_state 13
+empty-is : (s : BreakState) → is_empty s ≡ true → s ≡ row_state 13
 empty-is s h =
     let p = and_parts (is_start s) (is_lone s) h in
-    let q = and_parts (is_space s.base.class) (not s.is_spaced) p.0 in
+    let q = and_parts (is_space_class s.base.class) (not s.is_spaced) p.0 in
     let n = none-counts s.base.is_wide s.base.is_future_emoji s.is_joined s.follows_hebrew s.has_half_flag p.1 in
     ap₂ (λ k w. made k w s.base.is_future_emoji s.is_spaced s.is_joined s.follows_hebrew s.has_half_flag)
     (space_class s.base.class q.0) n.0
@@ -398,7 +398,7 @@ empty-is s h =
     ∙ ap₂ (λ j h. made Space false false false j h s.has_half_flag) n.2 n.3
     ∙ ap (λ g. made Space false false false false false g) n.4
 
-pub space-after : (s : State) (c : ℕ) → c ≡ 32 → is_empty s ≡ true →
+pub space-after : (s : BreakState) (c : ℕ) → c ≡ 32 → is_empty s ≡ true →
     (is_printable c ≡ true) × (after_code s c ≡ row_state 27)
 space-after s c e h = (
   ap is_printable e,

@@ -1,14 +1,14 @@
 -- The state stands for the characters before, and gives what the rules say of them.
 use Rattle.std.proofs.Common.{◌≡◌, refl, ◌||◌, sym, ap, ◌∙◌, ℕ, ◌+◌, Bool, true, false, not, ◌&&◌, if◌then◌else◌}
 use Rattle.std.proofs.Common.{List, [], ◌∷◌, length, encode_utf8}
-use Rattle.miette_basics.specs.rules.Lists.{is_nil}
+use Rattle.miette_lines.specs.rules.Lists.{is_nil}
 use Rattle.ucd_breaks.specs.declared.LineBreak.{LineBreak}
 use Rattle.ucd_breaks.specs.declared.LineBreak.TheVariants.{Space}
 use Rattle.miette_line_breaks.specs.declared.characters.Character.{Character}
 use Rattle.miette_line_breaks.specs.rules.Characters.{character_of, lone_mark}
 use Rattle.miette_line_breaks.specs.rules.Classes.{is_bracket_end, is_carriage_return, is_dash, is_hard, is_hebrew}
-use Rattle.miette_line_breaks.specs.rules.Classes.{is_joiner, is_mark, is_opening, is_quotation, is_space}
-use Rattle.miette_line_breaks.specs.rules.Classes.{is_zero_width_space, is_word_joiner, is_glue, is_hyphen}
+use Rattle.miette_line_breaks.specs.rules.Classes.{is_joiner, is_mark, is_opening, is_quotation, is_space_class}
+use Rattle.miette_line_breaks.specs.rules.Classes.{is_zero_width_space, is_word_joiner, is_glue, is_hyphen_class}
 use Rattle.miette_line_breaks.specs.rules.Classes.{is_contingent}
 use Rattle.miette_line_breaks.specs.rules.Classes.{is_regional}
 use Rattle.miette_line_breaks.specs.rules.Rules.{bases, between, break_before, breaks_from, ends_joined, keeps}
@@ -18,7 +18,7 @@ use Rattle.miette_line_breaks.specs.steps.States.{base_after, break_in, breaks_a
 use Rattle.miette_line_breaks.specs.steps.States.{base_of, keeps_direct, keeps_in, nearest_of, state_after, state_of}
 use Rattle.miette_line_breaks.specs.steps.States.{state_over}
 
-space_is : (class : LineBreak) → is_space class ≡ true → class ≡ Space
+space_is : (class : LineBreak) → is_space_class class ≡ true → class ≡ Space
 space_is Space h = refl
 space_is class h = cc
 
@@ -28,17 +28,17 @@ nearest-any p h [] = sym h
 nearest-any p h (b ∷ bs) = refl
 
 beside : (p : LineBreak → Bool) → p Space ≡ false → (bs : List Character) →
-    nearest_is p bs ≡ (not (nearest_is is_space bs) && p (nearest_of (past_spaces bs)).class)
+    nearest_is p bs ≡ (not (nearest_is is_space_class bs) && p (nearest_of (past_spaces bs)).class)
 beside p h [] = sym h
-beside p h (b ∷ bs) = elim (is_space b.class) as (λ q. is_space b.class ≡ q → p b.class
+beside p h (b ∷ bs) = elim (is_space_class b.class) as (λ q. is_space_class b.class ≡ q → p b.class
     ≡ (not q && p (nearest_of (if q then past_spaces bs else b ∷ bs)).class)) [
       | true ↦ λ e. ap p (space_is b.class e) ∙ h
       | false ↦ λ _. refl
     ] refl
 
 base-is : (b : Character) (bs : List Character) → nearest_of (past_spaces (b ∷ bs))
-    ≡ (if is_space b.class then nearest_of (past_spaces bs) else b)
-base-is b bs = elim (is_space b.class) as (λ q. nearest_of (if q then past_spaces bs else b ∷ bs)
+    ≡ (if is_space_class b.class then nearest_of (past_spaces bs) else b)
+base-is b bs = elim (is_space_class b.class) as (λ q. nearest_of (if q then past_spaces bs else b ∷ bs)
     ≡ (if q then nearest_of (past_spaces bs) else b)) [ true ↦ refl | false ↦ refl ]
 
 base-step : (b : Character) (bs : List Character) (before joined : Bool) →
@@ -80,24 +80,24 @@ and-false false = refl
 
 not_start : (bs : List Character) (joined : Bool) → is_nil bs ≡ false → is_start (state_over bs joined) ≡ false
 not_start [] joined h = cc
-not_start (b ∷ bs) joined h = elim (is_space b.class) as (λ q. is_space b.class ≡ q →
-    (is_space (nearest_of (if q then past_spaces bs else b ∷ bs)).class && not q) ≡ false) [
-      | true ↦ λ _. and-false (is_space (nearest_of (past_spaces bs)).class)
+not_start (b ∷ bs) joined h = elim (is_space_class b.class) as (λ q. is_space_class b.class ≡ q →
+    (is_space_class (nearest_of (if q then past_spaces bs else b ∷ bs)).class && not q) ≡ false) [
+      | true ↦ λ _. and-false (is_space_class (nearest_of (past_spaces bs)).class)
       | false ↦ λ e. ap (λ q. q && true) e
     ] refl
 
 -- a base, whether a Hebrew letter stands before it, and whether it opens half a flag
 abbrev direct_by : Character → Bool → Bool → Character → Bool
 direct_by l hebrew half r =
-    is_word_joiner l.class || is_glue l.class || (is_glue r.class && not (is_hyphen l.class))
+    is_word_joiner l.class || is_glue l.class || (is_glue r.class && not (is_hyphen_class l.class))
     || is_quotation l.class || is_quotation r.class
     || (not (is_contingent l.class || is_contingent r.class)
-    && (joins l r || (is_hyphen l.class && hebrew) || (half && is_regional r.class)))
+    && (joins l r || (is_hyphen_class l.class && hebrew) || (half && is_regional r.class)))
 
 direct-is : (bs : List Character) (joined : Bool) (r : Character) → is_nil bs ≡ false →
     keeps_beside bs r ≡ keeps_direct (state_over bs joined) r
 direct-is [] joined r h = cc
-direct-is (b ∷ bs) joined r h = elim (is_space b.class) as (λ q.
+direct-is (b ∷ bs) joined r h = elim (is_space_class b.class) as (λ q.
     (not q && direct_by b (nearest_is is_hebrew bs) (ends_in_half_flag (b ∷ bs)) r)
     ≡ (not q && direct_by (nearest_of (if q then past_spaces bs else b ∷ bs)) (nearest_is is_hebrew bs)
     (ends_in_half_flag (b ∷ bs)) r)) [ true ↦ refl | false ↦ refl ]

@@ -1,3 +1,3 @@
--- The code's own steps.
+-- Definitions of the code's internal steps. No rule names them.
 pub mod States
-pub mod Printable
+pub mod AsciiState

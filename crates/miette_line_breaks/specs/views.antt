@@ -1,4 +1,4 @@
--- What a value of the code stands for.
+-- What the values of the code represent.
 pub mod Left
 pub mod Places
-pub mod Printable
+pub mod AsciiState

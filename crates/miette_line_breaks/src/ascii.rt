@@ -1,9 +1,9 @@
-//! The classes of ASCII.
+//! The line break classes of ASCII.
 
 use ucd_breaks::LineBreak;
 use ucd_breaks::LineBreak::*;
 
-/// The class of each character of ASCII, by its number.
+/// The class of each ASCII character, by its code.
 pub(crate) static CLASSES: [LineBreak; 128] = [
     CombiningMark,
     CombiningMark,

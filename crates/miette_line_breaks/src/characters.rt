@@ -1,4 +1,4 @@
-//! What the rules see of a character.
+//! The properties of a character that the rules use.
 
 ghost use Rattle.std.specs.Prelude.{◌≡◌};
 ghost use Rattle.ucd_category.specs.GeneralCategory.{general_category};
@@ -13,8 +13,8 @@ use ucd_category::GeneralCategory;
 use ucd_east_asian::EastAsianWidth;
 use ucd_emoji::is_extended_pictographic;
 
-/// The class of a character after LB1, whether its East Asian width is F, W or H, and whether it is an emoji of which
-/// only the code point is known yet.
+/// The class of a character after LB1, whether its East Asian width is F, W or H, and whether it is an unassigned code
+/// point reserved for emoji.
 #[derive(Clone, Copy, Debug, PartialEq, Eq)]
 pub(crate) struct Character {
     pub(crate) class: LineBreak,
@@ -73,8 +73,8 @@ fn is_wide(width: EastAsianWidth) -> bool
     )
 }
 
-/// LB1: the class that stands for those about which the rules say nothing; classes that Unicode 15.0 didn't have count
-/// as what their characters were there.
+/// LB1: replaces the classes that the rules don't mention. Classes that Unicode 15.0 didn't have are replaced by the
+/// class that their characters had then.
 fn resolved(c: char, class: LineBreak) -> LineBreak
     ensures { result ≡ resolved c class }
 {

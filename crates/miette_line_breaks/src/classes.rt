@@ -1,11 +1,12 @@
-//! Sets of classes that the rules of UAX #14 speak of.
+//! Sets of line break classes that the rules of UAX #14 use.
 
 ghost use Rattle.std.specs.Prelude.{◌≡◌};
-ghost use Rattle.miette_line_breaks.specs.rules.Classes.{is_carriage_return, is_line_feed, is_hard, is_space};
+ghost use Rattle.miette_line_breaks.specs.rules.Classes.{is_carriage_return, is_line_feed, is_hard, is_space_class};
 ghost use Rattle.miette_line_breaks.specs.rules.Classes.{is_zero_width_space, is_joiner, is_mark, is_word_joiner};
 ghost use Rattle.miette_line_breaks.specs.rules.Classes.{is_glue, is_closing, is_opening, is_quotation};
 ghost use Rattle.miette_line_breaks.specs.rules.Classes.{is_bracket_end, is_parenthesis_end, is_nonstarter, is_dash};
-ghost use Rattle.miette_line_breaks.specs.rules.Classes.{is_contingent, is_hyphen, is_plain_hyphen, is_break_before};
+ghost use Rattle.miette_line_breaks.specs.rules.Classes.{is_contingent, is_hyphen_class, is_plain_hyphen};
+ghost use Rattle.miette_line_breaks.specs.rules.Classes.{is_break_before};
 ghost use Rattle.miette_line_breaks.specs.rules.Classes.{is_slash, is_infix, is_inseparable, is_letter, is_hebrew};
 ghost use Rattle.miette_line_breaks.specs.rules.Classes.{is_numeric, is_prefix, is_postfix, is_affix, is_ideograph};
 ghost use Rattle.miette_line_breaks.specs.rules.Classes.{is_emoji_base, is_emoji_modifier, is_regional, is_hangul};
@@ -14,7 +15,7 @@ ghost use Rattle.miette_line_breaks.specs.rules.Classes.{joins_open_syllable, is
 
 use ucd_breaks::LineBreak;
 
-/// Whether it is a carriage return: CR.
+/// Carriage return: CR.
 #[inline(always)]
 pub(crate) fn is_carriage_return(class: LineBreak) -> bool
     ensures { result ≡ is_carriage_return class }
@@ -22,7 +23,7 @@ pub(crate) fn is_carriage_return(class: LineBreak) -> bool
     matches!(class, LineBreak::CarriageReturn)
 }
 
-/// Whether it is a line feed: LF.
+/// Line feed: LF.
 #[inline(always)]
 pub(crate) fn is_line_feed(class: LineBreak) -> bool
     ensures { result ≡ is_line_feed class }
@@ -30,7 +31,7 @@ pub(crate) fn is_line_feed(class: LineBreak) -> bool
     matches!(class, LineBreak::LineFeed)
 }
 
-/// Whether it is a character after which a line must be broken: BK, CR, LF, NL.
+/// Mandatory breaks: BK, CR, LF, NL.
 #[inline(always)]
 pub(crate) fn is_hard(class: LineBreak) -> bool
     ensures { result ≡ is_hard class }
@@ -44,15 +45,15 @@ pub(crate) fn is_hard(class: LineBreak) -> bool
     )
 }
 
-/// Whether it is a space: SP.
+/// Space: SP.
 #[inline(always)]
-pub(crate) fn is_space(class: LineBreak) -> bool
-    ensures { result ≡ is_space class }
+pub(crate) fn is_space_class(class: LineBreak) -> bool
+    ensures { result ≡ is_space_class class }
 {
     matches!(class, LineBreak::Space)
 }
 
-/// Whether it is a zero width space: ZW.
+/// Zero width space: ZW.
 #[inline(always)]
 pub(crate) fn is_zero_width_space(class: LineBreak) -> bool
     ensures { result ≡ is_zero_width_space class }
@@ -60,7 +61,7 @@ pub(crate) fn is_zero_width_space(class: LineBreak) -> bool
     matches!(class, LineBreak::ZWSpace)
 }
 
-/// Whether it is a zero width joiner: ZWJ.
+/// Zero width joiner: ZWJ.
 #[inline(always)]
 pub(crate) fn is_joiner(class: LineBreak) -> bool
     ensures { result ≡ is_joiner class }
@@ -68,7 +69,7 @@ pub(crate) fn is_joiner(class: LineBreak) -> bool
     matches!(class, LineBreak::Zwj)
 }
 
-/// Whether it is what belongs to the character before: CM, ZWJ.
+/// Combining marks: CM, ZWJ.
 #[inline(always)]
 pub(crate) fn is_mark(class: LineBreak) -> bool
     ensures { result ≡ is_mark class }
@@ -76,7 +77,7 @@ pub(crate) fn is_mark(class: LineBreak) -> bool
     matches!(class, LineBreak::CombiningMark | LineBreak::Zwj)
 }
 
-/// Whether it is a word joiner: WJ.
+/// Word joiner: WJ.
 #[inline(always)]
 pub(crate) fn is_word_joiner(class: LineBreak) -> bool
     ensures { result ≡ is_word_joiner class }
@@ -84,7 +85,7 @@ pub(crate) fn is_word_joiner(class: LineBreak) -> bool
     matches!(class, LineBreak::WordJoiner)
 }
 
-/// Whether it is what is not parted from its neighbours: GL.
+/// Non-breaking: GL.
 #[inline(always)]
 pub(crate) fn is_glue(class: LineBreak) -> bool
     ensures { result ≡ is_glue class }
@@ -92,7 +93,7 @@ pub(crate) fn is_glue(class: LineBreak) -> bool
     matches!(class, LineBreak::Glue)
 }
 
-/// Whether it is what no line begins with, even after spaces: CL, CP, EX, IS, SY.
+/// No line begins with these, even after spaces: CL, CP, EX, IS, SY.
 #[inline(always)]
 pub(crate) fn is_closing(class: LineBreak) -> bool
     ensures { result ≡ is_closing class }
@@ -107,7 +108,7 @@ pub(crate) fn is_closing(class: LineBreak) -> bool
     )
 }
 
-/// Whether it is an opening bracket: OP.
+/// Opening bracket: OP.
 #[inline(always)]
 pub(crate) fn is_opening(class: LineBreak) -> bool
     ensures { result ≡ is_opening class }
@@ -115,7 +116,7 @@ pub(crate) fn is_opening(class: LineBreak) -> bool
     matches!(class, LineBreak::OpenPunctuation)
 }
 
-/// Whether it is a quotation mark: QU.
+/// Quotation mark: QU.
 #[inline(always)]
 pub(crate) fn is_quotation(class: LineBreak) -> bool
     ensures { result ≡ is_quotation class }
@@ -123,7 +124,7 @@ pub(crate) fn is_quotation(class: LineBreak) -> bool
     matches!(class, LineBreak::Quotation)
 }
 
-/// Whether it is a closing bracket: CL, CP.
+/// Closing brackets: CL, CP.
 #[inline(always)]
 pub(crate) fn is_bracket_end(class: LineBreak) -> bool
     ensures { result ≡ is_bracket_end class }
@@ -134,7 +135,7 @@ pub(crate) fn is_bracket_end(class: LineBreak) -> bool
     )
 }
 
-/// Whether it is a closing parenthesis: CP.
+/// Closing parenthesis: CP.
 #[inline(always)]
 pub(crate) fn is_parenthesis_end(class: LineBreak) -> bool
     ensures { result ≡ is_parenthesis_end class }
@@ -142,7 +143,7 @@ pub(crate) fn is_parenthesis_end(class: LineBreak) -> bool
     matches!(class, LineBreak::CloseParenthesis)
 }
 
-/// Whether it is what no line begins with: NS.
+/// Nonstarter: NS.
 #[inline(always)]
 pub(crate) fn is_nonstarter(class: LineBreak) -> bool
     ensures { result ≡ is_nonstarter class }
@@ -150,7 +151,7 @@ pub(crate) fn is_nonstarter(class: LineBreak) -> bool
     matches!(class, LineBreak::Nonstarter)
 }
 
-/// Whether it is a dash that may be broken on both sides: B2.
+/// Dash with breaks allowed on both sides: B2.
 #[inline(always)]
 pub(crate) fn is_dash(class: LineBreak) -> bool
     ensures { result ≡ is_dash class }
@@ -158,7 +159,7 @@ pub(crate) fn is_dash(class: LineBreak) -> bool
     matches!(class, LineBreak::BreakBoth)
 }
 
-/// Whether it is what other information decides about: CB.
+/// Contingent break: CB.
 #[inline(always)]
 pub(crate) fn is_contingent(class: LineBreak) -> bool
     ensures { result ≡ is_contingent class }
@@ -166,15 +167,15 @@ pub(crate) fn is_contingent(class: LineBreak) -> bool
     matches!(class, LineBreak::ContingentBreak)
 }
 
-/// Whether it is a hyphen, or what a line may be broken after: BA, HY.
+/// Break allowed after: BA, HY.
 #[inline(always)]
-pub(crate) fn is_hyphen(class: LineBreak) -> bool
-    ensures { result ≡ is_hyphen class }
+pub(crate) fn is_hyphen_class(class: LineBreak) -> bool
+    ensures { result ≡ is_hyphen_class class }
 {
     matches!(class, LineBreak::BreakAfter | LineBreak::Hyphen)
 }
 
-/// Whether it is a hyphen: HY.
+/// Hyphen: HY.
 #[inline(always)]
 pub(crate) fn is_plain_hyphen(class: LineBreak) -> bool
     ensures { result ≡ is_plain_hyphen class }
@@ -182,7 +183,7 @@ pub(crate) fn is_plain_hyphen(class: LineBreak) -> bool
     matches!(class, LineBreak::Hyphen)
 }
 
-/// Whether it is what a line may be broken before: BB.
+/// Break allowed before: BB.
 #[inline(always)]
 pub(crate) fn is_break_before(class: LineBreak) -> bool
     ensures { result ≡ is_break_before class }
@@ -190,7 +191,7 @@ pub(crate) fn is_break_before(class: LineBreak) -> bool
     matches!(class, LineBreak::BreakBefore)
 }
 
-/// Whether it is a symbol that a line may be broken after: SY.
+/// Symbol with a break allowed after it: SY.
 #[inline(always)]
 pub(crate) fn is_slash(class: LineBreak) -> bool
     ensures { result ≡ is_slash class }
@@ -198,7 +199,7 @@ pub(crate) fn is_slash(class: LineBreak) -> bool
     matches!(class, LineBreak::BreakSymbols)
 }
 
-/// Whether it is a separator of numbers: IS.
+/// Separator in numbers: IS.
 #[inline(always)]
 pub(crate) fn is_infix(class: LineBreak) -> bool
     ensures { result ≡ is_infix class }
@@ -206,7 +207,7 @@ pub(crate) fn is_infix(class: LineBreak) -> bool
     matches!(class, LineBreak::InfixNumeric)
 }
 
-/// Whether it is leaders: IN.
+/// Inseparable leaders: IN.
 #[inline(always)]
 pub(crate) fn is_inseparable(class: LineBreak) -> bool
     ensures { result ≡ is_inseparable class }
@@ -214,7 +215,7 @@ pub(crate) fn is_inseparable(class: LineBreak) -> bool
     matches!(class, LineBreak::Inseparable)
 }
 
-/// Whether it is a letter: AL, HL.
+/// Letters: AL, HL.
 #[inline(always)]
 pub(crate) fn is_letter(class: LineBreak) -> bool
     ensures { result ≡ is_letter class }
@@ -222,7 +223,7 @@ pub(crate) fn is_letter(class: LineBreak) -> bool
     matches!(class, LineBreak::Alphabetic | LineBreak::HebrewLetter)
 }
 
-/// Whether it is a Hebrew letter: HL.
+/// Hebrew letter: HL.
 #[inline(always)]
 pub(crate) fn is_hebrew(class: LineBreak) -> bool
     ensures { result ≡ is_hebrew class }
@@ -230,7 +231,7 @@ pub(crate) fn is_hebrew(class: LineBreak) -> bool
     matches!(class, LineBreak::HebrewLetter)
 }
 
-/// Whether it is a digit: NU.
+/// Digit: NU.
 #[inline(always)]
 pub(crate) fn is_numeric(class: LineBreak) -> bool
     ensures { result ≡ is_numeric class }
@@ -238,7 +239,7 @@ pub(crate) fn is_numeric(class: LineBreak) -> bool
     matches!(class, LineBreak::Numeric)
 }
 
-/// Whether it is what stands before a number: PR.
+/// Prefix of a number: PR.
 #[inline(always)]
 pub(crate) fn is_prefix(class: LineBreak) -> bool
     ensures { result ≡ is_prefix class }
@@ -246,7 +247,7 @@ pub(crate) fn is_prefix(class: LineBreak) -> bool
     matches!(class, LineBreak::PrefixNumeric)
 }
 
-/// Whether it is what stands after a number: PO.
+/// Postfix of a number: PO.
 #[inline(always)]
 pub(crate) fn is_postfix(class: LineBreak) -> bool
     ensures { result ≡ is_postfix class }
@@ -254,7 +255,7 @@ pub(crate) fn is_postfix(class: LineBreak) -> bool
     matches!(class, LineBreak::PostfixNumeric)
 }
 
-/// Whether it is what stands before or after a number: PR, PO.
+/// Prefix or postfix of a number: PR, PO.
 #[inline(always)]
 pub(crate) fn is_affix(class: LineBreak) -> bool
     ensures { result ≡ is_affix class }
@@ -262,7 +263,7 @@ pub(crate) fn is_affix(class: LineBreak) -> bool
     matches!(class, LineBreak::PrefixNumeric | LineBreak::PostfixNumeric)
 }
 
-/// Whether it is an ideograph or an emoji: ID, EB, EM.
+/// Ideographs and emoji: ID, EB, EM.
 #[inline(always)]
 pub(crate) fn is_ideograph(class: LineBreak) -> bool
     ensures { result ≡ is_ideograph class }
@@ -273,7 +274,7 @@ pub(crate) fn is_ideograph(class: LineBreak) -> bool
     )
 }
 
-/// Whether it is an emoji that takes a modifier: EB.
+/// Emoji that takes a modifier: EB.
 #[inline(always)]
 pub(crate) fn is_emoji_base(class: LineBreak) -> bool
     ensures { result ≡ is_emoji_base class }
@@ -281,7 +282,7 @@ pub(crate) fn is_emoji_base(class: LineBreak) -> bool
     matches!(class, LineBreak::EBase)
 }
 
-/// Whether it is a modifier of an emoji: EM.
+/// Emoji modifier: EM.
 #[inline(always)]
 pub(crate) fn is_emoji_modifier(class: LineBreak) -> bool
     ensures { result ≡ is_emoji_modifier class }
@@ -289,7 +290,7 @@ pub(crate) fn is_emoji_modifier(class: LineBreak) -> bool
     matches!(class, LineBreak::EModifier)
 }
 
-/// Whether it is a regional indicator: RI.
+/// Regional indicator: RI.
 #[inline(always)]
 pub(crate) fn is_regional(class: LineBreak) -> bool
     ensures { result ≡ is_regional class }
@@ -297,7 +298,7 @@ pub(crate) fn is_regional(class: LineBreak) -> bool
     matches!(class, LineBreak::RegionalIndicator)
 }
 
-/// Whether it is a Hangul jamo or syllable: JL, JV, JT, H2, H3.
+/// Hangul jamo and syllables: JL, JV, JT, H2, H3.
 #[inline(always)]
 pub(crate) fn is_hangul(class: LineBreak) -> bool
     ensures { result ≡ is_hangul class }
@@ -308,7 +309,7 @@ pub(crate) fn is_hangul(class: LineBreak) -> bool
     )
 }
 
-/// Whether it is a leading jamo: JL.
+/// Leading jamo: JL.
 #[inline(always)]
 pub(crate) fn is_leading_jamo(class: LineBreak) -> bool
     ensures { result ≡ is_leading_jamo class }
@@ -316,7 +317,7 @@ pub(crate) fn is_leading_jamo(class: LineBreak) -> bool
     matches!(class, LineBreak::Jl)
 }
 
-/// Whether it is what goes on after a leading jamo: JL, JV, H2, H3.
+/// Continues a leading jamo: JL, JV, H2, H3.
 #[inline(always)]
 pub(crate) fn joins_leading_jamo(class: LineBreak) -> bool
     ensures { result ≡ joins_leading_jamo class }
@@ -327,7 +328,7 @@ pub(crate) fn joins_leading_jamo(class: LineBreak) -> bool
     )
 }
 
-/// Whether it is a vowel jamo, or a syllable that ends with one: JV, H2.
+/// Vowel jamo, or syllable that ends with one: JV, H2.
 #[inline(always)]
 pub(crate) fn is_open_syllable(class: LineBreak) -> bool
     ensures { result ≡ is_open_syllable class }
@@ -335,7 +336,7 @@ pub(crate) fn is_open_syllable(class: LineBreak) -> bool
     matches!(class, LineBreak::Jv | LineBreak::H2)
 }
 
-/// Whether it is what goes on after a vowel: JV, JT.
+/// Continues a vowel: JV, JT.
 #[inline(always)]
 pub(crate) fn joins_open_syllable(class: LineBreak) -> bool
     ensures { result ≡ joins_open_syllable class }
@@ -343,7 +344,7 @@ pub(crate) fn joins_open_syllable(class: LineBreak) -> bool
     matches!(class, LineBreak::Jv | LineBreak::Jt)
 }
 
-/// Whether it is a trailing jamo, or a syllable that ends with one: JT, H3.
+/// Trailing jamo, or syllable that ends with one: JT, H3.
 #[inline(always)]
 pub(crate) fn is_closed_syllable(class: LineBreak) -> bool
     ensures { result ≡ is_closed_syllable class }
@@ -351,7 +352,7 @@ pub(crate) fn is_closed_syllable(class: LineBreak) -> bool
     matches!(class, LineBreak::Jt | LineBreak::H3)
 }
 
-/// Whether it is a trailing jamo: JT.
+/// Trailing jamo: JT.
 #[inline(always)]
 pub(crate) fn is_trailing_jamo(class: LineBreak) -> bool
     ensures { result ≡ is_trailing_jamo class }

@@ -1,11 +1,11 @@
-//! Where a text may be broken into lines, by the rules of UAX #14 (Unicode Line Breaking Algorithm) of Unicode 15.0.
+//! Line break opportunities of a text, by UAX #14 (Unicode Line Breaking Algorithm) for Unicode 15.0.
 #![tactic(auto)]
 
 mod ascii;
+pub mod ascii_state;
 pub mod breaks;
 mod characters;
 mod classes;
 mod opportunity;
-pub mod printable;
 mod remaining;
 mod state;

@@ -1,9 +1,9 @@
-//! What a place is to who breaks lines.
+//! Kinds of line break opportunities.
 
-/// What a place between two characters is to who breaks lines.
+/// A line break opportunity between two characters.
 #[derive(Clone, Copy, Debug, PartialEq, Eq)]
 pub enum BreakOpportunity {
-    /// A line ends here.
+    /// A line must end here.
     Mandatory,
     /// A line may end here.
     Allowed,

@@ -1,17 +1,17 @@
-//! The opportunities that are still to come.
+//! The iterator over line break opportunities.
 
 ghost use Rattle.std.specs.Prelude.{◌≡◌, ◌<◌, ◌+◌, ◌^◌, ◌∷◌, ◌++◌, [], chars, encode_utf8, length, MatchOption};
 
 use crate::characters::Character;
 use crate::opportunity::BreakOpportunity;
-use crate::state::State;
+use crate::state::BreakState;
 
-/// The opportunities of a text that are still to come.
+/// An iterator over the line break opportunities of a text.
 #[derive(Drop)]
 pub struct LineBreaks<'a> {
     rest: &'a str,
     at: usize,
-    state: State,
+    state: BreakState,
     ghost small: { at + length rest.now < 2 ^ 64 },
 }
 
@@ -25,12 +25,12 @@ impl<'a> LineBreaks<'a> {
         LineBreaks {
             rest: text,
             at: 0,
-            state: State::start(),
+            state: BreakState::start(),
         }
     }
 }
 
-/// The first character, and what comes after it.
+/// Splits off the first character.
 fn split_first_char(text: &str) -> Option<(char, &str)>
     ensures { MatchOption result (chars text.now ≡ [])
         (λ (c, rest). (chars text.now ≡ c ∷ chars rest.now) × (text.now ≡ encode_utf8 c ++ rest.now)) }
@@ -69,7 +69,7 @@ impl<'a> Iterator for LineBreaks<'a> {
         if self.state.is_start() {
             return None;
         }
-        self.state = State::start();
+        self.state = BreakState::start();
         Some((self.at, BreakOpportunity::Mandatory))
     }
 }

@@ -1,4 +1,4 @@
-//! What the rules need of all characters before a place.
+//! The state of the algorithm between two characters.
 
 ghost use Rattle.std.specs.Prelude.{◌≡◌, ℕ, true, List, [], ◌∷◌, Some, None, if◌then◌else◌};
 ghost use Rattle.std.specs.Char.{is_ascii_alphabetic};
@@ -17,10 +17,11 @@ use crate::classes::*;
 use crate::opportunity::BreakOpportunity;
 use ucd_breaks::LineBreak;
 
-/// What stands before a place: the last character that is no space and has its marks, whether spaces or a zero width
-/// joiner follow it, whether a Hebrew letter stands before it, and whether it opens half a flag.
+/// What the rules need to know about the characters before a position: the last character that isn't a space, with its
+/// marks; whether spaces or a zero width joiner follow it; whether a Hebrew letter precedes it; and whether it is half
+/// a flag.
 #[derive(Clone, Copy, Debug, PartialEq, Eq)]
-pub struct State {
+pub struct BreakState {
     pub(crate) base: Character,
     pub(crate) is_spaced: bool,
     pub(crate) is_joined: bool,
@@ -28,12 +29,12 @@ pub struct State {
     pub(crate) has_half_flag: bool,
 }
 
-impl State {
-    /// At the start of a text, where the class of no character stands.
-    pub fn start() -> State
+impl BreakState {
+    /// Returns the state at the start of a text.
+    pub fn start() -> BreakState
         ensures { result ≡ state_of [] }
     {
-        State {
+        BreakState {
             base: Character {
                 class: LineBreak::Space,
                 is_wide: false,
@@ -49,12 +50,12 @@ impl State {
     pub(crate) fn is_start(&self) -> bool
         ensures { result ≡ is_start self.now }
     {
-        is_space(self.base.class) && !self.is_spaced
+        is_space_class(self.base.class) && !self.is_spaced
     }
 
-    /// The opportunity before a character that stands at this place, and what stands before the place after it.
+    /// Returns the opportunity before a character at this position, and the state after it.
     #[inline(always)]
-    pub fn step(&self, c: char) -> (Option<BreakOpportunity>, State)
+    pub fn step(&self, c: char) -> (Option<BreakOpportunity>, BreakState)
         ensures found { result.0 ≡ found_before self.now c }
         ensures behind { result.1 ≡ after_code self.now c }
         ensures rules { (before : List ℕ) → self.now ≡ state_of before →
@@ -64,9 +65,9 @@ impl State {
         (found, after)
     }
 
-    // A step, with a short road for letters of ASCII and spaces.
+    // Steps over a character, with a fast path for ASCII letters and spaces.
     #[inline(always)]
-    fn stepped(&self, c: char) -> (Option<BreakOpportunity>, State)
+    fn stepped(&self, c: char) -> (Option<BreakOpportunity>, BreakState)
         ensures found { result.0 ≡ found_before self.now c }
         ensures behind { result.1 ≡ after_code self.now c }
     {
@@ -81,7 +82,7 @@ impl State {
         self.stepped_by_class(c)
     }
 
-    fn stepped_by_class(&self, c: char) -> (Option<BreakOpportunity>, State)
+    fn stepped_by_class(&self, c: char) -> (Option<BreakOpportunity>, BreakState)
         ensures found { result.0 ≡ found_before self.now c }
         ensures behind { result.1 ≡ after_code self.now c }
     {
@@ -94,8 +95,8 @@ impl State {
         (found, state)
     }
 
-    /// Whether the last character but spaces is a letter that is neither wide nor Hebrew, with nothing before it that
-    /// counts.
+    /// Whether the last character, except spaces, is a letter that is neither wide nor Hebrew, and nothing before it
+    /// matters.
     #[inline(always)]
     fn is_plain(&self) -> bool
         ensures { result ≡ is_plain self.now }
@@ -103,7 +104,7 @@ impl State {
         matches!(self.base.class, LineBreak::Alphabetic) && self.is_lone()
     }
 
-    /// Whether nothing counts but the class of the last character but spaces.
+    /// Whether only the class of the last character, except spaces, matters.
     #[inline(always)]
     fn is_lone(&self) -> bool
         ensures { result ≡ is_lone self.now }
@@ -115,14 +116,14 @@ impl State {
             || self.has_half_flag)
     }
 
-    /// Whether no character stands before this place.
+    /// Whether no character precedes this position.
     pub(crate) fn is_empty(&self) -> bool
         ensures { result ≡ is_empty self.now }
     {
         self.is_start() && self.is_lone()
     }
 
-    /// Whether such a letter is the last character: letters of ASCII go on with it.
+    /// Whether such a letter is the last character. ASCII letters then continue the word.
     #[inline(always)]
     pub fn is_in_word(&self) -> bool
         ensures value { result ≡ is_in_word self.now }
@@ -132,7 +133,7 @@ impl State {
         !self.is_spaced && self.is_plain()
     }
 
-    // The opportunity before a letter of ASCII that stands after such a letter.
+    // Returns the opportunity before an ASCII letter that follows such a letter.
     #[inline(always)]
     fn before_letter(&self) -> Option<BreakOpportunity>
         ensures { result ≡ (if self.now.is_spaced then Some Allowed else None) }
@@ -144,12 +145,12 @@ impl State {
         }
     }
 
-    /// The same with spaces after it, or without.
+    /// Returns the state with or without spaces.
     #[inline(always)]
-    fn spaced(&self, is_spaced: bool) -> State
+    fn spaced(&self, is_spaced: bool) -> BreakState
         ensures { result ≡ spaced is_spaced self.now }
     {
-        State { is_spaced, ..*self }
+        BreakState { is_spaced, ..*self }
     }
 
     /// Whether the last character is a Hebrew letter.
@@ -165,12 +166,12 @@ impl State {
         !self.is_spaced && takes_marks(self.base.class)
     }
 
-    /// After one more character.
-    pub(crate) fn after_character(&self, x: Character) -> State
+    /// Returns the state after one more character.
+    pub(crate) fn after_character(&self, x: Character) -> BreakState
         ensures { result ≡ state_after self.now x }
     {
         if is_mark(x.class) && self.attaches() {
-            State {
+            BreakState {
                 is_joined: is_joiner(x.class),
                 ..*self
             }
@@ -179,23 +180,23 @@ impl State {
         }
     }
 
-    fn with_base(&self, base: Character, is_joined: bool) -> State
+    fn with_base(&self, base: Character, is_joined: bool) -> BreakState
         ensures { result ≡ base_after self.now base is_joined }
     {
-        State {
-            base: if is_space(base.class) {
+        BreakState {
+            base: if is_space_class(base.class) {
                 self.base
             } else {
                 base
             },
-            is_spaced: is_space(base.class),
+            is_spaced: is_space_class(base.class),
             is_joined,
             follows_hebrew: self.ends_hebrew(),
             has_half_flag: is_regional(base.class) && !self.has_half_flag,
         }
     }
 
-    /// The opportunity before a character, if there is one.
+    /// Returns the opportunity before a character, if there is one.
     pub(crate) fn before(&self, x: Character) -> Option<BreakOpportunity>
         ensures { result ≡ break_in self.now x }
     {
@@ -205,7 +206,7 @@ impl State {
             None
         } else if !self.is_spaced && is_hard(self.base.class) {
             Some(BreakOpportunity::Mandatory)
-        } else if is_hard(x.class) || is_space(x.class) || is_zero_width_space(x.class) {
+        } else if is_hard(x.class) || is_space_class(x.class) || is_zero_width_space(x.class) {
             None
         } else if is_zero_width_space(self.base.class) {
             Some(BreakOpportunity::Allowed)
@@ -218,7 +219,7 @@ impl State {
         }
     }
 
-    /// Whether no line is broken before this base.
+    /// Whether no break is allowed before this character.
     fn keeps(&self, next: Character) -> bool
         ensures { result ≡ keeps_in self.now next }
     {
@@ -231,7 +232,7 @@ impl State {
             || self.keeps_direct(next)
     }
 
-    /// The same by the rules that hold without spaces between.
+    /// The same, by the rules for characters without spaces between them.
     fn keeps_direct(&self, next: Character) -> bool
         ensures { result ≡ keeps_direct self.now next }
     {
@@ -239,24 +240,24 @@ impl State {
         !self.is_spaced
             && (is_word_joiner(last.class)
                 || is_glue(last.class)
-                || (is_glue(next.class) && !is_hyphen(last.class))
+                || (is_glue(next.class) && !is_hyphen_class(last.class))
                 || is_quotation(last.class)
                 || is_quotation(next.class)
                 || (!(is_contingent(last.class) || is_contingent(next.class))
                     && (joins(last, next)
-                        || (is_hyphen(last.class) && self.follows_hebrew)
+                        || (is_hyphen_class(last.class) && self.follows_hebrew)
                         || (self.has_half_flag && is_regional(next.class)))))
     }
 }
 
-// Whether it is an ideograph: ID. A line may be broken between two of them.
+// Ideographs: ID. A break is allowed between two of them.
 fn is_ideographic(class: LineBreak) -> bool
     ensures { result ≡ is_ideographic class }
 {
     matches!(class, LineBreak::Ideographic)
 }
 
-/// The character, or what a mark is that belongs to none.
+/// Returns the character, or what a combining mark without a base counts as.
 fn base_of(x: Character) -> Character
     ensures { result ≡ base_of x }
 {
@@ -270,13 +271,13 @@ fn base_of(x: Character) -> Character
 fn takes_marks(class: LineBreak) -> bool
     ensures { result ≡ takes_marks class }
 {
-    !(is_hard(class) || is_space(class) || is_zero_width_space(class))
+    !(is_hard(class) || is_space_class(class) || is_zero_width_space(class))
 }
 
 fn joins(last: Character, next: Character) -> bool
     ensures { result ≡ joins last next }
 {
-    is_hyphen(next.class)
+    is_hyphen_class(next.class)
         || is_nonstarter(next.class)
         || is_break_before(last.class)
         || (is_slash(last.class) && is_hebrew(next.class))
@@ -288,7 +289,7 @@ fn joins(last: Character, next: Character) -> bool
         || ((is_emoji_base(last.class) || last.is_future_emoji) && is_emoji_modifier(next.class))
 }
 
-// Whether two neighbours are of such classes in one of these ways.
+// Whether two neighbours have one of these pairs of classes.
 macro_rules! are_neighbours {
     ($last:ident, $next:ident: $a:ident before $b:ident $(, $c:ident before $d:ident)*) => {
         ($a($last) && $b($next)) $(|| ($c($last) && $d($next)))*

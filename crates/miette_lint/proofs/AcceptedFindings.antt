@@ -8,16 +8,17 @@ use Rattle.std.proofs.lemmas.Bool.{ltb-true}
 use Rattle.std.proofs.lemmas.List.{length-drop, length-take}
 use Rattle.bstr.specs.Utf8.{Decoded, pieces}
 use Rattle.bstr.proofs.lemmas.PieceLemmas.{pieces-sizes, sizes}
-use Rattle.miette_cells.specs.rules.Cells.{Cell, cells_from, hides_next, width_at}
-use Rattle.miette_cells.specs.rules.Widths.{width_of}
-use Rattle.miette_cells.proofs.Stepping.{character}
-use Rattle.miette_label_rules.specs.rules.Groups.{AreAccepted}
-use Rattle.miette_protocol.specs.rules.Reading.{IsAccepted}
+use Rattle.miette_columns.specs.rules.Cells.{Cell, cells_from, hides_next, width_at}
+use Rattle.miette_columns.specs.rules.Widths.{width_of}
+use Rattle.miette_columns.proofs.Stepping.{character}
+use Rattle.miette_labels.specs.rules.Groups.{AreInBounds}
+use Rattle.miette_protocol.specs.rules.Reading.{IsInBounds}
 use Rattle.miette_protocol.specs.views.Meaning.{Label}
-use Rattle.miette_source_lines.specs.rules.Lines.{Line, IsCut, is_terminated, lines_of}
-use Rattle.miette_source_lines.proofs.Cuts.{cut_le, lines_cut}
-use Rattle.miette_source_lines.proofs.Parts.{part_length}
-use Rattle.miette_lint.specs.rules.Findings.{cells_of, ending_blanks, finding, findings_of, is_blank, line_findings}
+use Rattle.miette_lines.specs.rules.Lines.{Line, IsCut, is_terminated, lines_of}
+use Rattle.miette_lines.proofs.Cuts.{cut_le, lines_cut}
+use Rattle.miette_lines.proofs.Parts.{part_length}
+use Rattle.miette_lint.specs.rules.Findings.{lint_cells_of, ending_blanks, finding, findings_of, is_blank}
+use Rattle.miette_lint.specs.rules.Findings.{line_findings}
 use Rattle.miette_lint.specs.rules.Findings.{misplaced_tab, missing_terminator, overlong, tab_after_space}
 use Rattle.miette_lint.specs.rules.Findings.{tab_from, text_findings, too_wide, trailing_space}
 
@@ -89,7 +90,7 @@ cells_before tab hidden offset column to (p ∷ ps) h =
     )
 
 text_cells : (start to : ℕ) (text : List ℕ) → start + length text ≤ to
-    → AllByRecursion (LiesBefore to) (cells_of start text)
+    → AllByRecursion (LiesBefore to) (lint_cells_of start text)
 text_cells start to text h =
     cells_before 4 false start 0 to (pieces text)
     (omega (arith, h, pieces-sizes (length text) text (omega arith)))
@@ -97,80 +98,80 @@ text_cells start to text h =
 -- ---- the labels of a line
 
 in_source : (bytes text : List ℕ) (from to : ℕ) → from ≤ length bytes → to ≤ length bytes
-    → IsAccepted bytes (finding text from to).span
+    → IsInBounds bytes (finding text from to).span
 in_source bytes text from to h k = record { begins = h; ends = omega (arith, h, k) }
 
-unless_none : (b : Bool) (bytes : List ℕ) (label : Label) → IsAccepted bytes label.span
-    → AreAccepted bytes (cond b [] (label ∷ []))
+unless_none : (b : Bool) (bytes : List ℕ) (label : Label) → IsInBounds bytes label.span
+    → AreInBounds bytes (cond b [] (label ∷ []))
 unless_none true bytes label h = tt
 unless_none false bytes label h = (h, tt)
 
-trailing_in : (bytes text : List ℕ) (end : ℕ) → end ≤ length bytes → AreAccepted bytes (trailing_space end text)
+trailing_in : (bytes text : List ℕ) (end : ℕ) → end ≤ length bytes → AreInBounds bytes (trailing_space end text)
 trailing_in bytes text end h =
     unless_none (eqb (ending_blanks text) 0) bytes _
     (in_source bytes (codes "trailing blanks") (end - ending_blanks text) end (omega (arith, h)) h)
 
 tab_in : (bytes text : List ℕ) (start : ℕ) → start + length text ≤ length bytes
-    → AreAccepted bytes (misplaced_tab start text)
+    → AreInBounds bytes (misplaced_tab start text)
 tab_in bytes text start h =
     let short = length-take (prefix_len is_blank text) text in
-    one_label (λ at. at < length (take_while is_blank text)) (λ label. IsAccepted bytes label.span)
+    one_label (λ at. at < length (take_while is_blank text)) (λ label. IsInBounds bytes label.span)
     (λ at. finding (codes "tab after space") (start + at) (start + at + 1)) (tab_after_space (take_while is_blank text))
     (λ at lt. in_source bytes (codes "tab after space") (start + at) (start + at + 1) (omega (arith, h, lt, short))
     (omega (arith, h, lt, short))) (tab_below (take_while is_blank text))
 
 overlong_in : (bytes : List ℕ) (width end : ℕ) (cells : List Cell) → end ≤ length bytes
-    → AllByRecursion (LiesBefore (length bytes)) cells → AreAccepted bytes (overlong width end cells)
+    → AllByRecursion (LiesBefore (length bytes)) cells → AreInBounds bytes (overlong width end cells)
 overlong_in bytes width end cells h all =
-    one_label (LiesBefore (length bytes)) (λ label. IsAccepted bytes label.span)
+    one_label (LiesBefore (length bytes)) (λ label. IsInBounds bytes label.span)
     (λ (c : Cell). finding (too_wide width) c.start end) (find (λ (c : Cell). nat_lt width c.until) cells)
     (λ c lies. in_source bytes (too_wide width) c.start end lies.0 h)
     (found_holds (LiesBefore (length bytes)) (λ (c : Cell). nat_lt width c.until) cells all)
 
-unless_ended : (b : Bool) (bytes : List ℕ) (labels : List Label) → AreAccepted bytes labels
-    → AreAccepted bytes (cond b [] labels)
+unless_ended : (b : Bool) (bytes : List ℕ) (labels : List Label) → AreInBounds bytes labels
+    → AreInBounds bytes (cond b [] labels)
 unless_ended true bytes labels h = tt
 unless_ended false bytes labels h = h
 
 unended_in : (bytes : List ℕ) (l : Line) (cells : List Cell) → AllByRecursion (LiesBefore (length bytes)) cells
-    → AreAccepted bytes (missing_terminator l cells)
+    → AreInBounds bytes (missing_terminator l cells)
 unended_in bytes l cells all =
     unless_ended (is_terminated l) bytes _
-    (one_label (LiesBefore (length bytes)) (λ label. IsAccepted bytes label.span)
+    (one_label (LiesBefore (length bytes)) (λ label. IsInBounds bytes label.span)
     (λ (c : Cell). finding (codes "no final terminator") c.start c.after) (last_or None cells)
     (λ c lies. in_source bytes (codes "no final terminator") c.start c.after lies.0 lies.1)
     (last_holds (LiesBefore (length bytes)) None cells tt all))
 
 text_in : (bytes text : List ℕ) (width : ℕ) (l : Line) (cells : List Cell) → l.text_end ≤ length bytes
     → l.start + length text ≤ length bytes → AllByRecursion (LiesBefore (length bytes)) cells
-    → AreAccepted bytes (text_findings width l text cells)
+    → AreInBounds bytes (text_findings width l text cells)
 text_in bytes text width l cells h k all =
-    let accepted : Label → Type 0 = λ label. IsAccepted bytes label.span in
+    let accepted : Label → Type 0 = λ label. IsInBounds bytes label.span in
     all_append accepted (trailing_space l.text_end text) _ (trailing_in bytes text l.text_end h)
     (all_append accepted (misplaced_tab l.start text) _ (tab_in bytes text l.start k)
     (all_append accepted (overlong width l.text_end cells) _ (overlong_in bytes width l.text_end cells h all)
     (unended_in bytes l cells all)))
 
 line_in : (bytes : List ℕ) (width : ℕ) (l : Line) → l.start ≤ l.text_end → l.text_end ≤ length bytes
-    → AreAccepted bytes (line_findings bytes width l)
+    → AreInBounds bytes (line_findings bytes width l)
 line_in bytes width l begins ends =
     let text = slice_range bytes l.start l.text_end in
     let within : l.start + length text ≤ length bytes =
     omega (arith, begins, ends, part_length bytes l.start l.text_end ends) in
-    text_in bytes text width l (cells_of l.start text) ends within (text_cells l.start (length bytes) text within)
+    text_in bytes text width l (lint_cells_of l.start text) ends within (text_cells l.start (length bytes) text within)
 
 lines_in : (bytes : List ℕ) (width at : ℕ) (ls : List Line) → IsCut at ls (length bytes)
-    → AreAccepted bytes (flat_map (line_findings bytes width) ls)
+    → AreInBounds bytes (flat_map (line_findings bytes width) ls)
 lines_in bytes width at [] h = tt
 lines_in bytes width at (l ∷ ls) h =
-    all_append (λ label. IsAccepted bytes label.span) (line_findings bytes width l) _
+    all_append (λ label. IsInBounds bytes label.span) (line_findings bytes width l) _
     (line_in bytes width l (omega (arith, h.0, h.1)) (omega (arith, h.2, cut_le l.end ls (length bytes) h.4)))
     (lines_in bytes width l.end ls h.4)
 
 -- ---- all labels of a source
 
 pub findings_accepted : (bytes : List ℕ) (width : ℕ) (found : List Label) → found ≡ findings_of bytes width
-    → AreAccepted bytes found
+    → AreInBounds bytes found
 findings_accepted bytes width found is =
-    subst (λ (ls : List Label). AreAccepted bytes ls) (sym is)
+    subst (λ (ls : List Label). AreInBounds bytes ls) (sym is)
     (lines_in bytes width 0 (lines_of bytes) (lines_cut bytes))

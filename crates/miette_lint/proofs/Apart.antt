@@ -9,17 +9,17 @@ use Rattle.std.proofs.lemmas.Grind.{flat_map-append}
 use Rattle.std.proofs.lemmas.List.{drop-drop, take-append-drop, take-take, drop-take}
 use Rattle.std.proofs.lemmas.List.Folds.{drop_split}
 use Rattle.miette_fixes.specs.rules.Applying.{by_offset, put_edit, text_from}
-use Rattle.miette_fixes.specs.rules.ApplyingAll.{all_applied, all_of, conflict, counted, counted_with, counts}
-use Rattle.miette_fixes.specs.rules.ApplyingAll.{is_among, is_taken, taken}
-use Rattle.miette_fixes.specs.rules.Edits.{Proposal, Replacement, end_of, ends_after, is_after, overlap}
+use Rattle.miette_fixes.specs.rules.ApplyingAll.{all_applied, all_edits, conflict, counted, counted_with, counts}
+use Rattle.miette_fixes.specs.rules.ApplyingAll.{equals_some_fix, is_taken, taken}
+use Rattle.miette_fixes.specs.rules.Edits.{FixModel, Replacement, end_of, ends_after, is_after, overlap}
 use Rattle.miette_lint.specs.rules.Fixes.{proposal}
 
 -- the edits of each fix, and all of them
-abbrev pub lists_in : List Proposal → List (List Replacement)
-lists_in fixes = map (λ (fix : Proposal). fix.edits) fixes
+abbrev pub lists_in : List FixModel → List (List Replacement)
+lists_in fixes = map (λ (fix : FixModel). fix.edits) fixes
 
-abbrev pub edits_in : List Proposal → List Replacement
-edits_in fixes = all_of (lists_in fixes)
+abbrev pub edits_in : List FixModel → List Replacement
+edits_in fixes = all_edits (lists_in fixes)
 
 -- after an edit, where the next one may begin
 abbrev pub next_at : Replacement → ℕ
@@ -31,7 +31,7 @@ pub record LiesAt (n low : ℕ) (edits : List Replacement) (edit : Replacement) 
   pub from : low ≤ edit.span.offset
   pub within : end_of edit ≤ n
 
-abbrev pub AreApart : ℕ → ℕ → List Proposal → Type 0
+abbrev pub AreApart : ℕ → ℕ → List FixModel → Type 0
 AreApart n low [] = Unit {0}
 AreApart n low (fix ∷ fixes) =
     (edit : Replacement) × LiesAt n low fix.edits edit × AreApart n (next_at edit) fixes
@@ -75,30 +75,30 @@ below_more low e (x ∷ xs) le h =
     let end : end_of x ≤ low = h.0.1 in
     ((omega (arith, lt, le), omega (arith, end, le)), below_more low e xs le h.1)
 
-all_more : (before : List (List Replacement)) (e : Replacement) → all_of (before ++ (e ∷ []) ∷ [])
-    ≡ all_of before ++ e ∷ []
+all_more : (before : List (List Replacement)) (e : Replacement) → all_edits (before ++ (e ∷ []) ∷ [])
+    ≡ all_edits before ++ e ∷ []
 all_more before e = flat_map-append (λ (edits : List Replacement). edits) before ((e ∷ []) ∷ [])
 
 -- an edit after others counts, and then lies before the next one
 record CountsFirst (n : ℕ) (e : Replacement) (before : List (List Replacement)) : Type 0 where
-  yes : counts n (all_of before) (e ∷ []) ≡ true
+  yes : counts n (all_edits before) (e ∷ []) ≡ true
   next : counted_with n before (e ∷ []) ≡ before ++ (e ∷ []) ∷ []
-  below : AllByRecursion (LiesBelow (next_at e)) (all_of (before ++ (e ∷ []) ∷ []))
+  below : AllByRecursion (LiesBelow (next_at e)) (all_edits (before ++ (e ∷ []) ∷ []))
 
 counts_first : (n low : ℕ) (e : Replacement) (before : List (List Replacement)) → low ≤ e.span.offset → end_of e ≤ n
-    → AllByRecursion (LiesBelow low) (all_of before) → CountsFirst n e before
+    → AllByRecursion (LiesBelow low) (all_edits before) → CountsFirst n e before
 counts_first n low e before from within h =
-    let yes : counts n (all_of before) (e ∷ []) ≡ true = one_counts n low e (all_of before) from within h in
+    let yes : counts n (all_edits before) (e ∷ []) ≡ true = one_counts n low e (all_edits before) from within h in
     let more : List (List Replacement) = before ++ (e ∷ []) ∷ [] in
     record {
       yes = yes;
       next = ap (λ b. cond b more before) yes;
       below = subst (AllByRecursion (LiesBelow (next_at e))) (sym (all_more before e))
-          (below_more low e (all_of before) from h);
+          (below_more low e (all_edits before) from h);
     }
 
-pub all_count : (n low : ℕ) (before : List (List Replacement)) (fixes : List Proposal)
-    → AllByRecursion (LiesBelow low) (all_of before) → AreApart n low fixes
+pub all_count : (n low : ℕ) (before : List (List Replacement)) (fixes : List FixModel)
+    → AllByRecursion (LiesBelow low) (all_edits before) → AreApart n low fixes
     → counted n before (lists_in fixes) ≡ before ++ lists_in fixes
 all_count n low before [] h apart = sym (append-nil before)
 all_count n low before (fix ∷ fixes) h apart =
@@ -112,23 +112,24 @@ all_count n low before (fix ∷ fixes) h apart =
     ∙ ap (λ es. before ++ es ∷ lists_in fixes) (sym one)
 
 -- and so all are taken
-pub all_are_taken : (n low : ℕ) (before : List (List Replacement)) (fixes : List Proposal)
-    → AllByRecursion (LiesBelow low) (all_of before) → AreApart n low fixes
-    → taken n before (lists_in fixes) ≡ map (λ (fix : Proposal). true) fixes
+pub all_are_taken : (n low : ℕ) (before : List (List Replacement)) (fixes : List FixModel)
+    → AllByRecursion (LiesBelow low) (all_edits before) → AreApart n low fixes
+    → taken n before (lists_in fixes) ≡ map (λ (fix : FixModel). true) fixes
 all_are_taken n low before [] h apart = refl
 all_are_taken n low before (fix ∷ fixes) h apart =
     let e : Replacement = apart.0 in
     let one : fix.edits ≡ e ∷ [] = apart.1.one in
     let first = counts_first n low e before apart.1.from apart.1.within h in
     ap (λ es. is_taken n before es ∷ taken n (counted_with n before es) (lists_in fixes)) one
-    ∙ ap (λ b. (b || is_among (e ∷ []) before) ∷ taken n (counted_with n before (e ∷ [])) (lists_in fixes)) first.yes
+    ∙ ap (λ b. (b || equals_some_fix (e ∷ []) before) ∷ taken n (counted_with n before (e ∷ [])) (lists_in fixes))
+    first.yes
     ∙ ap (λ bs. true ∷ taken n bs (lists_in fixes)) first.next
     ∙ ap (λ (ts : List Bool). true ∷ ts)
     (all_are_taken n (next_at e) (before ++ (e ∷ []) ∷ []) fixes first.below apart.2)
 
 -- ---- in which order
 
-put_first : (n low : ℕ) (e : Replacement) (fixes : List Proposal) → next_at e ≤ low → AreApart n low fixes
+put_first : (n low : ℕ) (e : Replacement) (fixes : List FixModel) → next_at e ≤ low → AreApart n low fixes
     → put_edit e (edits_in fixes) ≡ e ∷ edits_in fixes
 put_first n low e [] le apart = refl
 put_first n low e (fix ∷ fixes) le apart =
@@ -144,7 +145,7 @@ put_first n low e (fix ∷ fixes) le apart =
     ap (λ b. cond b (x ∷ put_edit e (edits_in fixes)) (e ∷ x ∷ edits_in fixes)) first in
     ap (λ es. put_edit e (es ++ edits_in fixes)) one ∙ put ∙ ap (λ es. e ∷ (es ++ edits_in fixes)) (sym one)
 
-pub in_order : (n low : ℕ) (fixes : List Proposal) → AreApart n low fixes → by_offset (edits_in fixes) ≡ edits_in fixes
+pub in_order : (n low : ℕ) (fixes : List FixModel) → AreApart n low fixes → by_offset (edits_in fixes) ≡ edits_in fixes
 in_order n low [] apart = refl
 in_order n low (fix ∷ fixes) apart =
     let e : Replacement = apart.0 in
@@ -156,14 +157,14 @@ in_order n low (fix ∷ fixes) apart =
 
 -- ---- the text
 
-pub applied_apart : (source : List ℕ) (fixes : List Proposal) → AreApart (length source) 0 fixes
+pub applied_apart : (source : List ℕ) (fixes : List FixModel) → AreApart (length source) 0 fixes
     → all_applied source (lists_in fixes) ≡ text_from source 0 (edits_in fixes)
 applied_apart source fixes apart =
-    ap (λ ls. text_from source 0 (by_offset (all_of ls))) (all_count (length source) 0 [] fixes tt apart)
+    ap (λ ls. text_from source 0 (by_offset (all_edits ls))) (all_count (length source) 0 [] fixes tt apart)
     ∙ ap (text_from source 0) (in_order (length source) 0 fixes apart)
 
 -- what begins further on begins here too
-pub earlier : (n low high : ℕ) (fixes : List Proposal) → low ≤ high → AreApart n high fixes → AreApart n low fixes
+pub earlier : (n low high : ℕ) (fixes : List FixModel) → low ≤ high → AreApart n high fixes → AreApart n low fixes
 earlier n low high [] le apart = tt
 earlier n low high (fix ∷ fixes) le apart = (
   apart.0,
@@ -191,7 +192,7 @@ parts_join source a b c le more =
     ∙ take-append-drop m (take (m + k) rest) ∙ ap (λ n. take n rest) (sym sum)
 
 -- up to where the first edit may begin the text is the source's
-pub goes_on : (source : List ℕ) (n a c : ℕ) (fixes : List Proposal) → a ≤ c → AreApart n c fixes
+pub goes_on : (source : List ℕ) (n a c : ℕ) (fixes : List FixModel) → a ≤ c → AreApart n c fixes
     → text_from source a (edits_in fixes) ≡ slice_range source a c ++ text_from source c (edits_in fixes)
 goes_on source n a c [] le apart = drop_split source a c le
 goes_on source n a c (fix ∷ fixes) le apart =
@@ -208,11 +209,11 @@ goes_on source n a c (fix ∷ fixes) le apart =
 
 -- ---- a fix that is there or not
 
-abbrev pub unless : Bool → List ℕ → ℕ → ℕ → List ℕ → List Proposal
+abbrev pub unless : Bool → List ℕ → ℕ → ℕ → List ℕ → List FixModel
 unless none message offset len text = cond none [] (proposal message offset len text ∷ [])
 
 pub apart_unless : (n low high : ℕ) (none : Bool) (message : List ℕ) (offset len : ℕ) (text : List ℕ)
-    (fixes : List Proposal) → low ≤ offset → offset + len ≤ high → offset + len ≤ n
+    (fixes : List FixModel) → low ≤ offset → offset + len ≤ high → offset + len ≤ n
     → (none ≡ false → offset < high) → AreApart n high fixes
     → AreApart n low (unless none message offset len text ++ fixes)
 apart_unless n low high true message offset len text fixes from to within some apart =
@@ -228,7 +229,7 @@ pub nothing_there : (source : List ℕ) (at : ℕ) → slice_range source at at 
 nothing_there source at = let z : at - at ≡ 0 = omega arith in ap (λ n. take n (drop at source)) z
 
 pub text_unless : (source : List ℕ) (n : ℕ) (none : Bool) (message : List ℕ) (offset len : ℕ) (text : List ℕ)
-    (fixes : List Proposal) → AreApart n (offset + len) fixes
+    (fixes : List FixModel) → AreApart n (offset + len) fixes
     → text_from source offset (edits_in (unless none message offset len text ++ fixes))
     ≡ cond none (slice_range source offset (offset + len)) text ++ text_from source (offset + len) (edits_in fixes)
 text_unless source n true message offset len text fixes apart =

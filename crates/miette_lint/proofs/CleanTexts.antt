@@ -15,8 +15,8 @@ use Rattle.std.proofs.lemmas.List.Sums.{prefix_len-drop_all, prefix_len-drop_no,
 use Rattle.std.proofs.lemmas.List.Sums.{prefix_len_passes}
 use Rattle.std.proofs.lemmas.List.Sums.{prefix_len_stops}
 use Rattle.std.proofs.Math.Seq.{drop-append_seam, take-append_seam}
-use Rattle.miette_basics.proofs.Cases.{by_cases}
-use Rattle.miette_source_lines.specs.rules.Lines.{is_text}
+use Rattle.miette_lines.proofs.Cases.{by_cases}
+use Rattle.miette_lines.specs.rules.Lines.{is_text}
 use Rattle.miette_lint.specs.rules.Findings.{ending_blanks, is_blank, tab_after_space, tab_from}
 use Rattle.miette_lint.specs.rules.Fixes.{even_blanks, evened, fixed_line_text, spaces_at, spaces_from, trimmed}
 

@@ -6,17 +6,18 @@ use Rattle.std.specs.List.{AllByRecursion, flat_map, prefix_len}
 use Rattle.std.proofs.lemmas.List.{get_or-drop, get_or-reverse, get_or-take, length-take-le}
 use Rattle.std.proofs.lemmas.List.Folds.{length-prefix_len}
 use Rattle.std.proofs.lemmas.List.Sums.{prefix_len-le-length, prefix_len_passes}
-use Rattle.miette_basics.proofs.Cases.{by_cases}
-use Rattle.miette_source_lines.specs.rules.Lines.{IsCut, Line, is_terminated, lines_of}
-use Rattle.miette_source_lines.proofs.AreLines.{lines_are}
-use Rattle.miette_source_lines.proofs.Cuts.{cut_le, lines_cut}
-use Rattle.miette_source_lines.proofs.Parts.{part_length}
-use Rattle.miette_fixes.specs.rules.Edits.{Proposal, Replacement}
-use Rattle.miette_cells.specs.rules.Cells.{Cell}
+use Rattle.miette_lines.proofs.Cases.{by_cases}
+use Rattle.miette_lines.specs.rules.Lines.{IsCut, Line, is_terminated, lines_of}
+use Rattle.miette_lines.proofs.AreLines.{lines_are}
+use Rattle.miette_lines.proofs.Cuts.{cut_le, lines_cut}
+use Rattle.miette_lines.proofs.Parts.{part_length}
+use Rattle.miette_fixes.specs.rules.Edits.{FixModel, Replacement}
+use Rattle.miette_columns.specs.rules.Cells.{Cell}
 use Rattle.miette_protocol.specs.views.Meaning.{Label}
-use Rattle.miette_lint.specs.rules.Coded.{Coded, coded, coded_ending, coded_findings, coded_overlong, coded_tab}
-use Rattle.miette_lint.specs.rules.Coded.{coded_trailing, line_coded}
-use Rattle.miette_lint.specs.rules.Findings.{cells_of, ending_blanks, is_blank, misplaced_tab, missing_terminator}
+use Rattle.miette_lint.specs.rules.FindingWithFixes.{FindingWithFixes, coded, coded_ending, coded_findings}
+use Rattle.miette_lint.specs.rules.FindingWithFixes.{coded_overlong, coded_tab}
+use Rattle.miette_lint.specs.rules.FindingWithFixes.{coded_trailing, line_coded}
+use Rattle.miette_lint.specs.rules.Findings.{lint_cells_of, ending_blanks, is_blank, misplaced_tab, missing_terminator}
 use Rattle.miette_lint.specs.rules.Findings.{overlong, tab_after_space, trailing_space}
 use Rattle.miette_lint.specs.rules.Fixes.{blanks_fix, ending_fix, ending_of, line_fixes, proposal, proposals_of}
 use Rattle.miette_lint.specs.rules.Fixes.{spaces_from, trailing_fix, trimmed}
@@ -33,10 +34,10 @@ pub record HasEnds (source : List ℕ) (edit : Replacement) : Type 0 where
   pub to : IsBeside source (edit.span.offset + edit.span.len)
   pub within : edit.span.offset + edit.span.len ≤ length source
 
-abbrev pub FixEnds : List ℕ → Proposal → Type 0
+abbrev pub FixEnds : List ℕ → FixModel → Type 0
 FixEnds source fix = AllByRecursion (HasEnds source) fix.edits
 
-abbrev pub CodedEnds : List ℕ → Coded → Type 0
+abbrev pub CodedEnds : List ℕ → FindingWithFixes → Type 0
 CodedEnds source it = AllByRecursion (FixEnds source) it.fixes
 
 all_joined : {X : Type 0} (P : X → Type 0) (xs ys : List X) → AllByRecursion P xs → AllByRecursion P ys
@@ -94,8 +95,8 @@ blanks_ends source at end le within =
     let kept_size : length kept ≡ length text - ending_blanks text =
     length-take-le (length text - ending_blanks text) text (omega arith) in
     let few : m ≤ length kept = omega (arith, length-prefix_len is_blank kept, prefix_len-le-length is_blank kept) in
-    let P : List Proposal → Type 0 = AllByRecursion (FixEnds source) in
-    let fixes : List Proposal = proposal (codes "indent by spaces") at m (spaces_from 0 blanks) ∷ [] in
+    let P : List FixModel → Type 0 = AllByRecursion (FixEnds source) in
+    let fixes : List FixModel = proposal (codes "indent by spaces") at m (spaces_from 0 blanks) ∷ [] in
     by_cases {C = P (blanks_fix at blanks)} (is_none (tab_after_space blanks))
     (λ t. subst (λ b. P (cond b [] fixes)) (sym t) tt)
     (λ f. let some : at < at + m = some_blanks at (at + m) blanks refl f in
@@ -104,7 +105,8 @@ blanks_ends source at end le within =
     ap (λ n. is_blank (get_or source n 0)) (sym zero) ∙ begin_blank source at end 0 le within (omega (arith, some)) in
     let last : is_blank (get_or source (at + (m - 1)) 0) ≡ true =
     begin_blank source at end (m - 1) le within (omega (arith, some)) in
-    let ends : HasEnds source (record { span = record { offset = at; len = m }; text = spaces_from 0 blanks }) = record {
+    let ends : HasEnds source (record { span = record { offset = at; len = m }; text = spaces_from 0 blanks })
+    = record {
       from = inr (inl first);
       to = inr (inr (at + (m - 1), omega (arith, some), last));
       within = omega (arith, few, kept_size, size, within, le);
@@ -118,8 +120,8 @@ trailing_ends source at end le within =
     let k : ℕ = ending_blanks text in
     let size : length text ≡ end - at = part_length source at end within in
     let most : k ≤ length text = ending_le text in
-    let P : List Proposal → Type 0 = AllByRecursion (FixEnds source) in
-    let fixes : List Proposal = proposal (codes "delete trailing blanks") (end - k) k [] ∷ [] in
+    let P : List FixModel → Type 0 = AllByRecursion (FixEnds source) in
+    let fixes : List FixModel = proposal (codes "delete trailing blanks") (end - k) k [] ∷ [] in
     by_cases {C = P (trailing_fix end text)} (eqb k 0)
     (λ t. subst (λ b. P (cond b [] fixes)) (sym t) tt)
     (λ f. let some : 0 < k = ne_zero k f in
@@ -140,8 +142,8 @@ trailing_ends source at end le within =
 ending_ends : (source ending : List ℕ) (l : Line) → (is_terminated l ≡ false → l.end ≡ length source)
     → AllByRecursion (FixEnds source) (ending_fix ending l)
 ending_ends source ending l last =
-    let P : List Proposal → Type 0 = AllByRecursion (FixEnds source) in
-    let fixes : List Proposal = proposal (codes "end the last line") l.end 0 ending ∷ [] in
+    let P : List FixModel → Type 0 = AllByRecursion (FixEnds source) in
+    let fixes : List FixModel = proposal (codes "end the last line") l.end 0 ending ∷ [] in
     by_cases {C = P (ending_fix ending l)} (is_terminated l)
     (λ t. subst (λ b. P (cond b [] fixes)) (sym t) tt)
     (λ f. let at : l.end ≡ length source = last f in
@@ -161,7 +163,7 @@ line_ends source ending l begins within last =
 
 -- ---- what is found in a line, with its fixes
 
-coded_end : (source code : List ℕ) (fixes : List Proposal) (labels : List Label)
+coded_end : (source code : List ℕ) (fixes : List FixModel) (labels : List Label)
     → AllByRecursion (FixEnds source) fixes → AllByRecursion (CodedEnds source) (coded code fixes labels)
 coded_end source code fixes [] h = tt
 coded_end source code fixes (label ∷ labels) h = (h, tt)
@@ -170,13 +172,13 @@ line_coded_end : (source : List ℕ) (width : ℕ) (ending : List ℕ) (l : Line
     → l.text_end ≤ length source → (is_terminated l ≡ false → l.end ≡ length source)
     → AllByRecursion (CodedEnds source) (line_coded source width ending l)
 line_coded_end source width ending l begins within last =
-    let P : Coded → Type 0 = CodedEnds source in
+    let P : FindingWithFixes → Type 0 = CodedEnds source in
     let text : List ℕ = slice_range source l.start l.text_end in
-    let cells : List Cell = cells_of l.start text in
-    let a : List Coded = coded_trailing l.text_end text in
-    let b : List Coded = coded_tab l.start text in
-    let c : List Coded = coded_overlong width l.text_end cells in
-    let d : List Coded = coded_ending ending l cells in
+    let cells : List Cell = lint_cells_of l.start text in
+    let a : List FindingWithFixes = coded_trailing l.text_end text in
+    let b : List FindingWithFixes = coded_tab l.start text in
+    let c : List FindingWithFixes = coded_overlong width l.text_end cells in
+    let d : List FindingWithFixes = coded_ending ending l cells in
     all_joined P a (b ++ (c ++ d))
     (coded_end source _ _ (trailing_space l.text_end text) (trailing_ends source l.start l.text_end begins within))
     (all_joined P b (c ++ d)
@@ -205,15 +207,15 @@ lines_end P f source one at (l ∷ ls) cut last =
     (λ f. last_end l.end ls (length source) (last.0 f) cut.4))
     (lines_end P f source one l.end ls cut.4 last.1)
 
-edits_end : (source : List ℕ) (fixes : List Proposal) → AllByRecursion (FixEnds source) fixes
-    → AllByRecursion (HasEnds source) (flat_map (λ (fix : Proposal). fix.edits) fixes)
+edits_end : (source : List ℕ) (fixes : List FixModel) → AllByRecursion (FixEnds source) fixes
+    → AllByRecursion (HasEnds source) (flat_map (λ (fix : FixModel). fix.edits) fixes)
 edits_end source [] h = tt
 edits_end source (fix ∷ fixes) h =
-    all_joined (HasEnds source) fix.edits (flat_map (λ (fix : Proposal). fix.edits) fixes) h.0
+    all_joined (HasEnds source) fix.edits (flat_map (λ (fix : FixModel). fix.edits) fixes) h.0
     (edits_end source fixes h.1)
 
 pub proposals_end : (source : List ℕ)
-    → AllByRecursion (HasEnds source) (flat_map (λ (fix : Proposal). fix.edits) (proposals_of source))
+    → AllByRecursion (HasEnds source) (flat_map (λ (fix : FixModel). fix.edits) (proposals_of source))
 proposals_end source =
     edits_end source (proposals_of source)
     (lines_end (FixEnds source) (line_fixes source (ending_of source)) source (line_ends source (ending_of source)) 0

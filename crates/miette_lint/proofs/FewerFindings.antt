@@ -5,16 +5,17 @@ use Rattle.std.specs.Prelude.{slice_index, slice_range, All}
 use Rattle.std.specs.List.{AllByRecursion, flat_map}
 use Rattle.std.proofs.lemmas.Bool.{eq-eqb, eqb-true}
 use Rattle.std.proofs.lemmas.List.{length-append}
-use Rattle.miette_basics.proofs.Cases.{by_cases}
-use Rattle.miette_cells.specs.rules.Cells.{characters}
-use Rattle.miette_source_lines.specs.rules.Lines.{CR, LF, Line, lines_from, lines_of}
-use Rattle.miette_source_lines.specs.rules.Cutting.{IsTerminator}
-use Rattle.miette_source_lines.proofs.Only.{first_line, made}
+use Rattle.miette_lines.proofs.Cases.{by_cases}
+use Rattle.miette_columns.specs.rules.Cells.{characters}
+use Rattle.miette_lines.specs.rules.Lines.{CR, LF, Line, lines_from, lines_of}
+use Rattle.miette_lines.specs.rules.Cutting.{IsTerminator}
+use Rattle.miette_lines.proofs.Only.{first_line, made}
 use Rattle.miette_protocol.specs.views.Meaning.{Label}
-use Rattle.miette_lint.specs.rules.Findings.{cells_of, findings_of, line_findings, misplaced_tab, missing_terminator}
+use Rattle.miette_lint.specs.rules.Findings.{lint_cells_of, findings_of, line_findings, misplaced_tab}
+use Rattle.miette_lint.specs.rules.Findings.{missing_terminator}
 use Rattle.miette_lint.specs.rules.Findings.{overlong, trailing_space}
 use Rattle.miette_lint.specs.rules.Fixes.{ending_of, fixed_line_text, fixed_text, wide_line, wide_lines}
-use Rattle.miette_lint.specs.rules.Joint.{mended_count}
+use Rattle.miette_lint.specs.rules.Combined.{mended_count}
 use Rattle.miette_lint.proofs.FixedLines.{ending_well, fixed_clean, piece, pieces_joined, wholes}
 use Rattle.miette_lint.proofs.Pieces.{BeginsByLF, IsEnding, IsText, IsWhole, Piece, cut_outs, ending_some, front_is}
 use Rattle.miette_lint.proofs.Pieces.{joined, lf_first, rest_is}
@@ -32,7 +33,7 @@ wide_count source width ls = length (flat_map (wide_line source width) ls)
 weight_of : (source : List ℕ) (width : ℕ) (l : Line) (text : List ℕ) → slice_range source l.start l.text_end ≡ text
     → length (wide_line source width l) ≡ weight width text
 weight_of source width l text is =
-    ap (λ t. length (overlong width l.text_end (cells_of l.start t))) is
+    ap (λ t. length (overlong width l.text_end (lint_cells_of l.start t))) is
     ∙ weighed width l.text_end l.start 0 false (characters text)
 
 -- so many lines at most are too wide in the rest of bytes
@@ -148,7 +149,7 @@ wide_few source width (l ∷ ls) =
     let text : List ℕ = slice_range source l.start l.text_end in
     let own : length (wide_line source width l) ≤ length (line_findings source width l) =
     third_few (trailing_space l.text_end text) (misplaced_tab l.start text)
-    (overlong width l.text_end (cells_of l.start text)) (missing_terminator l (cells_of l.start text)) in
+    (overlong width l.text_end (lint_cells_of l.start text)) (missing_terminator l (lint_cells_of l.start text)) in
     let wide : wide_count source width (l ∷ ls) ≡ length (wide_line source width l) + wide_count source width ls =
     length-append (wide_line source width l) (flat_map (wide_line source width) ls) in
     let all : length (flat_map (line_findings source width) (l ∷ ls)) ≡ length (line_findings source width l)

@@ -7,33 +7,34 @@ use Rattle.std.specs.Option.{option_and_then, option_map, option_map_or}
 use Rattle.std.proofs.lemmas.Bool.Decides.{nat_tests}
 use Rattle.std.proofs.lemmas.List.{length-drop, take_rest}
 use Rattle.std.proofs.lemmas.List.Folds.{length-prefix_len}
-use Rattle.miette_source_lines.specs.rules.Lines.{Line, lines_from}
-use Rattle.miette_source_lines.specs.declared.lines.LineOfText.{LineOfText}
-use Rattle.miette_source_lines.specs.views.Walking.{Rest, GivesLine, IsFirst, after_line, line_of_text, lines_left}
+use Rattle.miette_lines.specs.rules.Lines.{Line, lines_from}
+use Rattle.miette_lines.specs.declared.lines.LineOfText.{LineOfText}
+use Rattle.miette_lines.specs.views.Walking.{RemainingLines, GivesLine, IsFirst, after_line, line_of_text, lines_left}
 use Rattle.miette_protocol.specs.views.Meaning.{Label}
-use Rattle.miette_cells.specs.rules.Cells.{Cell}
+use Rattle.miette_columns.specs.rules.Cells.{Cell}
 use Rattle.miette_lint.specs.rules.Findings.{ending_blanks, finding, is_blank, misplaced_tab, overlong}
 use Rattle.miette_lint.specs.rules.Findings.{tab_after_space, tab_from, too_wide, trailing_space}
 
 -- The lines that are left of `size` bytes have what is left to be found.
-pub record AreLeft {X : Type 0} (f : Line → List X) (size : ℕ) (rest : Rest) (found all : List X) : Type 0 where
+pub record AreLeft {X : Type 0} (f : Line → List X) (size : ℕ) (rest : RemainingLines) (found all : List X)
+    : Type 0 where
   pub rows : found ++ flat_map f (lines_left rest) ≡ all
   pub to : rest.start + length rest.bytes ≡ size
 
 -- all lines
-pub left_first : {X : Type 0} (f : Line → List X) (rest : Rest) (bytes : List ℕ) (found : List X) → rest
+pub left_first : {X : Type 0} (f : Line → List X) (rest : RemainingLines) (bytes : List ℕ) (found : List X) → rest
     ≡ record { start = 0; bytes = bytes } → found ≡ [] →
     AreLeft f (length bytes) rest found (flat_map f (lines_from 0 bytes))
 left_first f rest bytes found is none =
-    subst (λ (r : Rest). AreLeft f (length bytes) r found (flat_map f (lines_from 0 bytes))) (sym is)
+    subst (λ (r : RemainingLines). AreLeft f (length bytes) r found (flat_map f (lines_from 0 bytes))) (sym is)
     (record { rows = ap (λ ls. ls ++ flat_map f (lines_from 0 bytes)) none; to = omega arith })
 
 -- a step that gives a line
-pub given_line : (rest after : Rest) (r : Option LineOfText) (line : LineOfText) → r ≡ Some line
+pub given_line : (rest after : RemainingLines) (r : Option LineOfText) (line : LineOfText) → r ≡ Some line
     → GivesLine rest r after → IsFirst rest line × (after ≡ after_line rest line)
 given_line rest after r line is given = subst (λ (o : Option LineOfText). GivesLine rest o after) is given
 
-pub left_more : {X : Type 0} (f : Line → List X) (size : ℕ) (rest after : Rest) (r : Option LineOfText)
+pub left_more : {X : Type 0} (f : Line → List X) (size : ℕ) (rest after : RemainingLines) (r : Option LineOfText)
     (line : LineOfText) (found more all : List X) → AreLeft f size rest found all → r ≡ Some line
     → GivesLine rest r after → more ≡ found ++ f (line_of_text line) → AreLeft f size after more all
 left_more {X} f size rest after r line found more all h is given step =
@@ -42,7 +43,7 @@ left_more {X} f size rest after r line found more all h is given step =
     let later : List X = flat_map f (lines_left (after_line rest line)) in
     let bytes : length (drop (line.end - rest.start) rest.bytes) ≡ length rest.bytes - (line.end - rest.start) =
     length-drop (line.end - rest.start) rest.bytes in
-    subst (λ (r : Rest). AreLeft f size r more all) (sym step_is.1)
+    subst (λ (r : RemainingLines). AreLeft f size r more all) (sym step_is.1)
     (record {
       rows = ap (λ m. m ++ later) step ∙ append_assoc found (f (line_of_text line)) later
           ∙ ap (λ ls. found ++ flat_map f ls) (sym first.lines) ∙ h.rows;
@@ -50,7 +51,7 @@ left_more {X} f size rest after r line found more all h is given step =
     })
 
 -- one that gives none
-pub left_none : {X : Type 0} (f : Line → List X) (size : ℕ) (rest after : Rest) (r : Option LineOfText)
+pub left_none : {X : Type 0} (f : Line → List X) (size : ℕ) (rest after : RemainingLines) (r : Option LineOfText)
     (found all : List X) → AreLeft f size rest found all → r ≡ None → GivesLine rest r after → found ≡ all
 left_none f size rest after r found all h is given =
     let end : (rest.bytes ≡ []) × (after ≡ rest) =

@@ -8,13 +8,14 @@ use Rattle.std.specs.Option.{option_map_or}
 use Rattle.std.proofs.lemmas.Bool.{ltb-true}
 use Rattle.std.proofs.lemmas.List.{drop_all}
 use Rattle.std.proofs.lemmas.List.Folds.{drop_split}
-use Rattle.miette_basics.proofs.Cases.{by_cases}
-use Rattle.miette_source_lines.specs.rules.Lines.{IsCut, LF, Line, is_terminated, lines_of}
-use Rattle.miette_source_lines.proofs.Cuts.{lines_cut}
+use Rattle.miette_lines.proofs.Cases.{by_cases}
+use Rattle.miette_lines.specs.rules.Lines.{IsCut, LF, Line, is_terminated, lines_of}
+use Rattle.miette_lines.proofs.Cuts.{lines_cut}
 use Rattle.miette_protocol.specs.views.Meaning.{Label}
-use Rattle.miette_fixes.specs.rules.Edits.{Proposal}
-use Rattle.miette_cells.specs.rules.Cells.{Cell}
-use Rattle.miette_lint.specs.rules.Findings.{cells_of, finding, findings_of, is_blank, line_findings, misplaced_tab}
+use Rattle.miette_fixes.specs.rules.Edits.{FixModel}
+use Rattle.miette_columns.specs.rules.Cells.{Cell}
+use Rattle.miette_lint.specs.rules.Findings.{lint_cells_of, finding, findings_of, is_blank, line_findings}
+use Rattle.miette_lint.specs.rules.Findings.{misplaced_tab}
 use Rattle.miette_lint.specs.rules.Findings.{missing_terminator, overlong, text_findings}
 use Rattle.miette_lint.specs.rules.Findings.{trailing_space}
 use Rattle.miette_lint.specs.rules.Fixes.{blanks_fix, ending_fix, ending_of, first_ending, fixed_line, fixed_line_text}
@@ -98,7 +99,7 @@ wide_from source width [] h = refl
 wide_from source width (l ∷ ls) h =
     let text : List ℕ = slice_range source l.start l.text_end in
     ap₂ (λ (xs ys : List Label). xs ++ ys)
-    (only_wide width l text (cells_of l.start text) h.0.clean h.0.terminated)
+    (only_wide width l text (lint_cells_of l.start text) h.0.clean h.0.terminated)
     (wide_from source width ls h.1)
 
 pub fixed_clean : (source : List ℕ) (width : ℕ) → findings_of (fixed_text source) width
@@ -135,7 +136,7 @@ none_proposed : (ending : List ℕ) (l : Line) (text : List ℕ) → IsClean tex
     → text_fixes ending l text ≡ []
 none_proposed ending l text clean ended =
     let blanks : List ℕ = take_while is_blank text in
-    let made : List ℕ → Proposal =
+    let made : List ℕ → FixModel =
     λ bs. proposal (codes "indent by spaces") l.start (length bs) (spaces_from 0 bs) in
     let a : blanks_fix l.start (take_while is_blank (trimmed text)) ≡ [] =
     ap (λ (x : List ℕ). blanks_fix l.start (take_while is_blank x)) (trimmed_same text clean.ends)
@@ -144,14 +145,14 @@ none_proposed ending l text clean ended =
     ap (λ n. cond (eqb n 0) [] (proposal (codes "delete trailing blanks") (l.text_end - n) n [] ∷ [])) clean.ends in
     let c : ending_fix ending l ≡ [] =
     ap (λ t. cond t [] (proposal (codes "end the last line") l.end 0 ending ∷ [])) ended in
-    ap (λ (xs : List Proposal). xs ++ (trailing_fix l.text_end text ++ ending_fix ending l)) a
-    ∙ ap (λ (xs : List Proposal). xs ++ ending_fix ending l) b ∙ c
+    ap (λ (xs : List FixModel). xs ++ (trailing_fix l.text_end text ++ ending_fix ending l)) a
+    ∙ ap (λ (xs : List FixModel). xs ++ ending_fix ending l) b ∙ c
 
 none_from : (source ending : List ℕ) (ls : List Line) → AllByRecursion (IsCleanLine source) ls
     → flat_map (line_fixes source ending) ls ≡ []
 none_from source ending [] h = refl
 none_from source ending (l ∷ ls) h =
-    ap (λ (xs : List Proposal). xs ++ flat_map (line_fixes source ending) ls)
+    ap (λ (xs : List FixModel). xs ++ flat_map (line_fixes source ending) ls)
     (none_proposed ending l (slice_range source l.start l.text_end) h.0.clean h.0.terminated)
     ∙ none_from source ending ls h.1
 

@@ -7,11 +7,11 @@ use Rattle.std.proofs.lemmas.Bool.{eq-eqb, eqb-true, lt-ltb}
 use Rattle.std.proofs.lemmas.Bool.Decides.{nat_tests}
 use Rattle.std.proofs.lemmas.List.{drop-drop, length-append, length-drop}
 use Rattle.std.proofs.Math.Seq.{drop-append_seam, take-append_seam}
-use Rattle.miette_basics.proofs.Cases.{by_cases}
-use Rattle.miette_source_lines.specs.rules.Lines.{Line, LF, CR, is_terminated, is_text, lines_from, lines_of}
-use Rattle.miette_source_lines.specs.rules.Cutting.{AreLines, BeginsWith, IsTerminator}
-use Rattle.miette_source_lines.proofs.AreLines.{lines_are}
-use Rattle.miette_source_lines.proofs.Only.{first_line, made}
+use Rattle.miette_lines.proofs.Cases.{by_cases}
+use Rattle.miette_lines.specs.rules.Lines.{Line, LF, CR, is_terminated, is_text, lines_from, lines_of}
+use Rattle.miette_lines.specs.rules.Cutting.{AreLines, BeginsWith, IsTerminator}
+use Rattle.miette_lines.proofs.AreLines.{lines_are}
+use Rattle.miette_lines.proofs.Only.{first_line, made}
 use Rattle.miette_lint.proofs.CleanTexts.{IsClean}
 
 abbrev pub IsText : ℕ → Type 0

@@ -11,15 +11,15 @@ use Rattle.std.proofs.lemmas.List.{length-append}
 use Rattle.std.proofs.lemmas.List.Folds.{length-prefix_len}
 use Rattle.std.proofs.lemmas.List.Sums.{prefix_len-le-length}
 use Rattle.std.proofs.Math.Seq.{take-append_seam}
-use Rattle.miette_basics.proofs.Cases.{by_cases}
-use Rattle.miette_source_lines.specs.rules.Cutting.{AreLines, BeginsWith, IsTerminator}
-use Rattle.miette_source_lines.specs.rules.Lines.{IsCut, Line, is_terminated, lines_of}
-use Rattle.miette_source_lines.proofs.AreLines.{lines_are}
-use Rattle.miette_source_lines.proofs.Cuts.{cut_le, lines_cut}
-use Rattle.miette_source_lines.proofs.Parts.{part_length}
+use Rattle.miette_lines.proofs.Cases.{by_cases}
+use Rattle.miette_lines.specs.rules.Cutting.{AreLines, BeginsWith, IsTerminator}
+use Rattle.miette_lines.specs.rules.Lines.{IsCut, Line, is_terminated, lines_of}
+use Rattle.miette_lines.proofs.AreLines.{lines_are}
+use Rattle.miette_lines.proofs.Cuts.{cut_le, lines_cut}
+use Rattle.miette_lines.proofs.Parts.{part_length}
 use Rattle.miette_fixes.specs.rules.Applying.{text_from}
 use Rattle.miette_fixes.specs.rules.ApplyingAll.{all_applied, taken}
-use Rattle.miette_fixes.specs.rules.Edits.{Proposal}
+use Rattle.miette_fixes.specs.rules.Edits.{FixModel}
 use Rattle.miette_lint.specs.rules.Findings.{ending_blanks, is_blank, tab_after_space}
 use Rattle.miette_lint.specs.rules.Fixes.{blanks_fix, ending_fix, ending_of, even_blanks, fixed_line}
 use Rattle.miette_lint.specs.rules.Fixes.{fixed_text, line_fixes, proposal, proposals_of, spaces_from, terminator_or}
@@ -65,17 +65,17 @@ ends_last at (l ∷ ls) bytes h =
 
 -- ---- fixes from a place on, and the text after them from there
 
-record Makes (source : List ℕ) (at : ℕ) (fixes : List Proposal) (text : List ℕ) : Type 0 where
+record Makes (source : List ℕ) (at : ℕ) (fixes : List FixModel) (text : List ℕ) : Type 0 where
   apart : AreApart (length source) at fixes
   made : text_from source at (edits_in fixes) ≡ text
 
 -- at the end of a line's text
-abbrev EndMakes : List ℕ → List ℕ → Line → List Proposal → List ℕ → Bool → Type 0
+abbrev EndMakes : List ℕ → List ℕ → Line → List FixModel → List ℕ → Bool → Type 0
 EndMakes source ending l fixes rest terminated =
     Makes source l.text_end (cond terminated [] (proposal (codes "end the last line") l.end 0 ending ∷ []) ++ fixes)
     (cond terminated (slice_range source l.text_end l.end) ending ++ rest)
 
-with_end : (source ending : List ℕ) (l : Line) (fixes : List Proposal) (rest : List ℕ) → l.text_end ≤ l.end
+with_end : (source ending : List ℕ) (l : Line) (fixes : List FixModel) (rest : List ℕ) → l.text_end ≤ l.end
     → l.end ≤ length source → (is_terminated l ≡ false → fixes ≡ []) → Makes source l.end fixes rest
     → EndMakes source ending l fixes rest (is_terminated l)
 with_end source ending l fixes rest le within last h =
@@ -116,7 +116,7 @@ no_blanks source k from rest =
 pub ne_zero : (k : ℕ) → eqb k 0 ≡ false → 0 < k
 ne_zero k f = grind (arith, nat_tests, f)
 
-with_trailing : (source : List ℕ) (end k from : ℕ) (text : List ℕ) (fixes : List Proposal) (rest : List ℕ)
+with_trailing : (source : List ℕ) (end k from : ℕ) (text : List ℕ) (fixes : List FixModel) (rest : List ℕ)
     → k ≡ ending_blanks text → from ≡ end - k → k ≤ end → end ≤ length source → Makes source end fixes rest
     → Makes source from (trailing_fix end text ++ fixes) rest
 with_trailing source end k from text fixes rest is at le within h =
@@ -143,7 +143,7 @@ some_blanks at high [] is f = let bad : true ≡ false = f in absurd (cc)
 some_blanks at high (b ∷ bs) is f = omega (arith, is)
 
 -- from the line's start on
-with_blanks : (source : List ℕ) (at high : ℕ) (blanks : List ℕ) (fixes : List Proposal) (rest : List ℕ)
+with_blanks : (source : List ℕ) (at high : ℕ) (blanks : List ℕ) (fixes : List FixModel) (rest : List ℕ)
     → high ≡ at + length blanks → high ≤ length source → slice_range source at high ≡ blanks
     → Makes source high fixes rest → Makes source at (blanks_fix at blanks ++ fixes) (even_blanks blanks ++ rest)
 with_blanks source at high blanks fixes rest is within own h =
@@ -212,7 +212,7 @@ has_parts source at end le within =
           ∙ ap (λ j. drop m (take j later)) sum ∙ ap (drop m) (sym short);
     }
 
-line_makes : (source ending : List ℕ) (l : Line) (fixes : List Proposal) (rest : List ℕ) → l.start ≤ l.text_end
+line_makes : (source ending : List ℕ) (l : Line) (fixes : List FixModel) (rest : List ℕ) → l.start ≤ l.text_end
     → l.text_end ≤ l.end → l.end ≤ length source → (is_terminated l ≡ false → fixes ≡ [])
     → Makes source l.end fixes rest
     → Makes source l.start (line_fixes source ending l ++ fixes) (fixed_line source ending l ++ rest)
@@ -224,9 +224,9 @@ line_makes source ending l fixes rest begins ends within last h =
     let end : List ℕ = terminator_or ending source l in
     let p : HasParts source text l.start l.text_end =
     has_parts source l.start l.text_end begins (omega (arith, ends, within)) in
-    let bf : List Proposal = blanks_fix l.start blanks in
-    let tf : List Proposal = trailing_fix l.text_end text in
-    let ef : List Proposal = ending_fix ending l in
+    let bf : List FixModel = blanks_fix l.start blanks in
+    let tf : List FixModel = trailing_fix l.text_end text in
+    let ef : List FixModel = ending_fix ending l in
     let a : Makes source l.text_end (ef ++ fixes) (end ++ rest) =
     with_end source ending l fixes rest ends within last h in
     let b : Makes source p.before (tf ++ (ef ++ fixes)) (end ++ rest) =
@@ -263,7 +263,7 @@ lines_make source ending at [] cut last = record {
 }
 lines_make source ending at (l ∷ ls) cut last =
     let within : l.end ≤ length source = cut_le l.end ls (length source) cut.4 in
-    let fixes : List Proposal = flat_map (line_fixes source ending) ls in
+    let fixes : List FixModel = flat_map (line_fixes source ending) ls in
     let rest : List ℕ = flat_map (fixed_line source ending) ls in
     subst (λ k. Makes source k (line_fixes source ending l ++ fixes) (fixed_line source ending l ++ rest)) cut.0
     (line_makes source ending l fixes rest (omega (arith, cut.0, cut.1)) cut.2 within
@@ -285,5 +285,5 @@ fixed_applied source =
     applied_apart source (proposals_of source) (proposals_apart source) ∙ proposals_made source
 
 pub proposals_taken : (source : List ℕ) → taken (length source) [] (lists_in (proposals_of source))
-    ≡ map (λ (fix : Proposal). true) (proposals_of source)
+    ≡ map (λ (fix : FixModel). true) (proposals_of source)
 proposals_taken source = all_are_taken (length source) 0 [] (proposals_of source) tt (proposals_apart source)

@@ -10,11 +10,11 @@ use Rattle.std.proofs.lemmas.List.{take-append-drop}
 use Rattle.std.proofs.lemmas.List.Sums.{prefix_len_passes}
 use Rattle.bstr.specs.Utf8.{continues, or_replacement, pieces}
 use Rattle.bstr.proofs.lemmas.PieceLemmas.{StartsClean, pieces-append}
-use Rattle.miette_basics.proofs.Cases.{by_cases}
-use Rattle.miette_cells.specs.rules.Cells.{Character, cells_from, characters, hides_next, width_at}
-use Rattle.miette_cells.specs.rules.Widths.{width_of}
-use Rattle.miette_cells.proofs.Plaining.{ascii_decoded, one_column}
-use Rattle.miette_cells.proofs.Stepping.{character, characters_step, made}
+use Rattle.miette_lines.proofs.Cases.{by_cases}
+use Rattle.miette_columns.specs.rules.Cells.{Character, cells_from, characters, hides_next, width_at}
+use Rattle.miette_columns.specs.rules.Widths.{width_of}
+use Rattle.miette_columns.proofs.Plaining.{ascii_decoded, one_column}
+use Rattle.miette_columns.proofs.Stepping.{character, characters_step, made}
 use Rattle.miette_lint.specs.rules.Findings.{ending_blanks, is_blank, overlong, tab_after_space}
 use Rattle.miette_lint.specs.rules.Fixes.{even_blanks, fixed_line_text, spaces_at, spaces_from, trimmed}
 use Rattle.miette_lint.proofs.CleanTexts.{IsSpace, begun_whole, ending_is, ending_le, passes_taken, spaces_one}

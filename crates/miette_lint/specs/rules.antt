@@ -1,5 +1,5 @@
--- What users rely on, in the words of docs/RULES.md.
-pub mod Coded
+-- The definitions that users rely on, named as in docs/RULES.md.
+pub mod FindingWithFixes
 pub mod Findings
 pub mod Fixes
-pub mod Joint
+pub mod Combined

@@ -1,2 +1,2 @@
--- What values of the code stand for.
+-- Values of the code, as the rules represent them.
 pub mod Found

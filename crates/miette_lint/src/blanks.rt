@@ -1,4 +1,4 @@
-//! Blanks that begin and end a text.
+//! Blanks (spaces and tabs) at the beginning and the end of a text.
 
 ghost use Rattle.std.specs.Prelude.{◌≡◌, ◌+◌, ◌<◌, ◌≤◌, length, position, ◌==◌, take_while, IfSome};
 ghost use Rattle.miette_lint.specs.rules.Findings.{ending_blanks, is_blank, tab_after_space, tab_from};
@@ -10,7 +10,7 @@ fn is_blank(byte: u8) -> bool
     byte == b' ' || byte == b'\t'
 }
 
-/// How many blanks end a text.
+/// Number of blanks at the end of a text.
 pub(crate) fn ending_blanks(text: &[u8]) -> usize
     ensures count { result ≡ ending_blanks text.now }
     ensures within { result ≤ length text.now }
@@ -18,7 +18,7 @@ pub(crate) fn ending_blanks(text: &[u8]) -> usize
     text.iter().rev().take_while(|b| is_blank(**b)).count()
 }
 
-/// How many blanks begin a text.
+/// Number of blanks at the beginning of a text.
 pub(crate) fn beginning_count(text: &[u8]) -> usize
     ensures count { result ≡ length (take_while is_blank text.now) }
     ensures within { result ≤ length text.now }
@@ -26,7 +26,7 @@ pub(crate) fn beginning_count(text: &[u8]) -> usize
     text.iter().take_while(|b| is_blank(**b)).count()
 }
 
-/// The blanks that begin a text.
+/// The blanks at the beginning of a text.
 pub(crate) fn beginning_blanks(text: &[u8]) -> &[u8]
     ensures blanks { result.now ≡ take_while is_blank text.now }
     ensures within { length result.now ≤ length text.now }
@@ -34,7 +34,7 @@ pub(crate) fn beginning_blanks(text: &[u8]) -> &[u8]
     &text[..beginning_count(text)]
 }
 
-// Where a byte stands first.
+// Index of the first such byte.
 fn first_of(bytes: &[u8], byte: u8) -> Option<usize>
     ensures at { result ≡ position (λ b. b == byte) bytes.now }
     ensures within { IfSome result (λ at. at < length bytes.now) }
@@ -42,7 +42,7 @@ fn first_of(bytes: &[u8], byte: u8) -> Option<usize>
     bytes.iter().position(|b| *b == byte)
 }
 
-// The first tab from a space on.
+// Index of the first tab at or after `space`.
 fn tab_from(blanks: &[u8], space: usize) -> Option<usize>
     requires within { space < length blanks.now }
     ensures at { result ≡ tab_from blanks.now space }
@@ -54,7 +54,7 @@ fn tab_from(blanks: &[u8], space: usize) -> Option<usize>
     }
 }
 
-/// The first tab after a space.
+/// Index of the first tab after a space.
 pub(crate) fn tab_after_space(blanks: &[u8]) -> Option<usize>
     ensures at { result ≡ tab_after_space blanks.now }
     ensures within { IfSome result (λ at. at < length blanks.now) }

@@ -1,10 +1,11 @@
-//! What `lint` finds, each with its code and with what is proposed for it.
+//! Findings of `lint` with their codes and proposed fixes.
 
 ghost use Rattle.std.specs.Prelude.{◌≡◌, ◌+◌, ◌++◌, ◌<◌, ◌≤◌, ◌^◌, length, map, IfOk, OnOk};
-ghost use Rattle.miette_source_lines.specs.views.Walking.{line_of_text};
-ghost use Rattle.miette_lint.specs.rules.Coded.{coded, coded_ending, coded_findings, coded_overlong, coded_tab};
-ghost use Rattle.miette_lint.specs.rules.Coded.{coded_trailing, line_coded};
-ghost use Rattle.miette_lint.specs.rules.Findings.{cells_of};
+ghost use Rattle.miette_lines.specs.views.Walking.{line_of_text};
+ghost use Rattle.miette_lint.specs.rules.FindingWithFixes.{coded, coded_ending, coded_findings, coded_overlong};
+ghost use Rattle.miette_lint.specs.rules.FindingWithFixes.{coded_tab};
+ghost use Rattle.miette_lint.specs.rules.FindingWithFixes.{coded_trailing, line_coded};
+ghost use Rattle.miette_lint.specs.rules.Findings.{lint_cells_of};
 ghost use Rattle.miette_lint.specs.views.Found.{coded_of};
 
 use crate::blanks::beginning_blanks;
@@ -12,29 +13,29 @@ use crate::endings::ending_of;
 use crate::fixed::trimmed;
 use crate::{findings, proposals};
 use miette_fixes::fix::Fix;
+use miette_lines::lines::{LineOfText, Lines};
 use miette_protocol::protocol::LabeledSpan;
-use miette_source_lines::lines::{LineOfText, Lines};
 use std::alloc::{AllocError, Global};
 
-/// What is found at a place.
+/// A finding.
 #[derive(Drop)]
 pub struct CodedFinding {
-    /// Which kind it is: `trailing-blanks`, `tab-after-space`, `wide-line` or `final-terminator`.
+    /// The kind of the finding: `trailing-blanks`, `tab-after-space`, `wide-line` or `final-terminator`.
     pub code: &'static str,
-    /// The place, whose text says what is found.
+    /// The label, whose text describes the finding.
     pub label: LabeledSpan,
-    /// What is proposed for it: one fix, or none.
+    /// The proposed fix, if there is one.
     pub fixes: Vec<Fix>,
 }
 
-// What lines are held to: at most `width` columns, and a terminator.
+// The rules for lines: at most `width` columns, and this terminator.
 #[derive(Clone, Copy)]
 struct LineRules {
     width: usize,
     ending: &'static str,
 }
 
-// One more finding, where there is a label.
+// Appends a finding if there is a label.
 fn push_coded(
     found: &mut Vec<CodedFinding>,
     code: &'static str,
@@ -51,7 +52,7 @@ fn push_coded(
     Ok(())
 }
 
-// `trailing-blanks`, where blanks end the text, which ends there
+// `trailing-blanks`, if the text ends with blanks; `end` is the offset of its end
 fn push_trailing(
     found: &mut Vec<CodedFinding>,
     alloc: Global,
@@ -69,7 +70,7 @@ fn push_trailing(
     push_coded(found, "trailing-blanks", labels, fixes)
 }
 
-// `tab-after-space`, where the blanks that begin the text have one
+// `tab-after-space`, if the leading blanks have one
 fn push_tab(
     found: &mut Vec<CodedFinding>,
     alloc: Global,
@@ -87,7 +88,7 @@ fn push_tab(
     push_coded(found, "tab-after-space", labels, fixes)
 }
 
-// `wide-line`, where the text has more columns
+// `wide-line`, if the text has more columns than the limit
 fn push_overlong(
     found: &mut Vec<CodedFinding>,
     alloc: Global,
@@ -97,14 +98,14 @@ fn push_overlong(
 ) -> Result<(), AllocError>
     requires within { line.start + length text.now < 2 ^ 64 }
     ensures { OnOk result (map coded_of found.new.items ≡ map coded_of found.old.items
-        ++ coded_overlong width line.text_end (cells_of line.start text.now)) }
+        ++ coded_overlong width line.text_end (lint_cells_of line.start text.now)) }
 {
     let mut labels = Vec::new(alloc);
     findings::push_overlong(&mut labels, alloc, text, line, width)?;
     push_coded(found, "wide-line", labels, Vec::new(alloc))
 }
 
-// `final-terminator`, of a line that has none
+// `final-terminator`, if the line has no terminator
 fn push_unended(
     found: &mut Vec<CodedFinding>,
     alloc: Global,
@@ -114,7 +115,7 @@ fn push_unended(
 ) -> Result<(), AllocError>
     requires within { line.start + length text.now < 2 ^ 64 }
     ensures { OnOk result (map coded_of found.new.items ≡ map coded_of found.old.items
-        ++ coded_ending ending.now (line_of_text line) (cells_of line.start text.now)) }
+        ++ coded_ending ending.now (line_of_text line) (lint_cells_of line.start text.now)) }
 {
     let mut labels = Vec::new(alloc);
     findings::push_unended(&mut labels, alloc, text, line)?;
@@ -123,7 +124,7 @@ fn push_unended(
     push_coded(found, "final-terminator", labels, fixes)
 }
 
-// All that is found in a line.
+// Appends all findings of a line.
 fn push_line(
     found: &mut Vec<CodedFinding>,
     alloc: Global,
@@ -143,10 +144,10 @@ fn push_line(
     push_unended(found, alloc, text, line, rules.ending)
 }
 
-/// All that `lint` finds in a source, in the order of `findings`, each with its code and with what is proposed for it.
+/// Returns all findings in a source, in the order of `findings`, with their codes and proposed fixes.
 ///
 /// # Errors
-/// Where no memory is found.
+/// `AllocError` if allocation fails.
 pub fn coded_findings(
     alloc: Global,
     source: &[u8],

@@ -1,10 +1,10 @@
-//! The terminator that a source's lines have.
+//! The line terminator of a source.
 
 ghost use Rattle.std.specs.Prelude.{◌≡◌, ◌⊎◌, ◌∷◌, []};
-ghost use Rattle.miette_source_lines.specs.rules.Lines.{LF, CR};
+ghost use Rattle.miette_lines.specs.rules.Lines.{LF, CR};
 ghost use Rattle.miette_lint.specs.rules.Fixes.{ending_of};
 
-use miette_source_lines::lines::Lines;
+use miette_lines::lines::Lines;
 
 // A terminator as a text.
 fn ending_text(terminator: &[u8]) -> &'static str
@@ -18,7 +18,7 @@ fn ending_text(terminator: &[u8]) -> &'static str
     }
 }
 
-/// The terminator of a source's first line; LF where it has none.
+/// The terminator of the first line, or LF if it has none.
 pub(crate) fn ending_of(source: &[u8]) -> &'static str
     ensures { result.now ≡ ending_of source.now }
 {

@@ -1,27 +1,27 @@
-//! What `lint` finds in the lines of a source.
+//! Findings of `lint` in the lines of a source.
 
 ghost use Rattle.std.specs.Prelude.{◌≡◌, ◌+◌, ◌++◌, ◌<◌, ◌≤◌, ◌^◌, ◌∷◌, [], nat_lt, length, find, IfOk, OnOk};
 ghost use Rattle.std.specs.Prelude.{None as Nothing, string_bytes};
 ghost use Rattle.std.specs.List.{last_or};
 ghost use Rattle.std.specs.Option.{option_map};
-ghost use Rattle.miette_source_lines.specs.views.Walking.{line_of_text};
-ghost use Rattle.miette_cells.specs.views.Walking.{cell_of};
-ghost use Rattle.miette_label_rules.specs.rules.Groups.{AreAccepted};
-ghost use Rattle.miette_lint.specs.rules.Findings.{cells_of, finding, findings_of, line_findings, misplaced_tab};
+ghost use Rattle.miette_lines.specs.views.Walking.{line_of_text};
+ghost use Rattle.miette_columns.specs.views.Walking.{cell_of};
+ghost use Rattle.miette_labels.specs.rules.Groups.{AreInBounds};
+ghost use Rattle.miette_lint.specs.rules.Findings.{lint_cells_of, finding, findings_of, line_findings, misplaced_tab};
 ghost use Rattle.miette_lint.specs.rules.Findings.{missing_terminator, overlong, too_wide, trailing_space};
 
 use crate::blanks::{beginning_blanks, ending_blanks, tab_after_space};
 use itoa::Buffer;
-use miette_cells::cells::{Cell, Walk};
+use miette_columns::cells::{Cell, CellWalk};
+use miette_lines::lines::{LineOfText, Lines};
 use miette_protocol::protocol::LabeledSpan;
-use miette_source_lines::lines::{LineOfText, Lines};
 use std::alloc::{AllocError, Global};
 use std::ops::Range;
 
-// How many columns a tab goes on to a multiple of.
+// Distance of tab stops in columns.
 const TAB: usize = 4;
 
-/// The first cell of a text that goes past a width.
+/// The first character of a text that ends after column `width`.
 pub(crate) fn first_past(
     text: &[u8],
     start: usize,
@@ -29,9 +29,9 @@ pub(crate) fn first_past(
 ) -> Result<Option<Cell>, AllocError>
     requires { start + length text.now < 2 ^ 64 }
     ensures { IfOk result (λ cell. option_map cell_of cell
-        ≡ find (λ c. nat_lt width c.until) (cells_of start text.now)) }
+        ≡ find (λ c. nat_lt width c.until) (lint_cells_of start text.now)) }
 {
-    let mut walk = Walk::new(text, start, TAB);
+    let mut walk = CellWalk::new(text, start, TAB);
     while let Some(cell) = walk.next()? {
         if cell.until > width {
             return Ok(Some(cell));
@@ -40,12 +40,12 @@ pub(crate) fn first_past(
     Ok(None)
 }
 
-// The last cell of a text.
+// The last character of a text.
 fn last_cell(text: &[u8], start: usize) -> Result<Option<Cell>, AllocError>
     requires { start + length text.now < 2 ^ 64 }
-    ensures { IfOk result (λ cell. option_map cell_of cell ≡ last_or Nothing (cells_of start text.now)) }
+    ensures { IfOk result (λ cell. option_map cell_of cell ≡ last_or Nothing (lint_cells_of start text.now)) }
 {
-    let mut walk = Walk::new(text, start, TAB);
+    let mut walk = CellWalk::new(text, start, TAB);
     let mut last = None;
     while let Some(cell) = walk.next()? {
         last = Some(cell);
@@ -53,7 +53,7 @@ fn last_cell(text: &[u8], start: usize) -> Result<Option<Cell>, AllocError>
     Ok(last)
 }
 
-// One more label, of these bytes of the source.
+// Appends a label with this text over these bytes.
 fn push_finding(
     found: &mut Vec<LabeledSpan>,
     text: String,
@@ -78,7 +78,7 @@ fn push_words(
     push_finding(found, text, at)
 }
 
-/// `trailing blanks`, where blanks end the text, which ends there
+/// `trailing blanks`, if the text ends with blanks; `end` is the offset of its end
 pub(crate) fn push_trailing(
     found: &mut Vec<LabeledSpan>,
     alloc: Global,
@@ -95,7 +95,7 @@ pub(crate) fn push_trailing(
     push_words(found, alloc, "trailing blanks", end - blanks..end)
 }
 
-/// `tab after space`, where the blanks that begin the text have one
+/// `tab after space`, if the leading blanks have one
 pub(crate) fn push_tab(
     found: &mut Vec<LabeledSpan>,
     alloc: Global,
@@ -111,7 +111,7 @@ pub(crate) fn push_tab(
     }
 }
 
-// The text of the label for lines that are wider than this.
+// The label text for lines that are too wide.
 fn wide_text(alloc: Global, width: usize) -> Result<String, AllocError>
     ensures { IfOk result (λ text. string_bytes text ≡ too_wide width) }
 {
@@ -121,7 +121,7 @@ fn wide_text(alloc: Global, width: usize) -> Result<String, AllocError>
     Ok(text)
 }
 
-/// `wider than 80 columns`, from the first character that goes past the width to the end of the line's text
+/// `wider than 80 columns`, from the first character beyond the limit to the end of the text
 pub(crate) fn push_overlong(
     found: &mut Vec<LabeledSpan>,
     alloc: Global,
@@ -131,7 +131,7 @@ pub(crate) fn push_overlong(
 ) -> Result<(), AllocError>
     requires within { line.start + length text.now < 2 ^ 64 }
     ensures { OnOk result (found.new.items ≡ found.old.items
-        ++ overlong width line.text_end (cells_of line.start text.now)) }
+        ++ overlong width line.text_end (lint_cells_of line.start text.now)) }
 {
     match first_past(text, line.start, width)? {
         Some(cell) => {
@@ -142,7 +142,7 @@ pub(crate) fn push_overlong(
     }
 }
 
-/// `no final terminator`, on the last character of a line that has none
+/// `no final terminator`, on the last character of a line without one
 pub(crate) fn push_unended(
     found: &mut Vec<LabeledSpan>,
     alloc: Global,
@@ -151,7 +151,7 @@ pub(crate) fn push_unended(
 ) -> Result<(), AllocError>
     requires within { line.start + length text.now < 2 ^ 64 }
     ensures { OnOk result (found.new.items ≡ found.old.items
-        ++ missing_terminator (line_of_text line) (cells_of line.start text.now)) }
+        ++ missing_terminator (line_of_text line) (lint_cells_of line.start text.now)) }
 {
     if line.text_end < line.end {
         return Ok(());
@@ -162,7 +162,7 @@ pub(crate) fn push_unended(
     }
 }
 
-// All that is found in a line.
+// Appends all findings of a line.
 fn push_line(
     found: &mut Vec<LabeledSpan>,
     alloc: Global,
@@ -181,14 +181,14 @@ fn push_line(
     push_unended(found, alloc, text, line)
 }
 
-/// All that `lint` finds in a source, in order: a label for each finding.
+/// Returns a label for each finding in a source, in order.
 ///
 /// # Errors
-/// Where no memory is found.
+/// `AllocError` if allocation fails.
 pub fn findings(alloc: Global, source: &[u8], width: usize) -> Result<Vec<LabeledSpan>, AllocError>
     ensures found { IfOk result (λ found. found.items ≡ findings_of source.now width) }
-    // Each lies in the source: no handler refuses it there.
-    ensures accepted { IfOk result (λ found. AreAccepted source.now found.items) }
+    // Each label is in bounds of the source, so no handler refuses it.
+    ensures accepted { IfOk result (λ found. AreInBounds source.now found.items) }
 {
     let mut found = Vec::new(alloc);
     for line in Lines::new(source, 0) {

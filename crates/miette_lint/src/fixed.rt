@@ -1,24 +1,24 @@
-//! A source after all that `lint` proposes for it.
+//! A source with all proposed fixes applied.
 
 ghost use Rattle.std.specs.Prelude.{◌≡◌, ◌≤◌, ◌<◌, ◌++◌, length, map, IfOk, OnOk};
-ghost use Rattle.miette_source_lines.specs.views.Walking.{line_of_text};
+ghost use Rattle.miette_lines.specs.views.Walking.{line_of_text};
 ghost use Rattle.miette_fixes.specs.rules.ApplyingAll.{all_applied};
 ghost use Rattle.miette_lint.specs.rules.Fixes.{evened, fixed_line, fixed_text, proposals_of, trimmed};
 
 use crate::blanks::{beginning_count, ending_blanks, tab_after_space};
 use crate::endings::ending_of;
 use crate::spaces::spaces_for;
-use miette_source_lines::lines::{LineOfText, Lines};
+use miette_lines::lines::{LineOfText, Lines};
 use std::alloc::{AllocError, Global};
 
-/// A text without the blanks that end it.
+/// A text without its trailing blanks.
 pub(crate) fn trimmed(text: &[u8]) -> &[u8]
     ensures { result.now ≡ trimmed text.now }
 {
     &text[..text.len() - ending_blanks(text)]
 }
 
-// One more text, with even blanks at its beginning.
+// Appends a text with its leading blanks evened.
 fn push_evened(fixed: &mut Vec<u8>, alloc: Global, text: &[u8]) -> Result<(), AllocError>
     ensures { OnOk result (fixed.new.items ≡ fixed.old.items ++ evened text.now) }
 {
@@ -34,7 +34,7 @@ fn push_evened(fixed: &mut Vec<u8>, alloc: Global, text: &[u8]) -> Result<(), Al
     Ok(())
 }
 
-// One more line.
+// Appends a line.
 fn push_line(
     fixed: &mut Vec<u8>,
     alloc: Global,
@@ -57,14 +57,14 @@ fn push_line(
     Ok(())
 }
 
-/// A source after all that is proposed for it. Nothing but lines that are too wide is found in it, and it stays as it
-/// is when this is done again: `fixed_laws`.
+/// Returns a source with all proposed fixes applied. Its only findings are lines that are too wide. Fixing it again
+/// changes nothing: see `lint_fixed_text_laws`.
 ///
 /// # Errors
-/// Where no memory is found.
+/// `AllocError` if allocation fails.
 pub fn fixed(alloc: Global, source: &[u8]) -> Result<Vec<u8>, AllocError>
     ensures text { IfOk result (λ text. text.items ≡ fixed_text source.now) }
-    // It is what applying all proposals gives.
+    // This is the result of applying all proposed fixes.
     ensures applied { IfOk result (λ text. text.items
         ≡ all_applied source.now (map (λ fix. fix.edits) (proposals_of source.now))) }
 {

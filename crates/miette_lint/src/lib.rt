@@ -1,13 +1,13 @@
-//! What a linter of lines finds in a source, what it proposes, and the source after that.
+//! A linter of lines: its findings, its proposed fixes, and the fixed text.
 #![tactic(auto)]
 
 mod blanks;
 pub mod coded;
+pub mod combined;
 mod endings;
 pub mod findings;
 pub mod fixed;
-pub mod joint;
 pub mod laws;
-mod left;
 pub mod proposals;
+mod remaining;
 mod spaces;

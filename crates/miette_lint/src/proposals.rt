@@ -1,7 +1,7 @@
-//! What `lint` proposes for what it finds.
+//! Proposed fixes of `lint`.
 
 ghost use Rattle.std.specs.Prelude.{◌≡◌, ◌≤◌, ◌<◌, ◌+◌, ◌-◌, ◌++◌, ◌∷◌, ◌^◌, [], length, string_bytes, IfOk, OnOk};
-ghost use Rattle.miette_source_lines.specs.views.Walking.{line_of_text};
+ghost use Rattle.miette_lines.specs.views.Walking.{line_of_text};
 ghost use Rattle.miette_lint.specs.rules.Fixes.{blanks_fix, ending_fix, line_fixes, proposal, proposals_of};
 ghost use Rattle.miette_lint.specs.rules.Fixes.{trailing_fix};
 
@@ -10,11 +10,11 @@ use crate::endings::ending_of;
 use crate::fixed::trimmed;
 use crate::spaces::spaces_for;
 use miette_fixes::fix::{Applicability, Edit, Fix};
-use miette_source_lines::lines::{LineOfText, Lines};
+use miette_lines::lines::{LineOfText, Lines};
 use std::alloc::{AllocError, Global};
 use std::ops::Range;
 
-// One more fix, which has a text in place of bytes of the source.
+// Appends a fix that replaces a range with a text.
 fn push_fix(
     fixes: &mut Vec<Fix>,
     alloc: Global,
@@ -33,7 +33,7 @@ fn push_fix(
     Ok(())
 }
 
-/// Even blanks, where those that begin the text have a tab after a space.
+/// Evens the leading blanks, if a tab follows a space.
 pub(crate) fn push_blanks(
     fixes: &mut Vec<Fix>,
     alloc: Global,
@@ -58,7 +58,7 @@ pub(crate) fn push_blanks(
     }
 }
 
-/// No blanks at the end of the text, which ends there.
+/// Deletes the trailing blanks; `end` is the offset of the text's end.
 pub(crate) fn push_trailing(
     fixes: &mut Vec<Fix>,
     alloc: Global,
@@ -81,7 +81,7 @@ pub(crate) fn push_trailing(
     )
 }
 
-/// A terminator, where the line has none.
+/// Adds a terminator, if the line has none.
 pub(crate) fn push_ending(
     fixes: &mut Vec<Fix>,
     alloc: Global,
@@ -97,7 +97,7 @@ pub(crate) fn push_ending(
     push_fix(fixes, alloc, "end the last line", line.end..line.end, text)
 }
 
-// All that is proposed for a line.
+// Appends all fixes for a line.
 fn push_line(
     fixes: &mut Vec<Fix>,
     alloc: Global,
@@ -116,11 +116,11 @@ fn push_line(
     push_ending(fixes, alloc, line, ending)
 }
 
-/// All that `lint` proposes for a source, by offset: fixes of one edit, which may be applied without a look. None
-/// conflicts with another one, so that all are taken together.
+/// Returns all proposed fixes for a source, by offset. Each has one edit and is machine-applicable. No two fixes
+/// conflict, so all can be applied together.
 ///
 /// # Errors
-/// Where no memory is found.
+/// `AllocError` if allocation fails.
 pub fn proposals(alloc: Global, source: &[u8]) -> Result<Vec<Fix>, AllocError>
     ensures { IfOk result (λ fixes. fixes.items ≡ proposals_of source.now) }
 {

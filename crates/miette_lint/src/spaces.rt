@@ -1,14 +1,14 @@
-//! Blanks as spaces.
+//! Converts blanks to spaces.
 
 ghost use Rattle.std.specs.Prelude.{◌≡◌, IfOk, string_bytes};
 ghost use Rattle.miette_lint.specs.rules.Fixes.{spaces_at, spaces_from};
 
 use std::alloc::{AllocError, Global};
 
-// How many columns a tab goes on to a multiple of.
+// Distance of tab stops in columns.
 const TAB: usize = 4;
 
-// A blank that stands at a column, as spaces.
+// A blank at a column, as spaces.
 fn spaces_at(column: usize, blank: u8) -> &'static str
     ensures { result.now ≡ spaces_at column blank }
 {
@@ -23,7 +23,7 @@ fn spaces_at(column: usize, blank: u8) -> &'static str
     }
 }
 
-/// Blanks that begin a text, as spaces up to the same column.
+/// Leading blanks as spaces up to the same column.
 pub(crate) fn spaces_for(alloc: Global, blanks: &[u8]) -> Result<String, AllocError>
     ensures { IfOk result (λ text. string_bytes text ≡ spaces_from 0 blanks.now) }
 {

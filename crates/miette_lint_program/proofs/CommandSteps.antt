@@ -5,17 +5,17 @@ use Rattle.std.proofs.Common.{append-nil}
 use Rattle.std.proofs.Math.Seq.{drop-cons}
 use Rattle.std.proofs.lemmas.Bool.{and_from, or_right}
 use Rattle.std.proofs.lemmas.List.{drop_all}
-use Rattle.miette_basics.specs.rules.Lists.{is_nil}
+use Rattle.miette_lines.specs.rules.Lists.{is_nil}
 use Rattle.miette_protocol.specs.views.Meaning.{Label}
 use Rattle.miette_protocol.specs.rules.Reading.{named_source, plain_source}
 use Rattle.miette_brief.specs.rules.Report as rows
 use Rattle.miette_labels.proofs.RefusedLabel.{accepted_is}
-use Rattle.miette_label_rules.specs.rules.Groups.{AreAccepted}
+use Rattle.miette_labels.specs.rules.Groups.{AreInBounds}
 use Rattle.miette_lint.proofs.AcceptedFindings.{findings_accepted}
-use Rattle.miette_lint.specs.rules.Coded.{Coded, coded_findings}
+use Rattle.miette_lint.specs.rules.FindingWithFixes.{FindingWithFixes, coded_findings}
 use Rattle.miette_lint.specs.rules.Findings.{findings_of}
-use Rattle.miette_protocol.specs.rules.Reading.{Source, is_accepted}
-use Rattle.miette_tree.specs.rules.Reads.{AllAlwaysRead, AlwaysReads, accepts, holds_of_all}
+use Rattle.miette_protocol.specs.rules.Reading.{Source, is_in_bounds}
+use Rattle.miette_tree.specs.rules.Reads.{AllAlwaysRead, AlwaysReads, accepts, reports_pass}
 use Rattle.miette_tree.specs.rules.Tree.{Tree, Trees, trees}
 use Rattle.miette_lint_program.specs.rules.Logs.{finding_tree, finding_trees}
 use Rattle.miette_lint_program.specs.views.LintReports.{commands_of, commands_settings, label_of}
@@ -55,48 +55,48 @@ module _ {R : Type 0} (value : R → Tree) (rs : List R) (i : ℕ) where
 -- ---- no label of a finding is refused
 
 module _ (s : Source) (reads : s.always_reads ≡ true) where
-  one_accepted : (label : Label) → is_accepted s.bytes label.span ≡ true
+  one_accepted : (label : Label) → is_in_bounds s.bytes label.span ≡ true
       → accepts (Some s) (record label { text = None } ∷ []) ≡ true
   one_accepted label h =
       and_from _ _ (and_from _ _ h refl) (or_right (is_nil (record label { text = None } ∷ [])) s.always_reads reads)
 
-  related_accepted : (its : List Coded) → AreAccepted s.bytes (map label_of its)
-      → holds_of_all accepts (Some s) (trees (map finding_tree its)) ≡ true
+  related_accepted : (its : List FindingWithFixes) → AreInBounds s.bytes (map label_of its)
+      → reports_pass accepts (Some s) (trees (map finding_tree its)) ≡ true
   related_accepted [] h = refl
   related_accepted (it ∷ its) h =
       and_from _ _ (and_from _ _ (and_from _ _ (one_accepted it.label (accepted_is s.bytes it.label.span h.0)) refl)
       refl) (related_accepted its h.1)
 
-trees_accepted : (name input : List ℕ) (its : List Coded) → AreAccepted input (map label_of its)
-    → holds_of_all accepts None (finding_trees name input its) ≡ true
+trees_accepted : (name input : List ℕ) (its : List FindingWithFixes) → AreInBounds input (map label_of its)
+    → reports_pass accepts None (finding_trees name input its) ≡ true
 trees_accepted name input [] h = refl
 trees_accepted name input (it ∷ its) h =
     let s : Source = named_source (plain_source input) name None in
     and_from _ _ (and_from _ _ (and_from _ _ (one_accepted s refl it.label (accepted_is input it.label.span h.0))
     (related_accepted s refl its h.1)) refl) refl
 
-pub never_refused : (name input : List ℕ) (its : List Coded) (ts : Trees) → ts ≡ finding_trees name input its
-    → AreAccepted input (map label_of its) → holds_of_all accepts None ts ≡ false → ⊥
+pub never_refused : (name input : List ℕ) (its : List FindingWithFixes) (ts : Trees) → ts ≡ finding_trees name input its
+    → AreInBounds input (map label_of its) → reports_pass accepts None ts ≡ false → ⊥
 never_refused name input its ts e h refused =
     let no : true ≡ false =
-    sym (ap (holds_of_all accepts None) e ∙ trees_accepted name input its h) ∙ refused in cc
+    sym (ap (reports_pass accepts None) e ∙ trees_accepted name input its h) ∙ refused in cc
 
 -- ---- what is told
 
-pub commands_told : (name input : List ℕ) (its : List Coded) (ts : Trees) (old new : List ℕ)
+pub commands_told : (name input : List ℕ) (its : List FindingWithFixes) (ts : Trees) (old new : List ℕ)
     → ts ≡ finding_trees name input its → old ≡ [] → new ≡ old ++ commands_of ts
     → new ≡ commands_of (finding_trees name input its)
 commands_told name input its ts old new e none put = put ∙ ap₂ (λ o l. o ++ commands_of l) none e
 
-pub all_told : (name : List ℕ) (width : ℕ) (input bytes text : List ℕ) (its : List Coded)
+pub all_told : (name : List ℕ) (width : ℕ) (input bytes text : List ℕ) (its : List FindingWithFixes)
     → its ≡ coded_findings bytes width → bytes ≡ input → text ≡ commands_of (finding_trees name input its)
     → text ≡ commands_of (finding_trees name input (coded_findings input width))
 all_told name width input bytes text its found same told =
     told ∙ ap (λ l. commands_of (finding_trees name input l)) (found ∙ ap (λ l. coded_findings l width) same)
 
-pub labels_accepted : (input bytes : List ℕ) (width : ℕ) (its : List Coded)
-    → ((s : List ℕ) (w : ℕ) → map (λ (it : Coded). it.label) (coded_findings s w) ≡ findings_of s w)
-    → its ≡ coded_findings bytes width → bytes ≡ input → AreAccepted input (map label_of its)
+pub labels_accepted : (input bytes : List ℕ) (width : ℕ) (its : List FindingWithFixes)
+    → ((s : List ℕ) (w : ℕ) → map (λ (it : FindingWithFixes). it.label) (coded_findings s w) ≡ findings_of s w)
+    → its ≡ coded_findings bytes width → bytes ≡ input → AreInBounds input (map label_of its)
 labels_accepted input bytes width its labels found same =
     findings_accepted input width (map label_of its)
     (ap (map label_of) found ∙ labels bytes width ∙ ap (λ l. findings_of l width) same)

@@ -1,8 +1,8 @@
 pub mod AcceptedFindings
 pub mod CommandSteps
-pub mod LintDiffSteps
-pub mod LintFixSteps
+pub mod DiffSteps
 pub mod LintServerSteps
 pub mod LintSteps
 pub mod LogSteps
+pub mod RequestSteps
 pub mod RowSteps

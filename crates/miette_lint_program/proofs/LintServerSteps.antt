@@ -1,30 +1,19 @@
 -- Steps of `lint --lsp`.
-use Rattle.std.proofs.Common.{◌≡◌, ℕ, ◌<◌, ◌⊎◌, ◌↔◌, inl, inr, List, [], ◌∷◌, Bool, IsTrue, Option, Some, None, IfSome}
+use Rattle.std.proofs.Common.{◌≡◌, ℕ, ◌<◌, ◌⊎◌, ◌↔◌, inl, inr, List, [], Bool, IsTrue, Option, Some, None, IfSome}
 use Rattle.std.proofs.Common.{Result, Ok, Err, OnErr, ◌∙◌, ap, arith, subst, sym}
-use Rattle.std.specs.Prelude.{◌==◌, codes, if◌then◌else◌}
+use Rattle.std.specs.Prelude.{◌==◌, if◌then◌else◌}
 use Rattle.std.specs.Io.Buffered.{reader_buffer, reader_capacity, reader_inner, reader_remaining}
 use Rattle.std.specs.Io.KnownBytes.{prepend_known}
 use Rattle.std.specs.declared.alloc.Global.{Global}
 use Rattle.std.specs.declared.io.buffered.BufReader.{BufReader}
 use Rattle.std.proofs.KnownBytes.{prepend_known-nil}
 use Rattle.miette_language_server.specs.rules.Serving.{served}
-use Rattle.miette_devices.specs.declared.fault.Ending.{Ending}
-use Rattle.miette_devices.specs.declared.fault.Fault.{Fault}
-use Rattle.miette_devices.specs.declared.fault.Fault.TheVariants.{Memory, Read, Write}
+use Rattle.miette_devices.specs.declared.fault.ProgramExit.{ProgramExit}
+use Rattle.miette_devices.specs.declared.fault.ProgramError.{ProgramError}
+use Rattle.miette_devices.specs.declared.fault.ProgramError.TheVariants.{Memory, Read, Write}
 use Rattle.miette_devices.specs.declared.fault.Program.TheVariants.{Lint}
-use Rattle.miette_lint_program.specs.rules.Words.{AreServerWords}
-use Rattle.miette_devices.specs.rules.Words.{IsReadAs}
 use Rattle.miette_devices.specs.views.Endings.{IsFailure}
 use Rattle.miette_lint_program.specs.views.Service.{BeginsService, IsServerFault, IsService}
-
-pub server_words : (words : List (List ℕ)) (first width : List ℕ) (r : Option ℕ) → words ≡ first ∷ width ∷ []
-    → first ≡ codes "--lsp" → IsReadAs width r → IfSome r (λ n. AreServerWords words n)
-server_words words first width None are is h = tt
-server_words words first width (Some n) are is h = record {
-  width_word = width;
-  are = are ∙ ap (λ f. f ∷ width ∷ []) is;
-  width_is = h;
-}
 
 -- an empty buffer in front of a reader holds nothing back
 pub nothing_ahead : {R : Type 0} (remaining : R → Option (List ℕ)) (r : BufReader R Global) (reader : R)
@@ -42,10 +31,11 @@ service_status width None old new status h = tt
 service_status width (Some bytes) old new status h = h.1
 
 -- a status below 2 is that of a service
-pub ended_status : (width : ℕ) (read same old new was is : Option (List ℕ)) (ending : Ending) (ready quiet : Type 0)
+pub ended_status : (width : ℕ) (read same old new was is : Option (List ℕ)) (ending : ProgramExit)
+    (ready quiet : Type 0)
     (read_failed write_failed : Bool) → same ≡ read
     → (IsService width same old new ending.status × ready × quiet)
-    ⊎ ((fault : Fault) × IsFailure Lint ending was is fault × IsServerFault read_failed write_failed fault
+    ⊎ ((fault : ProgramError) × IsFailure Lint ending was is fault × IsServerFault read_failed write_failed fault
     × BeginsService width same old new)
     → ending.status < 2 → IfSome read (λ bytes. ending.status ≡ (served width bytes).status)
 ended_status width read same old new was is ending ready quiet read_failed write_failed e (inl h) lt =
@@ -56,10 +46,10 @@ ended_status width read same old new was is ending ready quiet read_failed write
 
 -- ---- a server's fault
 
-same_fault : {T : Type 0} (r : Result T Fault) (f g : Fault) → r ≡ Err f → r ≡ Err g → f ≡ g
+same_fault : {T : Type 0} (r : Result T ProgramError) (f g : ProgramError) → r ≡ Err f → r ≡ Err g → f ≡ g
 same_fault r f g is e = let k : Err f ≡ Err g = sym is ∙ e in cc
 
-other_faults : {T : Type 0} (r : Result T Fault) (f : Fault) → r ≡ Err f
+other_faults : {T : Type 0} (r : Result T ProgramError) (f : ProgramError) → r ≡ Err f
     → OnErr r ((r ≡ Err Memory) ⊎ (r ≡ Err Read) ⊎ (r ≡ Err Write)) → (f ≡ Memory) ⊎ (f ≡ Read) ⊎ (f ≡ Write)
 other_faults (Ok x) f is h = cc
 other_faults (Err e) f is h =
@@ -69,7 +59,7 @@ other_faults (Err e) f is h =
       | inr (inr p) ↦ inr (inr (same_fault (Err e) f Write is p))
     ]
 
-pub server_fault : {T : Type 0} (read write : Bool) (r : Result T Fault) (f : Fault) → r ≡ Err f
+pub server_fault : {T : Type 0} (read write : Bool) (r : Result T ProgramError) (f : ProgramError) → r ≡ Err f
     → (IsTrue read ↔ (r ≡ Err Read)) → (IsTrue write ↔ (r ≡ Err Write))
     → OnErr r ((r ≡ Err Memory) ⊎ (r ≡ Err Read) ⊎ (r ≡ Err Write)) → IsServerFault read write f
 server_fault read write r f is reads writes others = record {

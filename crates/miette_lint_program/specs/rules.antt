@@ -1,3 +1,3 @@
--- What users rely on, in the words of docs/RULES.md.
+-- The definitions that users rely on, named as in docs/RULES.md.
 pub mod Words
 pub mod Logs

@@ -1,12 +1,9 @@
-//! The work of `lint`: what is found in the lines of a source, drawn, listed, logged, mended, and told to an editor.
+//! The work of `lint`: graphical and brief reports of its findings, logs, fixed texts, and the language server.
 #![tactic(auto)]
 
 pub mod lint;
-pub mod lint_diff;
-pub mod lint_fix;
 mod lint_reports;
-pub mod lint_sarif;
+mod lint_request;
 pub mod lint_server;
-mod lint_words;
 
 pub use miette_devices::{device, fault, whole, words};

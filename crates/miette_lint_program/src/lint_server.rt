@@ -1,51 +1,38 @@
 //! `lint --lsp`: what `lint` finds, told to an editor as it writes.
 
-ghost use Rattle.std.specs.Prelude.{◌≡◌, ◌⊎◌, ◌<◌, IfOk, IfSome, IsNone, OnErr, map, string_bytes};
+ghost use Rattle.std.specs.Prelude.{◌≡◌, ◌⊎◌, ◌<◌, IfOk, IfSome, OnErr};
 ghost use Rattle.std.specs.Io.Buffered.{reader_remaining};
 ghost use Rattle.miette_language_server.specs.rules.Serving.{served};
 ghost use Rattle.miette_language_server.specs.views.ClientState.{IsOpen};
-ghost use Rattle.miette_lint_program.specs.rules.Words.{AreServerWords, IsNoServerCall};
 ghost use Rattle.miette_devices.specs.views.Endings.{IsFailure};
 ghost use Rattle.miette_lint_program.specs.views.Service.{BeginsService, IsServerFault, IsService};
 
-use miette_devices::fault::{Ending, Fault, Program};
-use miette_devices::words::number;
+use miette_devices::fault::{Program, ProgramError, ProgramExit};
 use miette_language_server::client::Client;
 use miette_language_server::serve::serve;
 use std::alloc::Global;
 use std::io::{BufReader, Read, Write};
 
-/// What the words after the program's name ask for where the first of two is `--lsp`: how many columns a line may have.
-/// Nothing, where they are others, or where the last is no number.
-pub fn serving(words: &[String]) -> Option<usize>
-    ensures some { IfSome result (λ width. AreServerWords (map string_bytes words.now) width) }
-    ensures none { IsNone result → IsNoServerCall (map string_bytes words.now) }
-{
-    match words {
-        [word, width] if word.as_str() == "--lsp" => number(width.as_str()),
-        _ => None,
-    }
-}
-
 // A buffer in front of a reader: nothing of it is read yet.
-fn buffered<R: Read + Drop>(alloc: Global, reader: R) -> Result<BufReader<R>, Fault>
+fn buffered<R: Read + Drop>(alloc: Global, reader: R) -> Result<BufReader<R>, ProgramError>
     ensures whole { IfOk result (λ it. reader_remaining R.remaining it ≡ R.remaining reader) }
-    ensures others { OnErr result (result ≡ Err Fault.Memory) }
+    ensures others { OnErr result (result ≡ Err ProgramError.Memory) }
 {
     match BufReader::new(alloc, reader) {
         Ok(made) => Ok(made),
-        Err(_) => Err(Fault::Memory),
+        Err(_) => Err(ProgramError::Memory),
     }
 }
 
-/// `serve_with` over a client and a stream of faults of one's own. Beside the status, whether `faults` took the row
+/// `lint_serve_with` over a client and a stream of faults of one's own. Beside the status, whether `faults` took the
+/// row
 /// that says why the server failed.
 pub fn serve_on<R: Read, W: Write, F: Write>(
     alloc: Global,
     width: usize,
     client: &mut Client<R, W>,
     faults: &mut F,
-) -> Ending
+) -> ProgramExit
     requires { IsOpen client.old }
     ensures status { result.status < 3 }
     // The client was sent what a language server writes for all that was read, and nothing else, neither stream failed,
@@ -53,13 +40,13 @@ pub fn serve_on<R: Read, W: Write, F: Write>(
     // beginning of that, and `faults` is handed the row that says so.
     ensures service { (IsService width (R.remaining client.old.reader.inner) (W.contents client.old.writer.inner)
         (W.contents client.new.writer.inner) result.status × IsOpen client.new × (faults.new ≡ faults.old))
-        ⊎ ((fault : Fault) × IsFailure Program.Lint result (F.contents faults.old) (F.contents faults.new) fault
+        ⊎ ((fault : ProgramError) × IsFailure Program.Lint result (F.contents faults.old) (F.contents faults.new) fault
         × IsServerFault client.new.reader.failed client.new.writer.failed fault
         × BeginsService width (R.remaining client.old.reader.inner) (W.contents client.old.writer.inner)
         (W.contents client.new.writer.inner)) }
 {
     match serve(alloc, width, client) {
-        Ok(status) => Ending {
+        Ok(status) => ProgramExit {
             status,
             told: Ok(()),
         },
@@ -72,7 +59,7 @@ pub fn serve_on<R: Read, W: Write, F: Write>(
 /// The status is 0 where the editor ends the server after `shutdown`, and 1 where it ends it before; 2 where the frames
 /// end or one is broken, and where memory, the reader or the writer failed: then the fault's text and a line feed go to
 /// `faults`, whose own faults are ignored.
-pub fn serve_with<R, W, F>(alloc: Global, width: usize, reader: R, writer: W, faults: F) -> u8
+pub fn lint_serve_with<R, W, F>(alloc: Global, width: usize, reader: R, writer: W, faults: F) -> u8
 where
     R: Read + Drop,
     W: Write + Drop,

@@ -12,9 +12,9 @@ use Rattle.indexmap.specs.IndexSet.{insert_key}
 use Rattle.miette_json.specs.rules.Json.{Json}
 use Rattle.miette_sarif.specs.rules.Findings.{Finding}
 use Rattle.miette_lsp.specs.rules.Diagnostics.{diagnostic}
-use Rattle.miette_lsp.specs.rules.Documents.{diagnostics_at, document, documents_in, is_uri, uri_at, uris_after}
-use Rattle.miette_lsp.specs.rules.Documents.{uris_in, with_uri}
-use Rattle.miette_lsp.specs.steps.Putting.{AreLists, AreSomeLists, IsPut, Lists, documents_of, opened}
+use Rattle.miette_lsp.specs.rules.Documents.{diagnostics_at, document, documents_in, is_uri, finding_uri, uris_after}
+use Rattle.miette_lsp.specs.rules.Documents.{finding_uris, with_uri}
+use Rattle.miette_lsp.specs.steps.Putting.{AreLists, AreSomeLists, IsPut, Lists, documents_of, with_new_list}
 
 -- ---- equal texts
 
@@ -122,7 +122,7 @@ module _ (tool untitled : List ℕ) where
 
   -- what a finding adds to the list of a uri
   abbrev one : Finding → List ℕ → List Json
-  one f uri = cond (is_uri uri (uri_at untitled f)) (diagnostic tool untitled f ∷ []) []
+  one f uri = cond (is_uri uri (finding_uri untitled f)) (diagnostic tool untitled f ∷ []) []
 
   joined : (d : Json) (b : Bool) (xs ys : List Json) → cond b (d ∷ (xs ++ ys)) (xs ++ ys) ≡ cond b (d ∷ xs) xs ++ ys
   joined d true xs ys = refl
@@ -131,20 +131,20 @@ module _ (tool untitled : List ℕ) where
   at_end : (fs : List Finding) (f : Finding) (uri : List ℕ) → at_uri (fs ++ f ∷ []) uri ≡ at_uri fs uri ++ one f uri
   at_end [] f uri = refl
   at_end (g ∷ fs) f uri =
-      let is = is_uri uri (uri_at untitled g) in
+      let is = is_uri uri (finding_uri untitled g) in
       let d = diagnostic tool untitled g in
       ap (λ l. cond is (d ∷ l) l) (at_end fs f uri) ∙ joined d is (at_uri fs uri) (one f uri)
 
   uris_end : (before : List (List ℕ)) (fs : List Finding) (f : Finding) → uris_after untitled before (fs ++ f ∷ [])
-      ≡ with_uri (uri_at untitled f) (uris_after untitled before fs)
+      ≡ with_uri (finding_uri untitled f) (uris_after untitled before fs)
   uris_end before [] f = refl
-  uris_end before (g ∷ fs) f = uris_end (with_uri (uri_at untitled g) before) fs f
+  uris_end before (g ∷ fs) f = uris_end (with_uri (finding_uri untitled g) before) fs f
 
   distinct_after : (before : List (List ℕ)) (fs : List Finding) → Distinct before
       → Distinct (uris_after untitled before fs)
   distinct_after before [] d = d
   distinct_after before (f ∷ fs) d =
-      distinct_after (with_uri (uri_at untitled f) before) fs (distinct_with (uri_at untitled f) before d)
+      distinct_after (with_uri (finding_uri untitled f) before) fs (distinct_with (finding_uri untitled f) before d)
 
   -- a uri that isn't there was in no finding
   apart : (uri k : List ℕ) (before : List (List ℕ)) (b : Bool) → list_any (bytes_eq k) before ≡ b
@@ -171,7 +171,7 @@ module _ (tool untitled : List ℕ) where
       → (list_any (bytes_eq uri) before ≡ false) × (at_uri fs uri ≡ [])
   fresh uri before [] e = (e, refl)
   fresh uri before (f ∷ fs) e =
-      let o = uri_at untitled f in
+      let o = finding_uri untitled f in
       let d = diagnostic tool untitled f in
       let later = fresh uri (with_uri o before) fs e in
       let here = parted uri o before later.0 in
@@ -186,15 +186,15 @@ module _ (tool untitled : List ℕ) where
 
   -- a finding more is put
   pub one_put : (fs : List Finding) (f : Finding) (k : List ℕ) (old new : Lists) → AreLists tool untitled fs old
-      → uri_at untitled f ≡ Some k → IsPut k (diagnostic tool untitled f) old new
+      → finding_uri untitled f ≡ Some k → IsPut k (diagnostic tool untitled f) old new
       → AreLists tool untitled (fs ++ f ∷ []) new
   one_put fs f k old new are is put =
-      let uris : List (List ℕ) = uris_in untitled fs in
+      let uris : List (List ℕ) = finding_uris untitled fs in
       let d = diagnostic tool untitled f in
       let now : List (List ℕ) = insert_key bytes_eq uris k in
       let so : new.uris ≡ now = put.uris ∙ ap (λ l. insert_key bytes_eq l k) are.uris in
-      let base : opened old.uris k old.lists ≡ map (at_uri fs) now =
-      ap₂ (λ l ls. opened l k ls) are.uris are.lists
+      let base : with_new_list old.uris k old.lists ≡ map (at_uri fs) now =
+      ap₂ (λ l ls. with_new_list l k ls) are.uris are.lists
       ∙ opened_by fs k uris (list_any (bytes_eq k) uris) refl (λ e. (fresh k [] fs e).1) in
       let there : slice_get now put.at ≡ Some put.found = sym (ap (λ l. slice_get l put.at) so) ∙ put.is_there in
       let same : k ≡ put.found = same_text k put.found put.same in
@@ -219,10 +219,10 @@ module _ (tool untitled : List ℕ) where
 
   -- a finding that lies in no source
   pub none_put : (fs : List Finding) (f : Finding) (it : Lists) → AreLists tool untitled fs it
-      → uri_at untitled f ≡ None → AreLists tool untitled (fs ++ f ∷ []) it
+      → finding_uri untitled f ≡ None → AreLists tool untitled (fs ++ f ∷ []) it
   none_put fs f it are is =
-      let uris : List (List ℕ) = uris_in untitled fs in
-      let stay : uris_in untitled (fs ++ f ∷ []) ≡ uris = uris_end [] fs f ∙ ap (λ o. with_uri o uris) is in
+      let uris : List (List ℕ) = finding_uris untitled fs in
+      let stay : finding_uris untitled (fs ++ f ∷ []) ≡ uris = uris_end [] fs f ∙ ap (λ o. with_uri o uris) is in
       let same : (w : List ℕ) → at_uri (fs ++ f ∷ []) w ≡ at_uri fs w =
       λ w. at_end fs f w ∙ ap (λ o. at_uri fs w ++ cond (is_uri w o) (diagnostic tool untitled f ∷ []) []) is
       ∙ append-nil (at_uri fs w) in
@@ -241,7 +241,7 @@ each_told g (x ∷ xs) = ap (λ l. document x (g x) ∷ l) (each_told g xs)
 pub all_told : (tool untitled : List ℕ) (fs : List Finding) (it : Lists) → AreLists tool untitled fs it
     → documents_of it.uris it.lists ≡ documents_in tool untitled fs
 all_told tool untitled fs it are = ap₂ documents_of are.uris are.lists
-    ∙ each_told (diagnostics_at tool untitled fs) (uris_in untitled fs)
+    ∙ each_told (diagnostics_at tool untitled fs) (finding_uris untitled fs)
 
 pub some_lists : (tool untitled : List ℕ) (fs : List Finding) (it : Lists) → AreLists tool untitled fs it
     → AreSomeLists tool untitled it
@@ -256,12 +256,13 @@ next_taken f xs i d lt is = ap (λ x. map f (take i xs) ++ f x ∷ []) is ∙ sy
 pub lists_fit : (tool untitled : List ℕ) (it : Lists) → AreSomeLists tool untitled it
     → length it.lists ≡ length it.uris
 lists_fit tool untitled it some =
-    ap length some.are.lists ∙ length-map (uris_in untitled some.findings) (diagnostics_at tool untitled some.findings)
+    ap length some.are.lists ∙ length-map (finding_uris untitled some.findings)
+    (diagnostics_at tool untitled some.findings)
     ∙ sym (ap length some.are.uris)
 
 -- the diagnostic of a finding that lies in a source is put
 pub finding_put : (tool untitled : List ℕ) (fs : List Finding) (f : Finding) (k : List ℕ) (value : Json)
-    (old new : Lists) → AreLists tool untitled fs old → uri_at untitled f ≡ Some k
+    (old new : Lists) → AreLists tool untitled fs old → finding_uri untitled f ≡ Some k
     → value ≡ diagnostic tool untitled f → IsPut k value old new → AreLists tool untitled (fs ++ f ∷ []) new
 finding_put tool untitled fs f k value old new are is same put =
     one_put tool untitled fs f k old new are is (subst (λ (v : Json). IsPut k v old new) same put)

@@ -9,7 +9,8 @@ use Rattle.miette_sarif.specs.rules.Findings.{Finding}
 use Rattle.miette_sarif.specs.rules.Objects.{Pairs, pair}
 use Rattle.miette_sarif.specs.views.Values.{pairs_of}
 use Rattle.miette_sarif.proofs.Made.{equal_pairs}
-use Rattle.miette_lsp.specs.rules.Diagnostics.{code_pairs, href_pairs, maybe_row, message_text, primary_row, rows}
+use Rattle.miette_lsp.specs.rules.Diagnostics.{code_pairs, href_pairs, maybe_row, diagnostic_message_text, primary_row}
+use Rattle.miette_lsp.specs.rules.Diagnostics.{rows}
 use Rattle.miette_lsp.specs.rules.Diagnostics.{see_row}
 use Rattle.miette_lsp.specs.steps.Putting.{documents_of}
 
@@ -21,7 +22,7 @@ added_after old mid new text more e f = f ∙ ap (λ l. l ++ more) e ∙ append_
 pub message_written : (f : Finding) (old own labelled caused helped fixed new : List ℕ) → own ≡ old ++ f.message
     → labelled ≡ own ++ primary_row f.primary → caused ≡ labelled ++ rows (codes "caused by: ") f.causes
     → helped ≡ caused ++ maybe_row (codes "help: ") f.help → fixed ≡ helped ++ rows (codes "fix: ") f.unapplied
-    → new ≡ fixed ++ see_row f.code f.url → new ≡ old ++ message_text f
+    → new ≡ fixed ++ see_row f.code f.url → new ≡ old ++ diagnostic_message_text f
 message_written f old own labelled caused helped fixed new a p b c d e =
     let primary : List ℕ = primary_row f.primary in
     let causes : List ℕ = rows (codes "caused by: ") f.causes in

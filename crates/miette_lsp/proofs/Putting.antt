@@ -55,7 +55,7 @@ pub is_put : (us now : List (List ℕ)) (uri found : List ℕ) (value : Json) (l
     → new ≡ set mid at (get_or mid at [] ++ value ∷ [])
     → IsPut uri value (record { uris = us; lists = ls }) (record { uris = now; lists = new })
 is_put us now uri found value ls mid new at is_new fresh is there same begun put =
-    let opened = begun ∙ ap (λ b. cond b (ls ++ [] ∷ []) ls) fresh
+    let with_new_list = begun ∙ ap (λ b. cond b (ls ++ [] ∷ []) ls) fresh
     ∙ either (list_any (bytes_eq uri) us) (ls ++ [] ∷ []) ls in
     record {
       at = at;
@@ -63,5 +63,5 @@ is_put us now uri found value ls mid new at is_new fresh is there same begun put
       is_there = there;
       same = same;
       uris = is;
-      lists = put ∙ ap (λ l. set l at (get_or l at [] ++ value ∷ [])) opened;
+      lists = put ∙ ap (λ l. set l at (get_or l at [] ++ value ∷ [])) with_new_list;
     }

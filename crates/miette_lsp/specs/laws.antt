@@ -1,2 +1,2 @@
--- What holds of the rules.
-pub mod Worked
+-- Theorems about the rules.
+pub mod Examples

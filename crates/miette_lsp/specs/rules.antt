@@ -1,4 +1,5 @@
--- What users rely on, in the words of docs/RULES.md.
+-- The definitions that users rely on, named as in docs/RULES.md.
 pub mod Diagnostics
 pub mod Documents
 pub mod LspText
+pub mod LogWords

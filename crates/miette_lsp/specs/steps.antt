@@ -1,2 +1,2 @@
--- The code's own steps.
+-- Helper definitions of the code.
 pub mod Putting

@@ -1,3 +1,3 @@
--- What values of the code stand for.
-pub mod Grouped
+-- Values of the code, as the rules represent them.
+pub mod DocumentLists
 pub mod Handled

@@ -1,28 +1,30 @@
-//! Diagnostics, one for each finding.
+//! Diagnostics of the Language Server Protocol, one for each finding.
 
 ghost use Rattle.std.specs.Prelude.{◌≡◌, ◌++◌, ◌∷◌, [], IfOk, OnOk, map, string_bytes};
 ghost use Rattle.std.specs.Option.{option_copied, option_map};
-ghost use Rattle.miette_lsp.specs.rules.Diagnostics.{code_pairs, data_pairs, diagnostic, head_pairs, href, href_pairs};
-ghost use Rattle.miette_lsp.specs.rules.Diagnostics.{placed, related_at, related_of, related_value, severity};
-ghost use Rattle.miette_lsp.specs.rules.Diagnostics.{tail_pairs, told_pairs};
+ghost use Rattle.miette_lsp.specs.rules.Diagnostics.{code_pairs, data_pairs, diagnostic, diagnostic_head_pairs, href};
+ghost use Rattle.miette_lsp.specs.rules.Diagnostics.{href_pairs};
+ghost use Rattle.miette_lsp.specs.rules.Diagnostics.{related_text_at, related_at, related_values_of, related_value};
+ghost use Rattle.miette_lsp.specs.rules.Diagnostics.{severity};
+ghost use Rattle.miette_lsp.specs.rules.Diagnostics.{diagnostic_tail_pairs, message_pairs};
 ghost use Rattle.miette_sarif.specs.rules.Artifacts.{uri_of};
 ghost use Rattle.miette_sarif.specs.views.Artifacts.{artifacts_view};
-ghost use Rattle.miette_sarif.specs.views.Found.{area_of, finding_of, mark_of, name_of, place_of};
+ghost use Rattle.miette_sarif.specs.views.Findings.{area_of, finding_of, mark_of, source_name_of, place_of};
 ghost use Rattle.miette_sarif.specs.views.Values.{json_of, pairs_of, values_of};
 
-use crate::edits::fix_values;
-use crate::message::message_text;
+use crate::edits::lsp_fix_values;
+use crate::message::diagnostic_message_text;
 use crate::places::{area_range, location_value, primary_area};
 use miette_sarif::artifacts::Artifacts;
-use miette_sarif::finding::{Area, Finding, Mark, Place};
-use miette_sarif::uri::{address_uri, is_absolute};
+use miette_sarif::finding::{Finding, PhysicalLocation, SarifLocation, SarifRegion};
+use miette_sarif::uri::{address_uri, is_absolute_uri};
 use miette_sarif::value::{
-    Members, Value, list_value, number_value, object_value, owned_value, push_item, single,
-    with_list, with_member, with_text,
+    Members, Value, list_value, number_value, object_value, one_member_object, owned_value,
+    push_item, with_list, with_member, with_text,
 };
 use std::alloc::{AllocError, Global};
 
-// The severity of a level: 1 of an error, 2 of a warning, 3 of advice.
+// The protocol's severity of a level: 1 for errors, 2 for warnings, 3 for advice.
 fn severity(level: &str) -> usize
     ensures { result ≡ severity level.now }
 {
@@ -40,11 +42,11 @@ fn with_address(alloc: Global, members: Members, url: &str) -> Result<Members, A
     ensures { IfOk result (λ all. pairs_of all.items ≡ pairs_of members.entry.items ++ href url.now) }
 {
     let uri = address_uri(alloc, url)?;
-    let address = single(alloc, "href", owned_value(uri))?;
+    let address = one_member_object(alloc, "href", owned_value(uri))?;
     with_member(members, "codeDescription", address)
 }
 
-// That, where there is an address that is absolute.
+// Adds that member if the url is absolute.
 fn with_href(alloc: Global, members: Members, url: Option<&str>) -> Result<Members, AllocError>
     ensures { IfOk result (λ all. pairs_of all.items
         ≡ pairs_of members.entry.items ++ href_pairs (option_copied url.entry)) }
@@ -52,13 +54,13 @@ fn with_href(alloc: Global, members: Members, url: Option<&str>) -> Result<Membe
     let Some(url) = url else {
         return Ok(members);
     };
-    if !is_absolute(url) {
+    if !is_absolute_uri(url) {
         return Ok(members);
     }
     with_address(alloc, members, url)
 }
 
-// A code that isn't empty, and its address.
+// Adds a code and its address, unless the code is empty.
 fn with_code(
     alloc: Global,
     members: Members,
@@ -79,7 +81,7 @@ fn with_code(
 fn related_value(
     alloc: Global,
     uri: String,
-    area: Option<Area<'_>>,
+    area: Option<SarifRegion<'_>>,
     text: &str,
 ) -> Result<Value, AllocError>
     ensures { IfOk result (λ value. json_of value
@@ -91,16 +93,16 @@ fn related_value(
     Ok(object_value(members))
 }
 
-// Appends a text at a place.
+// Appends a text at a location.
 fn push_at(
     list: &mut Vec<Value>,
     alloc: Global,
     artifacts: &Artifacts,
-    place: Place<'_>,
+    place: PhysicalLocation<'_>,
     text: &str,
 ) -> Result<(), AllocError>
     ensures { OnOk result (values_of list.new.items ≡ values_of list.old.items
-        ++ related_value (uri_of (artifacts_view artifacts.now).untitled (name_of place.entry.source))
+        ++ related_value (uri_of (artifacts_view artifacts.now).untitled (source_name_of place.entry.source))
         (option_map area_of place.entry.area) text.now ∷ []) }
 {
     let uri = artifacts.uri(alloc, place.source)?;
@@ -108,15 +110,16 @@ fn push_at(
     push_item(list, value)
 }
 
-// Appends a text at a place, where there is one.
+// Appends a text at a location, if there is one.
 fn push_placed(
     list: &mut Vec<Value>,
     alloc: Global,
     artifacts: &Artifacts,
-    mark: &Mark<'_>,
+    mark: &SarifLocation<'_>,
 ) -> Result<(), AllocError>
     ensures { OnOk result (values_of list.new.items ≡ values_of list.old.items
-        ++ placed (artifacts_view artifacts.now).untitled (option_map place_of mark.now.place) mark.now.text.now) }
+        ++ related_text_at (artifacts_view artifacts.now).untitled (option_map place_of mark.now.place)
+        mark.now.text.now) }
 {
     match mark.place {
         Some(place) => push_at(list, alloc, artifacts, place, mark.text),
@@ -124,12 +127,12 @@ fn push_placed(
     }
 }
 
-// Appends a label that has a place and a text.
+// Appends a label, if it has a source and a text.
 fn push_related(
     list: &mut Vec<Value>,
     alloc: Global,
     artifacts: &Artifacts,
-    mark: &Mark<'_>,
+    mark: &SarifLocation<'_>,
 ) -> Result<(), AllocError>
     ensures { OnOk result (values_of list.new.items ≡ values_of list.old.items
         ++ related_at (artifacts_view artifacts.now).untitled (mark_of mark.now)) }
@@ -140,37 +143,37 @@ fn push_related(
     push_placed(list, alloc, artifacts, mark)
 }
 
-// Appends the labels that have a place and a text.
+// Appends the labels that have a source and a text.
 fn push_all_related(
     list: &mut Vec<Value>,
     alloc: Global,
     artifacts: &Artifacts,
-    marks: &[Mark<'_>],
+    locations: &[SarifLocation<'_>],
 ) -> Result<(), AllocError>
     ensures { OnOk result (values_of list.new.items ≡ values_of list.old.items
-        ++ related_of (artifacts_view artifacts.now).untitled (map mark_of marks.now)) }
+        ++ related_values_of (artifacts_view artifacts.now).untitled (map mark_of locations.now)) }
 {
-    for mark in marks {
+    for mark in locations {
         push_related(list, alloc, artifacts, mark)?;
     }
     Ok(())
 }
 
-// The labels that have a place and a text.
+// Returns the labels that have a source and a text.
 fn related_values(
     alloc: Global,
     artifacts: &Artifacts,
-    marks: &[Mark<'_>],
+    locations: &[SarifLocation<'_>],
 ) -> Result<Vec<Value>, AllocError>
     ensures { IfOk result (λ list. values_of list.items
-        ≡ related_of (artifacts_view artifacts.now).untitled (map mark_of marks.now)) }
+        ≡ related_values_of (artifacts_view artifacts.now).untitled (map mark_of locations.now)) }
 {
     let mut list = Vec::new(alloc);
-    push_all_related(&mut list, alloc, artifacts, marks)?;
+    push_all_related(&mut list, alloc, artifacts, locations)?;
     Ok(list)
 }
 
-// `"data": {"fixes": [..]}`, where there are some.
+// `"data": {"fixes": [..]}`, or nothing without fixes.
 fn with_data(alloc: Global, members: Members, fixes: Vec<Value>) -> Result<Members, AllocError>
     ensures { IfOk result (λ all. pairs_of all.items
         ≡ pairs_of members.entry.items ++ data_pairs (values_of fixes.items)) }
@@ -178,36 +181,45 @@ fn with_data(alloc: Global, members: Members, fixes: Vec<Value>) -> Result<Membe
     if fixes.is_empty() {
         return Ok(members);
     }
-    with_member(members, "data", single(alloc, "fixes", list_value(fixes))?)
+    with_member(
+        members,
+        "data",
+        one_member_object(alloc, "fixes", list_value(fixes))?,
+    )
 }
 
-// Where a finding lies, its severity and its code.
+// The range, severity and code of a finding.
 fn head_members(alloc: Global, finding: &Finding<'_>) -> Result<Members, AllocError>
-    ensures { IfOk result (λ all. pairs_of all.items ≡ head_pairs (finding_of finding.now)) }
+    ensures { IfOk result (λ all. pairs_of all.items ≡ diagnostic_head_pairs (finding_of finding.now)) }
 {
     let range = area_range(alloc, primary_area(&finding.primary))?;
     let members = with_member(Vec::new(alloc), "range", range)?;
-    let level = number_value(severity(finding.told.level));
+    let level = number_value(severity(finding.report_texts.level));
     let members = with_member(members, "severity", level)?;
-    with_code(alloc, members, finding.told.code, finding.told.url)
+    with_code(
+        alloc,
+        members,
+        finding.report_texts.code,
+        finding.report_texts.url,
+    )
 }
 
-// The tool's name, and the message.
-fn with_told(
+// Adds the tool's name and the message.
+fn with_source_and_message(
     alloc: Global,
     tool: &str,
     members: Members,
     finding: &Finding<'_>,
 ) -> Result<Members, AllocError>
     ensures { IfOk result (λ all. pairs_of all.items
-        ≡ pairs_of members.entry.items ++ told_pairs tool.now (finding_of finding.now)) }
+        ≡ pairs_of members.entry.items ++ message_pairs tool.now (finding_of finding.now)) }
 {
     let members = with_text(alloc, members, "source", tool)?;
-    let message = message_text(alloc, finding)?;
+    let message = diagnostic_message_text(alloc, finding)?;
     with_member(members, "message", owned_value(message))
 }
 
-// Other labels and fixes.
+// Adds other labels and fixes.
 fn with_tail(
     alloc: Global,
     artifacts: &Artifacts,
@@ -215,20 +227,20 @@ fn with_tail(
     finding: &Finding<'_>,
 ) -> Result<Members, AllocError>
     ensures { IfOk result (λ all. pairs_of all.items ≡ pairs_of members.entry.items
-        ++ tail_pairs (artifacts_view artifacts.now).untitled (finding_of finding.now)) }
+        ++ diagnostic_tail_pairs (artifacts_view artifacts.now).untitled (finding_of finding.now)) }
 {
-    let related = related_values(alloc, artifacts, &finding.marks)?;
+    let related = related_values(alloc, artifacts, &finding.locations)?;
     let members = with_list(members, "relatedInformation", related)?;
-    let fixes = fix_values(alloc, artifacts, &finding.fixes)?;
+    let fixes = lsp_fix_values(alloc, artifacts, &finding.fixes)?;
     with_data(alloc, members, fixes)
 }
 
-/// The diagnostic of a finding, as of a tool of this name: `range`, `severity`, `code` and `codeDescription` where
-/// there are any, `source`, `message`, `relatedInformation` and `data` where there are any.
+/// Returns the diagnostic of a finding by a tool with this name. It has `range`, `severity`, `source` and `message`,
+/// and if there are any `code`, `codeDescription`, `relatedInformation` and `data`.
 ///
 /// # Errors
-/// `AllocError` where memory is refused.
-pub fn diagnostic_value(
+/// `AllocError` if allocation fails.
+pub fn lsp_diagnostic_value(
     alloc: Global,
     tool: &str,
     artifacts: &Artifacts,
@@ -238,7 +250,7 @@ pub fn diagnostic_value(
         ≡ diagnostic tool.now (artifacts_view artifacts.now).untitled (finding_of finding.now)) }
 {
     let members = head_members(alloc, finding)?;
-    let members = with_told(alloc, tool, members, finding)?;
+    let members = with_source_and_message(alloc, tool, members, finding)?;
     let members = with_tail(alloc, artifacts, members, finding)?;
     Ok(object_value(members))
 }

@@ -1,4 +1,4 @@
-//! Diagnostics by the source that they lie in.
+//! Diagnostics grouped by source.
 
 ghost use Rattle.std.specs.Prelude.{◌≡◌, ◌++◌, ◌∷◌, [], ◌<◌, IfOk, OnOk, get_or, if◌then◌else◌, length, map, set};
 ghost use Rattle.std.specs.Prelude.{List, not, slice_get, Some, string_bytes, true, ℕ};
@@ -10,30 +10,31 @@ ghost use Rattle.miette_lsp.specs.rules.Diagnostics.{diagnostic};
 ghost use Rattle.miette_lsp.specs.rules.Documents.{all_diagnostics, document, documents, documents_in, mark_source};
 ghost use Rattle.miette_lsp.specs.rules.Documents.{place_source};
 ghost use Rattle.miette_lsp.specs.steps.Putting.{AreLists, AreSomeLists, IsPut, documents_of};
-ghost use Rattle.miette_lsp.specs.views.Grouped.{lists_of};
-ghost use Rattle.miette_sarif.specs.rules.Findings.{Finding as Found};
+ghost use Rattle.miette_lsp.specs.views.DocumentLists.{document_lists_of};
+ghost use Rattle.miette_sarif.specs.rules.Findings.{Finding as Findings};
 ghost use Rattle.miette_sarif.specs.rules.Objects.{array_of};
 ghost use Rattle.miette_sarif.specs.views.Artifacts.{artifacts_view};
-ghost use Rattle.miette_sarif.specs.views.Found.{finding_of, findings_of, mark_of, name_of, place_of, texts_of};
+ghost use Rattle.miette_sarif.specs.views.Findings.{finding_of, sarif_findings_of, mark_of, source_name_of, place_of};
+ghost use Rattle.miette_sarif.specs.views.Findings.{texts_of};
 ghost use Rattle.miette_sarif.specs.views.Values.{json_of, values_of};
 
-use crate::diagnostic::diagnostic_value;
+use crate::diagnostic::lsp_diagnostic_value;
 use indexmap::IndexSet;
 use miette_sarif::artifacts::{Artifacts, artifacts_in};
-use miette_sarif::finding::{Finding, Mark, Named, Place};
+use miette_sarif::finding::{Finding, PhysicalLocation, SarifLocation, SourceId};
 use miette_sarif::value::{Value, list_value, object_value, push_item, with_member, with_text};
 use std::alloc::{AllocError, Global};
 
-// The uris of the sources that findings lie in, and the diagnostics of each.
+// The URIs of sources with findings, and the diagnostics of each.
 #[derive(Drop)]
-struct Grouped {
+struct DocumentLists {
     uris: IndexSet<String>,
     lists: Vec<Vec<Value>>,
 }
 
-// The source of a place, if there is one.
-fn place_source<'a>(place: &Option<Place<'a>>) -> Option<Named<'a>>
-    ensures { option_map name_of result ≡ place_source (option_map place_of place.now) }
+// The source of a location, if there is one.
+fn place_source<'a>(place: &Option<PhysicalLocation<'a>>) -> Option<SourceId<'a>>
+    ensures { option_map source_name_of result ≡ place_source (option_map place_of place.now) }
 {
     match place {
         Some(place) => Some(place.source),
@@ -41,9 +42,9 @@ fn place_source<'a>(place: &Option<Place<'a>>) -> Option<Named<'a>>
     }
 }
 
-// The source of a mark, if it has one.
-fn mark_source<'a>(mark: &Option<Mark<'a>>) -> Option<Named<'a>>
-    ensures { option_map name_of result ≡ mark_source (option_map mark_of mark.now) }
+// The source of a primary location, if it has one.
+fn mark_source<'a>(mark: &Option<SarifLocation<'a>>) -> Option<SourceId<'a>>
+    ensures { option_map source_name_of result ≡ mark_source (option_map mark_of mark.now) }
 {
     match mark {
         Some(mark) => place_source(&mark.place),
@@ -51,7 +52,7 @@ fn mark_source<'a>(mark: &Option<Mark<'a>>) -> Option<Named<'a>>
     }
 }
 
-// Where a uri stands, after the others where it is new, and whether it is.
+// Returns the index of a URI and whether it is new. A new URI is appended.
 fn place_of_uri(uris: &mut IndexSet<String>, uri: String) -> Result<(usize, bool), AllocError>
     ensures new { IfOk result (λ at. at.1 ≡ not (list_any (bytes_eq (string_bytes uri)) (texts_of uris.old.keys))) }
     ensures uris { OnOk result (texts_of uris.new.keys
@@ -64,7 +65,7 @@ fn place_of_uri(uris: &mut IndexSet<String>, uri: String) -> Result<(usize, bool
     Ok(at)
 }
 
-// Appends an empty list for a uri that is new.
+// Appends an empty list for a new URI.
 fn begin_list(lists: &mut Vec<Vec<Value>>, alloc: Global, is_new: bool) -> Result<(), AllocError>
     ensures { OnOk result (map (λ list. values_of list.items) lists.new.items
         ≡ (if is_new then map (λ list. values_of list.items) lists.old.items ++ [] ∷ []
@@ -76,7 +77,7 @@ fn begin_list(lists: &mut Vec<Vec<Value>>, alloc: Global, is_new: bool) -> Resul
     Ok(())
 }
 
-// Appends a value to one of the lists.
+// Appends a value to the list at an index.
 fn push_to(lists: &mut Vec<Vec<Value>>, at: usize, value: Value) -> Result<(), AllocError>
     requires { at < length lists.old.items }
     ensures { OnOk result (map (λ list. values_of list.items) lists.new.items
@@ -86,28 +87,29 @@ fn push_to(lists: &mut Vec<Vec<Value>>, at: usize, value: Value) -> Result<(), A
     push_item(&mut lists[at], value)
 }
 
-impl Grouped {
-    // None.
+impl DocumentLists {
+    // Creates an empty map.
     fn new(alloc: Global) -> Self
-        ensures { lists_of result ≡ record { uris = []; lists = [] } }
+        ensures { document_lists_of result ≡ record { uris = []; lists = [] } }
     {
-        Grouped {
+        DocumentLists {
             uris: IndexSet::new(alloc),
             lists: Vec::new(alloc),
         }
     }
 
-    // Appends a diagnostic to those of the source with this uri.
+    // Appends a diagnostic to the list of a URI.
     fn put(&mut self, alloc: Global, uri: String, value: Value) -> Result<(), AllocError>
-        requires { length (lists_of self.old).lists ≡ length (lists_of self.old).uris }
-        ensures { OnOk result (IsPut (string_bytes uri) (json_of value) (lists_of self.old) (lists_of self.new)) }
+        requires { length (document_lists_of self.old).lists ≡ length (document_lists_of self.old).uris }
+        ensures { OnOk result (IsPut (string_bytes uri) (json_of value) (document_lists_of self.old)
+            (document_lists_of self.new)) }
     {
         let (at, is_new) = place_of_uri(&mut self.uris, uri)?;
         begin_list(&mut self.lists, alloc, is_new)?;
         push_to(&mut self.lists, at, value)
     }
 
-    // Appends the diagnostic of a finding, if it lies in a source.
+    // Appends the diagnostic of a finding, if it has a source.
     fn put_finding(
         &mut self,
         alloc: Global,
@@ -115,15 +117,15 @@ impl Grouped {
         artifacts: &Artifacts,
         finding: &Finding<'_>,
     ) -> Result<(), AllocError>
-        requires { AreSomeLists tool.now (artifacts_view artifacts.now).untitled (lists_of self.old) }
-        ensures { OnOk result ((fs : List Found) → AreLists tool.now (artifacts_view artifacts.now).untitled fs
-            (lists_of self.old) → AreLists tool.now (artifacts_view artifacts.now).untitled
-            (fs ++ finding_of finding.now ∷ []) (lists_of self.new)) }
+        requires { AreSomeLists tool.now (artifacts_view artifacts.now).untitled (document_lists_of self.old) }
+        ensures { OnOk result ((fs : List Findings) → AreLists tool.now (artifacts_view artifacts.now).untitled fs
+            (document_lists_of self.old) → AreLists tool.now (artifacts_view artifacts.now).untitled
+            (fs ++ finding_of finding.now ∷ []) (document_lists_of self.new)) }
     {
         match mark_source(&finding.primary) {
             Some(source) => {
                 let uri = artifacts.uri(alloc, source)?;
-                let value = diagnostic_value(alloc, tool, artifacts, finding)?;
+                let value = lsp_diagnostic_value(alloc, tool, artifacts, finding)?;
                 self.put(alloc, uri, value)
             }
             None => Ok(()),
@@ -131,17 +133,18 @@ impl Grouped {
     }
 }
 
-// The diagnostics of findings, by the source that they lie in.
+// Groups the diagnostics of findings by source.
 fn lists_by_uri(
     alloc: Global,
     tool: &str,
     artifacts: &Artifacts,
     findings: &[Finding<'_>],
-) -> Result<Grouped, AllocError>
-    ensures { IfOk result (λ it. AreLists tool.now (artifacts_view artifacts.now).untitled (findings_of findings.now)
-        (lists_of it)) }
+) -> Result<DocumentLists, AllocError>
+    ensures { IfOk result (λ it. AreLists tool.now (artifacts_view artifacts.now).untitled
+        (sarif_findings_of findings.now)
+        (document_lists_of it)) }
 {
-    let mut grouped = Grouped::new(alloc);
+    let mut grouped = DocumentLists::new(alloc);
     for finding in findings {
         grouped.put_finding(alloc, tool, artifacts, finding)?;
     }
@@ -157,7 +160,7 @@ fn document(alloc: Global, uri: &str, diagnostics: Vec<Value>) -> Result<Value, 
     Ok(object_value(members))
 }
 
-// Documents of these uris, each with its list.
+// Returns a document for each URI with its list.
 fn documents_of(
     alloc: Global,
     uris: &[String],
@@ -179,16 +182,16 @@ fn documents_of(
     Ok(documents)
 }
 
-// The documents of all uris.
-fn told(alloc: Global, grouped: Grouped) -> Result<Vec<Value>, AllocError>
+// Returns the documents of all URIs.
+fn told(alloc: Global, grouped: DocumentLists) -> Result<Vec<Value>, AllocError>
     ensures { IfOk result (λ list. values_of list.items
-        ≡ documents_of (lists_of grouped).uris (lists_of grouped).lists) }
+        ≡ documents_of (document_lists_of grouped).uris (document_lists_of grouped).lists) }
 {
-    let Grouped { uris, lists } = grouped;
+    let DocumentLists { uris, lists } = grouped;
     documents_of(alloc, uris.as_slice(), lists)
 }
 
-// The documents of findings, the sources without a name numbered as these artifacts have them.
+// Returns the documents of findings. The artifacts give sources without a name their numbers.
 fn documents_in(
     alloc: Global,
     tool: &str,
@@ -196,30 +199,30 @@ fn documents_in(
     findings: &[Finding<'_>],
 ) -> Result<Value, AllocError>
     ensures { IfOk result (λ value. json_of value
-        ≡ array_of (documents_in tool.now (artifacts_view artifacts.now).untitled (findings_of findings.now))) }
+        ≡ array_of (documents_in tool.now (artifacts_view artifacts.now).untitled (sarif_findings_of findings.now))) }
 {
     let grouped = lists_by_uri(alloc, tool, artifacts, findings)?;
     let documents = told(alloc, grouped)?;
     Ok(list_value(documents))
 }
 
-/// The documents of findings, as of a tool of this name: for each source that one lies in its `uri` and its
-/// `diagnostics`, in the order of the first finding there.
+/// Returns the documents of findings by a tool with this name. Each source with a finding has a document with its `uri`
+/// and its `diagnostics`, in the order of the first finding.
 ///
 /// # Errors
-/// `AllocError` where memory is refused.
-pub fn documents_value(
+/// `AllocError` if allocation fails.
+pub fn lsp_documents_value(
     alloc: Global,
     tool: &str,
     findings: &[Finding<'_>],
 ) -> Result<Value, AllocError>
-    ensures { IfOk result (λ value. json_of value ≡ documents tool.now (findings_of findings.now)) }
+    ensures { IfOk result (λ value. json_of value ≡ documents tool.now (sarif_findings_of findings.now)) }
 {
     let artifacts = artifacts_in(alloc, findings)?;
     documents_in(alloc, tool, &artifacts, findings)
 }
 
-// The diagnostics of findings, the sources without a name numbered as these artifacts have them.
+// Returns the diagnostics of findings. The artifacts give sources without a name their numbers.
 fn diagnostics_in(
     alloc: Global,
     tool: &str,
@@ -227,26 +230,26 @@ fn diagnostics_in(
     findings: &[Finding<'_>],
 ) -> Result<Vec<Value>, AllocError>
     ensures { IfOk result (λ list. values_of list.items
-        ≡ map (diagnostic tool.now (artifacts_view artifacts.now).untitled) (findings_of findings.now)) }
+        ≡ map (diagnostic tool.now (artifacts_view artifacts.now).untitled) (sarif_findings_of findings.now)) }
 {
     let mut list = Vec::with_capacity(alloc, findings.len())?;
     for finding in findings {
-        let value = diagnostic_value(alloc, tool, artifacts, finding)?;
+        let value = lsp_diagnostic_value(alloc, tool, artifacts, finding)?;
         push_item(&mut list, value)?;
     }
     Ok(list)
 }
 
-/// The diagnostics of all findings, in their order, whatever source they lie in.
+/// Returns the diagnostics of all findings in order, whichever source they are in.
 ///
 /// # Errors
-/// `AllocError` where memory is refused.
-pub fn diagnostics_of(
+/// `AllocError` if allocation fails.
+pub fn lsp_diagnostics_of(
     alloc: Global,
     tool: &str,
     findings: &[Finding<'_>],
 ) -> Result<Vec<Value>, AllocError>
-    ensures { IfOk result (λ list. values_of list.items ≡ all_diagnostics tool.now (findings_of findings.now)) }
+    ensures { IfOk result (λ list. values_of list.items ≡ all_diagnostics tool.now (sarif_findings_of findings.now)) }
 {
     let artifacts = artifacts_in(alloc, findings)?;
     diagnostics_in(alloc, tool, &artifacts, findings)

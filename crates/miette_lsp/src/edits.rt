@@ -1,17 +1,17 @@
-//! Fixes that can be applied, as edits of texts.
+//! Applicable fixes as text edits of the Language Server Protocol.
 
 ghost use Rattle.std.specs.Prelude.{◌≡◌, ◌++◌, IfOk, OnOk, map};
-ghost use Rattle.miette_lsp.specs.rules.Diagnostics.{fix_head, fix_tail, fix_value, fix_values, text_edit};
+ghost use Rattle.miette_lsp.specs.rules.Diagnostics.{fix_head, fix_tail, lsp_fix_value, lsp_fix_values, text_edit};
 ghost use Rattle.miette_sarif.specs.rules.Results.{first_values};
 ghost use Rattle.miette_sarif.specs.views.Artifacts.{artifacts_view};
-ghost use Rattle.miette_sarif.specs.views.Found.{proposed_of, replaced_of, texts_of};
+ghost use Rattle.miette_sarif.specs.views.Findings.{applicable_fix_of, replacement_value_of, texts_of};
 ghost use Rattle.miette_sarif.specs.views.Values.{json_of, pairs_of, values_of};
 
 use crate::places::stretch_range;
 use indexmap::IndexSet;
 use miette_sarif::artifacts::Artifacts;
 use miette_sarif::finding::{Proposal, Replacement};
-use miette_sarif::results::push_first;
+use miette_sarif::results::push_unique_value;
 use miette_sarif::value::{
     Members, Value, list_value, object_value, owned_value, push_item, with_member, with_text,
 };
@@ -19,7 +19,7 @@ use std::alloc::{AllocError, Global};
 
 // `{"range": {..},"newText": "1"}`
 fn text_edit(alloc: Global, item: &Replacement) -> Result<Value, AllocError>
-    ensures { IfOk result (λ value. json_of value ≡ text_edit (replaced_of item.now)) }
+    ensures { IfOk result (λ value. json_of value ≡ text_edit (replacement_value_of item.now)) }
 {
     let range = stretch_range(alloc, &item.deleted)?;
     let members = with_member(Vec::new(alloc), "range", range)?;
@@ -34,7 +34,7 @@ fn push_edits(
     list: &[Replacement],
 ) -> Result<(), AllocError>
     ensures { OnOk result (values_of values.new.items
-        ≡ values_of values.old.items ++ map text_edit (map replaced_of list.now)) }
+        ≡ values_of values.old.items ++ map text_edit (map replacement_value_of list.now)) }
 {
     for item in list {
         let value = text_edit(alloc, item)?;
@@ -43,12 +43,12 @@ fn push_edits(
     Ok(())
 }
 
-/// What takes the place of parts of a source, as `TextEdit`s of the protocol: of each its `range` and its `newText`.
+/// Returns replacements as `TextEdit`s of the protocol: each has a `range` and a `newText`.
 ///
 /// # Errors
-/// `AllocError` where memory is refused.
-pub fn edit_values(alloc: Global, list: &[Replacement]) -> Result<Vec<Value>, AllocError>
-    ensures { IfOk result (λ values. values_of values.items ≡ map text_edit (map replaced_of list.now)) }
+/// `AllocError` if allocation fails.
+pub fn lsp_edit_values(alloc: Global, list: &[Replacement]) -> Result<Vec<Value>, AllocError>
+    ensures { IfOk result (λ values. values_of values.items ≡ map text_edit (map replacement_value_of list.now)) }
 {
     let mut values = Vec::with_capacity(alloc, list.len())?;
     push_edits(&mut values, alloc, list)?;
@@ -57,7 +57,7 @@ pub fn edit_values(alloc: Global, list: &[Replacement]) -> Result<Vec<Value>, Al
 
 // `"title": "a number","applicability": "maybe-incorrect"`
 fn head_members(alloc: Global, fix: &Proposal<'_>) -> Result<Members, AllocError>
-    ensures { IfOk result (λ all. pairs_of all.items ≡ fix_head (proposed_of fix.now)) }
+    ensures { IfOk result (λ all. pairs_of all.items ≡ fix_head (applicable_fix_of fix.now)) }
 {
     let members = with_text(alloc, Vec::new(alloc), "title", fix.message)?;
     with_text(alloc, members, "applicability", fix.applicability.name())
@@ -71,25 +71,29 @@ fn with_edits(
     fix: &Proposal<'_>,
 ) -> Result<Members, AllocError>
     ensures { IfOk result (λ all. pairs_of all.items ≡ pairs_of members.entry.items
-        ++ fix_tail (artifacts_view artifacts.now).untitled (proposed_of fix.now)) }
+        ++ fix_tail (artifacts_view artifacts.now).untitled (applicable_fix_of fix.now)) }
 {
     let uri = artifacts.uri(alloc, fix.source)?;
     let members = with_member(members, "uri", owned_value(uri))?;
-    let edits = edit_values(alloc, &fix.replacements)?;
+    let edits = lsp_edit_values(alloc, &fix.replacements)?;
     with_member(members, "edits", list_value(edits))
 }
 
 // `{"title": "a number","applicability": "maybe-incorrect","uri": "a.rs","edits": [..]}`
-fn fix_value(alloc: Global, artifacts: &Artifacts, fix: &Proposal<'_>) -> Result<Value, AllocError>
+fn lsp_fix_value(
+    alloc: Global,
+    artifacts: &Artifacts,
+    fix: &Proposal<'_>,
+) -> Result<Value, AllocError>
     ensures { IfOk result (λ value. json_of value
-        ≡ fix_value (artifacts_view artifacts.now).untitled (proposed_of fix.now)) }
+        ≡ lsp_fix_value (artifacts_view artifacts.now).untitled (applicable_fix_of fix.now)) }
 {
     let members = head_members(alloc, fix)?;
     let members = with_edits(alloc, artifacts, members, fix)?;
     Ok(object_value(members))
 }
 
-// Appends fixes, of equal ones the first.
+// Appends fixes without duplicates.
 fn push_fixes(
     list: &mut Vec<Value>,
     spelled: &mut IndexSet<String>,
@@ -98,24 +102,24 @@ fn push_fixes(
     fixes: &[Proposal<'_>],
 ) -> Result<(), AllocError>
     ensures { OnOk result (values_of list.new.items ≡ values_of list.old.items
-        ++ first_values (texts_of spelled.old.keys) (map (fix_value (artifacts_view artifacts.now).untitled)
-        (map proposed_of fixes.now))) }
+        ++ first_values (texts_of spelled.old.keys) (map (lsp_fix_value (artifacts_view artifacts.now).untitled)
+        (map applicable_fix_of fixes.now))) }
 {
     for fix in fixes {
-        let value = fix_value(alloc, artifacts, fix)?;
-        push_first(list, spelled, alloc, value)?;
+        let value = lsp_fix_value(alloc, artifacts, fix)?;
+        push_unique_value(list, spelled, alloc, value)?;
     }
     Ok(())
 }
 
-/// Fixes, of equal ones the first.
-pub(crate) fn fix_values(
+/// Returns fixes without duplicates.
+pub(crate) fn lsp_fix_values(
     alloc: Global,
     artifacts: &Artifacts,
     fixes: &[Proposal<'_>],
 ) -> Result<Vec<Value>, AllocError>
     ensures { IfOk result (λ list. values_of list.items
-        ≡ fix_values (artifacts_view artifacts.now).untitled (map proposed_of fixes.now)) }
+        ≡ lsp_fix_values (artifacts_view artifacts.now).untitled (map applicable_fix_of fixes.now)) }
 {
     let mut list = Vec::new(alloc);
     let mut spelled = IndexSet::new(alloc);

@@ -1,10 +1,11 @@
-//! What editors show of reports: diagnostics of the Language Server Protocol (3.17), as text and the value it denotes.
+//! Diagnostics of the Language Server Protocol (3.17): their text, and the value that it denotes.
 #![tactic(auto)]
 
 pub mod diagnostic;
 pub mod documents;
 pub mod edits;
+pub mod examples;
 pub mod handler;
+pub mod logs;
 mod message;
 pub mod places;
-pub mod worked;

@@ -1,16 +1,17 @@
-//! Messages: rows of text.
+//! Messages of diagnostics, line by line.
 
 ghost use Rattle.std.specs.Prelude.{◌≡◌, ◌++◌, map, IfOk, OnOk, string_bytes, codes};
 ghost use Rattle.std.specs.Option.{option_copied, option_map};
-ghost use Rattle.miette_lsp.specs.rules.Diagnostics.{is_href, maybe_row, message_text, primary_row, row, rows};
-ghost use Rattle.miette_lsp.specs.rules.Diagnostics.{see_row, text_row};
-ghost use Rattle.miette_sarif.specs.views.Found.{finding_of, mark_of};
+ghost use Rattle.miette_lsp.specs.rules.Diagnostics.{is_href, maybe_row, diagnostic_message_text, primary_row, row};
+ghost use Rattle.miette_lsp.specs.rules.Diagnostics.{rows};
+ghost use Rattle.miette_lsp.specs.rules.Diagnostics.{see_row, label_text_row};
+ghost use Rattle.miette_sarif.specs.views.Findings.{finding_of, mark_of};
 
-use miette_sarif::finding::{Finding, Mark};
-use miette_sarif::uri::is_absolute;
+use miette_sarif::finding::{Finding, SarifLocation};
+use miette_sarif::uri::is_absolute_uri;
 use std::alloc::{AllocError, Global};
 
-// Appends a row below others: what names it, and its text.
+// Appends a line: LF, a title and a text.
 fn push_row(out: &mut String, title: &str, text: &str) -> Result<(), AllocError>
     ensures { OnOk result (string_bytes out.new ≡ string_bytes out.old ++ row title.now text.now) }
 {
@@ -19,7 +20,7 @@ fn push_row(out: &mut String, title: &str, text: &str) -> Result<(), AllocError>
     out.push_str(text)
 }
 
-// Appends rows below others, each with the same name.
+// Appends such a line for each text, all with the same title.
 fn push_rows(out: &mut String, title: &str, texts: &[&str]) -> Result<(), AllocError>
     ensures { OnOk result (string_bytes out.new
         ≡ string_bytes out.old ++ rows title.now (map (λ text. text.now) texts.now)) }
@@ -30,8 +31,8 @@ fn push_rows(out: &mut String, title: &str, texts: &[&str]) -> Result<(), AllocE
     Ok(())
 }
 
-// Appends a row below others, where there is a text.
-fn push_maybe(out: &mut String, title: &str, text: Option<&str>) -> Result<(), AllocError>
+// Appends such a line if there is a text.
+fn push_optional_row(out: &mut String, title: &str, text: Option<&str>) -> Result<(), AllocError>
     ensures { OnOk result (string_bytes out.new
         ≡ string_bytes out.old ++ maybe_row title.now (option_copied text.entry)) }
 {
@@ -41,9 +42,9 @@ fn push_maybe(out: &mut String, title: &str, text: Option<&str>) -> Result<(), A
     }
 }
 
-// Appends a label's text below others, where it isn't empty.
+// Appends a label's text on its own line, unless it is empty.
 fn push_text(out: &mut String, text: &str) -> Result<(), AllocError>
-    ensures { OnOk result (string_bytes out.new ≡ string_bytes out.old ++ text_row text.now) }
+    ensures { OnOk result (string_bytes out.new ≡ string_bytes out.old ++ label_text_row text.now) }
 {
     if text.is_empty() {
         return Ok(());
@@ -51,8 +52,8 @@ fn push_text(out: &mut String, text: &str) -> Result<(), AllocError>
     push_row(out, "", text)
 }
 
-// Appends the primary label's text, where there is one.
-fn push_primary(out: &mut String, primary: &Option<Mark<'_>>) -> Result<(), AllocError>
+// Appends the primary label's text, if there is one.
+fn push_primary(out: &mut String, primary: &Option<SarifLocation<'_>>) -> Result<(), AllocError>
     ensures { OnOk result (string_bytes out.new
         ≡ string_bytes out.old ++ primary_row (option_map mark_of primary.now)) }
 {
@@ -69,10 +70,10 @@ fn is_href(code: &str, url: &str) -> bool
     if code.is_empty() {
         return false;
     }
-    is_absolute(url)
+    is_absolute_uri(url)
 }
 
-// Appends the url, where it isn't the address of the code.
+// Appends the url, unless it is the address of the code.
 fn push_see(out: &mut String, code: &str, url: Option<&str>) -> Result<(), AllocError>
     ensures { OnOk result (string_bytes out.new
         ≡ string_bytes out.old ++ see_row code.now (option_copied url.entry)) }
@@ -86,21 +87,25 @@ fn push_see(out: &mut String, code: &str, url: Option<&str>) -> Result<(), Alloc
     push_row(out, "see: ", url)
 }
 
-// Appends the rows of a message: its text, the primary label's, causes, help, fixes that can't be applied, an address.
+// Appends the lines of a message: text, primary label's text, causes, help, fixes that can't be applied, and url.
 fn push_message(out: &mut String, finding: &Finding<'_>) -> Result<(), AllocError>
-    ensures { OnOk result (string_bytes out.new ≡ string_bytes out.old ++ message_text (finding_of finding.now)) }
+    ensures { OnOk result (string_bytes out.new ≡ string_bytes out.old
+        ++ diagnostic_message_text (finding_of finding.now)) }
 {
-    out.push_str(finding.told.message)?;
+    out.push_str(finding.report_texts.message)?;
     push_primary(out, &finding.primary)?;
-    push_rows(out, "caused by: ", &finding.told.causes)?;
-    push_maybe(out, "help: ", finding.told.help)?;
+    push_rows(out, "caused by: ", &finding.report_texts.causes)?;
+    push_optional_row(out, "help: ", finding.report_texts.help)?;
     push_rows(out, "fix: ", &finding.unapplied)?;
-    push_see(out, finding.told.code, finding.told.url)
+    push_see(out, finding.report_texts.code, finding.report_texts.url)
 }
 
-/// The message of a finding.
-pub(crate) fn message_text(alloc: Global, finding: &Finding<'_>) -> Result<String, AllocError>
-    ensures { IfOk result (λ text. string_bytes text ≡ message_text (finding_of finding.now)) }
+/// Returns the message of a finding.
+pub(crate) fn diagnostic_message_text(
+    alloc: Global,
+    finding: &Finding<'_>,
+) -> Result<String, AllocError>
+    ensures { IfOk result (λ text. string_bytes text ≡ diagnostic_message_text (finding_of finding.now)) }
 {
     let mut text = String::new(alloc);
     push_message(&mut text, finding)?;

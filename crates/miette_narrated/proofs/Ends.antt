@@ -8,15 +8,15 @@ use Rattle.std.proofs.lemmas.Bool.{leb-true, le-leb, ne_eqb, eqb-true, and_right
 use Rattle.std.proofs.lemmas.Bool.Decides.{nat_tests}
 use Rattle.std.proofs.lemmas.List.Elements.{filter_agree}
 use Rattle.std.proofs.Math.Bool.{and_comm}
-use Rattle.miette_source_lines.specs.rules.Lines.{Line}
-use Rattle.miette_label_rules.specs.declared.placed.PlacedLabel.{PlacedLabel}
+use Rattle.miette_lines.specs.rules.Lines.{Line}
+use Rattle.miette_labels.specs.declared.placed.PlacedLabel.{PlacedLabel}
 use Rattle.miette_labels.proofs.SortedLabels.{put, sorted, Rises, at_key, same_list, sorted_rises, sorted_at}
 use Rattle.miette_labels.proofs.SortedLabels.{rises_from}
 use Rattle.miette_labels.proofs.SortedLabels.{sort_is}
-use Rattle.miette_basics.proofs.Cases.{by_cases}
+use Rattle.miette_lines.proofs.Cases.{by_cases}
 use Rattle.miette_narrated.specs.declared.label_order.RankedLabel.{RankedLabel}
 use Rattle.miette_narrated.specs.steps.Ends.{ends_within, is_ended, ranked_labels, AreEnds}
-use Rattle.miette_narrated.specs.steps.Sweeping.{BeginsFrom, AreOrdered}
+use Rattle.miette_narrated.specs.steps.LabelSweep.{BeginsFrom, AreOrdered}
 
 -- ---- elements of a list between two of its places
 

@@ -5,19 +5,19 @@ use Rattle.std.proofs.Common.{ap₂, ◌∙◌, append_assoc, arith}
 use Rattle.std.specs.List.{filter}
 use Rattle.std.proofs.lemmas.Bool.{leb-true, leb-false, le-ltb}
 use Rattle.std.proofs.lemmas.Bool.Decides.{nat_tests}
-use Rattle.miette_source_lines.specs.rules.Lines.{Line}
-use Rattle.miette_label_rules.specs.declared.placed.PlacedLabel.{PlacedLabel}
-use Rattle.miette_basics.proofs.Cases.{by_cases}
-use Rattle.miette_narrated.specs.rules.Labels.{SnippetLine, LabelRange, ends_before, begins_within, start_row}
+use Rattle.miette_lines.specs.rules.Lines.{Line}
+use Rattle.miette_labels.specs.declared.placed.PlacedLabel.{PlacedLabel}
+use Rattle.miette_lines.proofs.Cases.{by_cases}
+use Rattle.miette_narrated.specs.rules.Labels.{SnippetLine, LabelRange, ends_before, begins_before_text_end, start_row}
 use Rattle.miette_narrated.specs.rules.Labels.{begun_row, label_row, label_rows}
 use Rattle.miette_narrated.specs.steps.Ends.{is_ended, is_begun}
 use Rattle.miette_narrated.specs.steps.Conversions.{range_of, ranges_of}
-use Rattle.miette_narrated.specs.steps.Sweeping.{BeginsFrom, AreOrdered}
+use Rattle.miette_narrated.specs.steps.LabelSweep.{BeginsFrom, AreOrdered}
 use Rattle.miette_narrated.proofs.Sweeps.{lower, row_beyond}
 
 -- a label that begins in the line's text and ends after it
 pub begun_here : (it : SnippetLine) (d : LabelRange) → ends_before it d.start d.after ≡ false
-    → begins_within it d.start ≡ true → begun_row it d ≡ start_row it d
+    → begins_before_text_end it d.start ≡ true → begun_row it d ≡ start_row it d
 begun_here it d ends begins = rw (ends, begins) refl
 
 row_before : (it : SnippetLine) (p : PlacedLabel) → it.is_last ≡ false → leb it.line.start p.start

@@ -4,12 +4,12 @@ use Rattle.std.proofs.Common.{◌||◌, take, drop, refl, sym, ap, ap₂, ◌∙
 use Rattle.std.specs.Prelude.{if◌then◌else◌}
 use Rattle.std.specs.List.{filter}
 use Rattle.std.proofs.lemmas.Bool.{leb-false, lt-leb}
-use Rattle.miette_label_rules.specs.declared.placed.PlacedLabel.{PlacedLabel}
-use Rattle.miette_basics.proofs.Cases.{by_cases}
+use Rattle.miette_labels.specs.declared.placed.PlacedLabel.{PlacedLabel}
+use Rattle.miette_lines.proofs.Cases.{by_cases}
 use Rattle.miette_narrated.specs.rules.Labels.{SnippetLine, ends_before, whole_row, start_row, end_row, label_row}
 use Rattle.miette_narrated.specs.rules.Labels.{label_rows}
 use Rattle.miette_narrated.specs.steps.Conversions.{range_of, ranges_of}
-use Rattle.miette_narrated.specs.steps.Sweeping.{reaches, IsAt, BeginsFrom, AreOrdered, last_start}
+use Rattle.miette_narrated.specs.steps.LabelSweep.{reaches, IsSweptTo, BeginsFrom, AreOrdered, last_start}
 
 -- ---- the labels that reach a place
 
@@ -118,7 +118,7 @@ rows_split it (suc n) (p ∷ ps) =
 
 -- the labels that run have all the rows of a line
 pub rows_swept : (it : SnippetLine) (ps : List PlacedLabel) (place next : ℕ)
-    (running : List PlacedLabel) → AreOrdered ps → place ≡ it.line.start → IsAt ps place next running →
+    (running : List PlacedLabel) → AreOrdered ps → place ≡ it.line.start → IsSweptTo ps place next running →
     BeginsFrom (suc (last_start it)) (drop next ps) → label_rows it (ranges_of running)
     ≡ label_rows it (ranges_of ps)
 rows_swept it ps place next running o e at end =

@@ -7,25 +7,28 @@ use Rattle.miette_protocol.specs.views.Meaning.{Label}
 use Rattle.miette_tree.proofs.Readings.{own_holds}
 use Rattle.miette_tree.specs.rules.Tree.{Tree, tree, Trees, no_trees, more_trees, trees, effective, head, source_of}
 use Rattle.miette_tree.specs.rules.Tree.{cause_of, causes_of, related_of}
-use Rattle.miette_label_rules.specs.rules.Around.{group_context}
-use Rattle.miette_label_rules.specs.rules.Groups.{in_order}
+use Rattle.miette_labels.specs.rules.Around.{group_context}
+use Rattle.miette_labels.specs.rules.Groups.{in_order}
 use Rattle.miette_labels.proofs.NoFailures.{grouped_none}
 use Rattle.miette_tree.specs.rules.Answers.{AnswerTrees}
 use Rattle.miette_narrated.specs.rules.Labels.{label_range}
 use Rattle.miette_narrated.specs.rules.Snippets.{snippets_of}
 use Rattle.miette_narrated.specs.rules.Report.{NarrationSettings, Answers, unlisted, listed, no_more}
-use Rattle.miette_narrated.specs.rules.Report.{and_more, own_answer, related_answers, first_answers, later_answers}
-use Rattle.miette_narrated.specs.rules.Report.{head_rows, titled_rows, cause_rows, causes_if, row_if}
+use Rattle.miette_narrated.specs.rules.Report.{and_more, own_narrated_answer, related_answers, first_answers}
+use Rattle.miette_narrated.specs.rules.Report.{later_answers}
+use Rattle.miette_narrated.specs.rules.Report.{head_rows, related_head_rows, cause_rows, causes_if, row_if}
 use Rattle.miette_narrated.specs.rules.Report.{snippet_rows, blank_before, related_report, related_reports, narration}
-use Rattle.miette_narrated.specs.rules.Report.{ReadAnswers, none_failed, first_fails, later_fails, further_rows}
-use Rattle.miette_narrated.specs.rules.Report.{all_snippets, rows_below}
+use Rattle.miette_narrated.specs.rules.Report.{NarratedReadAnswers, no_failed_reads, first_fails, later_fails}
+use Rattle.miette_narrated.specs.rules.Report.{further_rows}
+use Rattle.miette_narrated.specs.rules.Report.{all_narrated_snippets, rows_below_causes}
 use Rattle.miette_tree.specs.rules.DiagnosticParts.{given_labels}
 use Rattle.miette_tree.specs.rules.Diagnosis.{Diagnosis, Section}
-use Rattle.miette_tree.specs.rules.Reads.{holds_of, holds_of_all, holds_further, always_reads, report_reads}
-use Rattle.miette_narrated.specs.rules.PossibleAnswers.{IsAnswered, AreFurther, ArePossible, AreAnswers, AllAnswers}
-use Rattle.miette_narrated.specs.rules.PossibleAnswers.{IsNarrated, reads_for, fixes_below, all_fixes_below}
+use Rattle.miette_tree.specs.rules.Reads.{report_passes, reports_pass, further_pass, always_reads, report_reads}
+use Rattle.miette_narrated.specs.rules.PossibleAnswers.{IsAnswered, AreFurtherReads, ArePossibleReads, AreAnswers}
+use Rattle.miette_narrated.specs.rules.PossibleAnswers.{AllAnswers}
+use Rattle.miette_narrated.specs.rules.PossibleAnswers.{IsNarrated, reads_for_fixes, fixes_below, all_fixes_below}
 use Rattle.miette_narrated.specs.rules.PossibleAnswers.{fixes_read}
-use Rattle.miette_narrated.specs.steps.AppendedParts.{AppendsBelow, AppendsReport, AppendsRelated}
+use Rattle.miette_narrated.specs.steps.AppendedParts.{AppendsBelow, AppendsNarratedReport, AppendsNarratedRelated}
 use Rattle.miette_narrated.proofs.Below.{same_advice}
 use Rattle.miette_narrated.proofs.Further.{further_holds}
 use Rattle.std.proofs.lemmas.List.{drop_all}
@@ -34,10 +37,10 @@ use Rattle.std.proofs.lemmas.List.{drop_all}
 
 -- Some are told, and these are left: whatever answers these have, the whole has some.
 pub record RelatedSoFar (context : ℕ) (inherited : Option Source) (all left : Trees) (old now : List ℕ) : Type 0 where
-  pub with_rest : AnswerTrees ReadAnswers → AnswerTrees ReadAnswers
-  pub possible : (more : AnswerTrees ReadAnswers) → AllAnswers inherited more left
+  pub with_rest : AnswerTrees NarratedReadAnswers → AnswerTrees NarratedReadAnswers
+  pub possible : (more : AnswerTrees NarratedReadAnswers) → AllAnswers inherited more left
       → AllAnswers inherited (with_rest more) all
-  pub joined_is : (more : AnswerTrees ReadAnswers) → now ++ related_reports context inherited more left ≡ old
+  pub joined_is : (more : AnswerTrees NarratedReadAnswers) → now ++ related_reports context inherited more left ≡ old
       ++ (blank_before all ++ related_reports context inherited (with_rest more) all)
 
 pub none_so_far : (context : ℕ) (inherited : Option Source) (all : Trees) (old now : List ℕ) → now ≡ old
@@ -50,7 +53,7 @@ none_so_far context inherited all old now e = record {
 }
 
 pub one_more : (context : ℕ) (inherited : Option Source) (all : Trees) (t : Tree) (ts : Trees) (old now new : List ℕ)
-    → RelatedSoFar context inherited all (more_trees t ts) old now → AppendsReport context inherited t now new
+    → RelatedSoFar context inherited all (more_trees t ts) old now → AppendsNarratedReport context inherited t now new
     → RelatedSoFar context inherited all ts old new
 one_more context inherited all t ts old now new r a = record {
   with_rest = λ more. r.with_rest (and_more a.answers more);
@@ -61,7 +64,7 @@ one_more context inherited all t ts old now new r a = record {
 }
 
 pub all_told : (context : ℕ) (inherited : Option Source) (all : Trees) (old now : List ℕ)
-    → RelatedSoFar context inherited all no_trees old now → AppendsRelated context inherited all old now
+    → RelatedSoFar context inherited all no_trees old now → AppendsNarratedRelated context inherited all old now
 all_told context inherited all old now r = record {
   answers = r.with_rest no_more;
   possible =
@@ -91,19 +94,20 @@ parts_joined old a b q new ti ca be re e f g h = h
 pub report_told : (context : ℕ) (inherited : Option Source) (t : Tree) (source : Option Source)
     (related : Trees) (old a b q new : List ℕ)
     → source ≡ effective (source_of t) inherited → related ≡ related_of t
-    → a ≡ old ++ titled_rows (head t) → b ≡ a ++ cause_rows (causes_of (cause_of t))
-    → AppendsBelow context source (head t) b q → AppendsRelated context source related q new
-    → AppendsReport context inherited t old new
+    → a ≡ old ++ related_head_rows (head t) → b ≡ a ++ cause_rows (causes_of (cause_of t))
+    → AppendsBelow context source (head t) b q → AppendsNarratedRelated context source related q new
+    → AppendsNarratedReport context inherited t old new
 report_told context inherited (tree m s c rs) source related old a b q new es er e f below others =
     let own = effective s inherited in
     let here : AppendsBelow context own m b q = subst (λ o. AppendsBelow context o m b q) es below in
-    let there : AppendsRelated context own rs q new = subst (λ ts. AppendsRelated context own ts q new) er
-    (subst (λ o. AppendsRelated context o related q new) es others) in
+    let there : AppendsNarratedRelated context own rs q new = subst (λ ts. AppendsNarratedRelated context own ts q new)
+    er
+    (subst (λ o. AppendsNarratedRelated context o related q new) es others) in
     record {
       answers = listed here.answers unlisted there.answers;
       possible = (here.possible, there.possible);
-      appended = parts_joined old a b q new (titled_rows m) (cause_rows (causes_of c))
-          (rows_below context own here.answers m)
+      appended = parts_joined old a b q new (related_head_rows m) (cause_rows (causes_of c))
+          (rows_below_causes context own here.answers m)
           (blank_before rs ++ related_reports context own there.answers rs) e f here.appended there.appended;
     }
 
@@ -120,19 +124,20 @@ whole_joined start a b q r new hd ca be re ft s e f g h i =
 pub whole_told : (s : NarrationSettings) (t : Tree) (source : Option Source) (related : Trees)
     (start a b q r new : List ℕ) → source ≡ effective (source_of t) None → related ≡ related_of t → start ≡ []
     → a ≡ start ++ head_rows (head t) → b ≡ a ++ causes_if s.cause_chain (causes_of (cause_of t))
-    → AppendsBelow s.context_lines source (head t) b q → AppendsRelated s.context_lines source related q r
+    → AppendsBelow s.context_lines source (head t) b q → AppendsNarratedRelated s.context_lines source related q r
     → new ≡ r ++ row_if [] s.footer → IsNarrated s t new
 whole_told s (tree m own c rs) source related start a b q r new es er empty e f below others i =
     let eff = effective own None in
     let here : AppendsBelow s.context_lines eff m b q = subst (λ o. AppendsBelow s.context_lines o m b q) es below in
-    let there : AppendsRelated s.context_lines eff rs q r = subst (λ ts. AppendsRelated s.context_lines eff ts q r) er
-    (subst (λ o. AppendsRelated s.context_lines o related q r) es others) in
+    let there : AppendsNarratedRelated s.context_lines eff rs q r = subst (λ ts. AppendsNarratedRelated s.context_lines
+    eff ts q r) er
+    (subst (λ o. AppendsNarratedRelated s.context_lines o related q r) es others) in
     let text : Option Source → List ℕ = λ o. head_rows m ++ (causes_if s.cause_chain (causes_of c)
-    ++ (rows_below s.context_lines o here.answers m
+    ++ (rows_below_causes s.context_lines o here.answers m
     ++ ((blank_before rs ++ related_reports s.context_lines o there.answers rs) ++ row_if [] s.footer))) in
     let made : new ≡ text eff =
     whole_joined start a b q r new (head_rows m) (causes_if s.cause_chain (causes_of c))
-    (rows_below s.context_lines eff here.answers m)
+    (rows_below_causes s.context_lines eff here.answers m)
     (blank_before rs ++ related_reports s.context_lines eff there.answers rs) (row_if [] s.footer)
     empty e f here.appended there.appended i in
     record {
@@ -153,47 +158,51 @@ same_snippets context (Some source) fails (l ∷ ls) h e =
     (map (label_range (length source.bytes)) (in_order (l ∷ ls))))
     (grouped_none context source fails (in_order (l ∷ ls)) (h.always e))
 
-same_further : (context : ℕ) (fails : List (List Bool)) (sections : List Section) → AreFurther fails sections
-    → holds_further always_reads sections ≡ true → further_rows context fails sections
+same_further : (context : ℕ) (fails : List (List Bool)) (sections : List Section) → AreFurtherReads fails sections
+    → further_pass always_reads sections ≡ true → further_rows context fails sections
     ≡ further_rows context [] sections
 same_further context fails [] h e = refl
 same_further context fails (s ∷ ss) h e =
-    let p = and_parts (always_reads (Some s.source) s.labels) (holds_further always_reads ss) e in
+    let p = and_parts (always_reads (Some s.source) s.labels) (further_pass always_reads ss) e in
     ap₂ (λ x y. x ++ y) (same_snippets context (Some s.source) (first_fails fails) s.labels h.0 p.0)
     (same_further context (later_fails fails) ss h.1 p.1)
 
-same_all : (context : ℕ) (source : Option Source) (a : ReadAnswers) (m : Diagnosis) → ArePossible source a m
-    → always_reads source (given_labels m.labels) ≡ true → holds_further always_reads m.snippets ≡ true
-    → all_snippets context source a m ≡ all_snippets context source none_failed m
+same_all : (context : ℕ) (source : Option Source) (a : NarratedReadAnswers) (m : Diagnosis)
+    → ArePossibleReads source a m
+    → always_reads source (given_labels m.labels) ≡ true → further_pass always_reads m.snippets ≡ true
+    → all_narrated_snippets context source a m ≡ all_narrated_snippets context source no_failed_reads m
 same_all context source a m h own further =
     ap₂ (λ x y. x ++ y) (same_snippets context source a.own (given_labels m.labels) h.0 own)
     (same_further context a.further m.snippets h.1 further)
 
-same_below : (context : ℕ) (source : Option Source) (a : ReadAnswers) (m : Diagnosis) → ArePossible source a m
-    → always_reads source (given_labels m.labels) ≡ true → holds_further always_reads m.snippets ≡ true
-    → reads_for source m.fixes ≡ true → rows_below context source a m ≡ rows_below context source none_failed m
+same_below : (context : ℕ) (source : Option Source) (a : NarratedReadAnswers) (m : Diagnosis)
+    → ArePossibleReads source a m
+    → always_reads source (given_labels m.labels) ≡ true → further_pass always_reads m.snippets ≡ true
+    → reads_for_fixes source m.fixes ≡ true → rows_below_causes context source a m
+    ≡ rows_below_causes context source no_failed_reads m
 same_below context source a m h own further fixes =
     ap₂ (λ x y. x ++ y) (same_all context source a m h own further) (same_advice source a.fixes m h.2 fixes)
 
 mutual
   same_report : (context : ℕ) (inherited : Option Source) (a : Answers) (t : Tree) → AreAnswers inherited a t
-      → holds_of always_reads inherited t ≡ true → fixes_below inherited t ≡ true → related_report context inherited a t
+      → report_passes always_reads inherited t ≡ true → fixes_below inherited t ≡ true
+      → related_report context inherited a t
       ≡ related_report context inherited unlisted t
   same_report context inherited a (tree m s c r) h e f =
       let own = effective s inherited in
       let p = own_holds always_reads m s inherited c r e in
-      let q = and_parts (reads_for own m.fixes) (all_fixes_below own r) f in
-      ap₂ (λ x y. titled_rows m ++ (cause_rows (causes_of c) ++ (x ++ (blank_before r ++ y))))
-      (same_below context own (own_answer a) m h.0 p.0 (further_holds always_reads m s inherited c r e) q.0)
+      let q = and_parts (reads_for_fixes own m.fixes) (all_fixes_below own r) f in
+      ap₂ (λ x y. related_head_rows m ++ (cause_rows (causes_of c) ++ (x ++ (blank_before r ++ y))))
+      (same_below context own (own_narrated_answer a) m h.0 p.0 (further_holds always_reads m s inherited c r e) q.0)
       (same_reports context own (related_answers a) r h.1 p.1 q.1)
 
-  same_reports : (context : ℕ) (inherited : Option Source) (more : AnswerTrees ReadAnswers) (ts : Trees)
-      → AllAnswers inherited more ts → holds_of_all always_reads inherited ts ≡ true
+  same_reports : (context : ℕ) (inherited : Option Source) (more : AnswerTrees NarratedReadAnswers) (ts : Trees)
+      → AllAnswers inherited more ts → reports_pass always_reads inherited ts ≡ true
       → all_fixes_below inherited ts ≡ true
       → related_reports context inherited more ts ≡ related_reports context inherited no_more ts
   same_reports context inherited more no_trees h e f = refl
   same_reports context inherited more (more_trees t ts) h e f =
-      let p = and_parts (holds_of always_reads inherited t) (holds_of_all always_reads inherited ts) e in
+      let p = and_parts (report_passes always_reads inherited t) (reports_pass always_reads inherited ts) e in
       let q = and_parts (fixes_below inherited t) (all_fixes_below inherited ts) f in
       ap₂ (λ x y. x ++ y) (same_report context inherited (first_answers more) t h.0 p.0 q.0)
       (same_reports context inherited (later_answers more) ts h.1 p.1 q.1)
@@ -202,15 +211,15 @@ same_whole : (s : NarrationSettings) (t : Tree) (a : Answers) → AreAnswers Non
     → fixes_read t ≡ true → narration s t a ≡ narration s t unlisted
 same_whole s (tree m own c r) a h e f =
     let p = own_holds always_reads m own None c r e in
-    let q = and_parts (reads_for (effective own None) m.fixes) (all_fixes_below (effective own None) r) f in
+    let q = and_parts (reads_for_fixes (effective own None) m.fixes) (all_fixes_below (effective own None) r) f in
     let g = λ (x y : List ℕ). head_rows m ++ (causes_if s.cause_chain (causes_of c)
     ++ (x ++ ((blank_before r ++ y) ++ row_if [] s.footer))) in
     let e0 = own_none own in
     ap₂ g
-    (ap (λ o. rows_below s.context_lines o (own_answer a) m) (sym e0)
-    ∙ same_below s.context_lines (effective own None) (own_answer a) m h.0 p.0
+    (ap (λ o. rows_below_causes s.context_lines o (own_narrated_answer a) m) (sym e0)
+    ∙ same_below s.context_lines (effective own None) (own_narrated_answer a) m h.0 p.0
     (further_holds always_reads m own None c r e) q.0
-    ∙ ap (λ o. rows_below s.context_lines o none_failed m) e0)
+    ∙ ap (λ o. rows_below_causes s.context_lines o no_failed_reads m) e0)
     (ap (λ o. related_reports s.context_lines o (related_answers a) r) (sym e0)
     ∙ same_reports s.context_lines (effective own None) (related_answers a) r h.1 p.1 q.1
     ∙ ap (λ o. related_reports s.context_lines o no_more r) e0)

@@ -1,5 +1,5 @@
--- The code's own steps, which no rule names.
-pub mod Sweeping
+-- Helper definitions of the code that no rule mentions.
+pub mod LabelSweep
 pub mod Ends
 pub mod Conversions
 pub mod NarrationSettings

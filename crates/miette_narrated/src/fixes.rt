@@ -6,35 +6,35 @@ ghost use Rattle.std.specs.Option.{option_map};
 ghost use Rattle.json.specs.Print.{quoted};
 ghost use Rattle.miette_fixes.specs.rules.Edits.{ends_after};
 ghost use Rattle.miette_fixes.specs.views.Ordered.{edits_of};
-ghost use Rattle.miette_tree.specs.views.Owned.{shown_source};
-ghost use Rattle.miette_narrated.specs.rules.Fixes.{verb_text, text_told, edit_row, edit_rows, failure_row};
-ghost use Rattle.miette_narrated.specs.rules.Fixes.{applied_rows, fix_rows, fixes_rows, read};
-ghost use Rattle.miette_narrated.specs.steps.AppendedParts.{AppendsFixes};
-ghost use Rattle.miette_narrated.specs.steps.EditPlaces.{IsKept};
-ghost use Rattle.miette_narrated.specs.steps.FixSources.{fixed_over};
+ghost use Rattle.miette_tree.specs.views.Owned.{ref_source};
+ghost use Rattle.miette_narrated.specs.rules.Fixes.{verb_text, edit_text_part, edit_row, edit_rows, failure_row};
+ghost use Rattle.miette_narrated.specs.rules.Fixes.{applied_rows, narrated_fix_rows, narrated_fixes_rows, read};
+ghost use Rattle.miette_narrated.specs.steps.AppendedParts.{AppendsNarratedFixes};
+ghost use Rattle.miette_narrated.specs.steps.EditPlaces.{IsCachedLine};
+ghost use Rattle.miette_narrated.specs.steps.FixSources.{narrated_origin_of};
 
-use crate::decoding::push_decoded;
-use crate::edit_places::{KeptLine, kept_first, place_of, push_span};
-use crate::words::{Appended, push_row};
+use crate::characters::push_decoded;
+use crate::edit_places::{CachedLine, cached_first_line, edit_place_at, push_span};
+use crate::rows::{AppendResult, push_row};
 use json::Writer;
-use miette_basics::sums::sum;
-use miette_fixes::apply::checked;
+use miette_fixes::apply::check_edits;
 use miette_fixes::fix::{Edit, Fix, FixError};
+use miette_lines::sums::sum;
 use miette_protocol::protocol::{SourceOffset, SourceSpan};
 use miette_protocol::source::{IndexedSource, SourceCode};
 use miette_tree::report::SourceRef;
 use std::alloc::{AllocError, Global};
 
-/// What fixes are told over: no source, one that could not be read, or one whose lines are found.
+/// The source that fixes apply to: none, one that could not be read, or one with an index of its lines.
 #[derive(Clone, Copy)]
-pub(crate) enum FixSource<'a> {
+pub(crate) enum NarratedFixSource<'a> {
     Nowhere,
     Unread,
     Lines(&'a IndexedSource),
 }
 
 /// `"a\n"`
-fn push_quoted(out: &mut String, text: &str) -> Appended
+fn push_quoted(out: &mut String, text: &str) -> AppendResult
     ensures { OnOk result (string_bytes out.new ≡ string_bytes out.old ++ quoted text.now) }
 {
     let mut writer = Writer::new(Vec::new(*out.allocator()));
@@ -43,7 +43,7 @@ fn push_quoted(out: &mut String, text: &str) -> Appended
     push_decoded(out, written.as_slice())
 }
 
-/// What an edit does.
+/// The verb that describes an edit.
 fn verb(edit: &Edit) -> &'static str
     ensures { result.now ≡ verb_text edit.now }
 {
@@ -56,9 +56,9 @@ fn verb(edit: &Edit) -> &'static str
     }
 }
 
-/// The text of an edit, where it is told.
-fn push_text(out: &mut String, edit: &Edit) -> Appended
-    ensures { OnOk result (string_bytes out.new ≡ string_bytes out.old ++ text_told edit.now) }
+/// Appends the text of an edit. A deletion has none.
+fn push_text(out: &mut String, edit: &Edit) -> AppendResult
+    ensures { OnOk result (string_bytes out.new ≡ string_bytes out.old ++ edit_text_part edit.now) }
 {
     if edit.len() == 0 {
         out.push_str(": ")?;
@@ -77,28 +77,33 @@ fn push_edit<'a>(
     alloc: Global,
     source: &'a IndexedSource,
     edit: &Edit,
-    kept: &mut KeptLine<'a>,
-) -> Appended
+    kept: &mut CachedLine<'a>,
+) -> AppendResult
     requires within { ends_after (length source.now) edit.now ≡ false }
-    requires kept { IsKept source.now kept.old }
+    requires kept { IsCachedLine source.now kept.old }
     ensures row { OnOk result (string_bytes out.new ≡ string_bytes out.old ++ edit_row source.now edit.now) }
-    ensures kept { OnOk result (IsKept source.now kept.new) }
+    ensures kept { OnOk result (IsCachedLine source.now kept.new) }
 {
-    let from = place_of(alloc, source, edit.offset(), kept)?;
-    let to = place_of(alloc, source, sum(edit.offset(), edit.len())?, kept)?;
+    let from = edit_place_at(alloc, source, edit.offset(), kept)?;
+    let to = edit_place_at(alloc, source, sum(edit.offset(), edit.len())?, kept)?;
     out.push_str(verb(edit))?;
     push_span(out, from, to)?;
     push_text(out, edit)?;
     out.push_str("\n")
 }
 
-/// The rows of edits in their order, none of which ends after the source's end.
-fn push_edits(out: &mut String, alloc: Global, source: &IndexedSource, edits: &[&Edit]) -> Appended
+/// Appends a line for each edit, in order. No edit may end after the source's end.
+fn push_edits(
+    out: &mut String,
+    alloc: Global,
+    source: &IndexedSource,
+    edits: &[&Edit],
+) -> AppendResult
     requires { list_any (ends_after (length source.now)) (edits_of edits.now) ≡ false }
     ensures { OnOk result (string_bytes out.new
         ≡ string_bytes out.old ++ edit_rows source.now (edits_of edits.now)) }
 {
-    let mut kept = kept_first(alloc, source.bytes())?;
+    let mut kept = cached_first_line(alloc, source.bytes())?;
     for edit in edits {
         push_edit(out, alloc, source, edit, &mut kept)?;
     }
@@ -106,17 +111,22 @@ fn push_edits(out: &mut String, alloc: Global, source: &IndexedSource, edits: &[
 }
 
 /// `    failed to apply: OutOfBounds`
-fn push_failure(out: &mut String, reason: &str) -> Appended
+fn push_failure(out: &mut String, reason: &str) -> AppendResult
     ensures { OnOk result (string_bytes out.new ≡ string_bytes out.old ++ failure_row reason.now) }
 {
     push_row(out, "    failed to apply: ", reason)
 }
 
-/// The rows of edits by offset, or why they can't be applied.
-fn push_applied(out: &mut String, alloc: Global, source: &IndexedSource, edits: &[Edit]) -> Appended
+/// Appends a line for each edit, by offset, or the reason why they can't be applied.
+fn push_applied(
+    out: &mut String,
+    alloc: Global,
+    source: &IndexedSource,
+    edits: &[Edit],
+) -> AppendResult
     ensures { OnOk result (string_bytes out.new ≡ string_bytes out.old ++ applied_rows source.now edits.now) }
 {
-    match checked(alloc, source.bytes().len(), edits) {
+    match check_edits(alloc, source.bytes().len(), edits) {
         Ok(list) => push_edits(out, alloc, source, &list),
         Err(FixError::OutOfBounds) => push_failure(out, "OutOfBounds"),
         Err(FixError::Overlap) => push_failure(out, "Overlap"),
@@ -124,24 +134,36 @@ fn push_applied(out: &mut String, alloc: Global, source: &IndexedSource, edits: 
     }
 }
 
-/// A fix: its message, and then its edits where it has some.
-fn push_fix(out: &mut String, alloc: Global, over: &FixSource<'_>, fix: &Fix) -> Appended
-    ensures { OnOk result (string_bytes out.new ≡ string_bytes out.old ++ fix_rows (fixed_over over.now) fix.now) }
+/// Appends a fix: its message, and its edits if it has any.
+fn push_fix(
+    out: &mut String,
+    alloc: Global,
+    over: &NarratedFixSource<'_>,
+    fix: &Fix,
+) -> AppendResult
+    ensures { OnOk result (string_bytes out.new ≡ string_bytes out.old
+        ++ narrated_fix_rows (narrated_origin_of over.now) fix.now) }
 {
     push_row(out, "diagnostic fix: ", fix.message())?;
     if fix.edits().is_empty() {
         return Ok(());
     }
     match over {
-        FixSource::Nowhere => Ok(()),
-        FixSource::Unread => push_failure(out, "IoError"),
-        FixSource::Lines(source) => push_applied(out, alloc, source, fix.edits()),
+        NarratedFixSource::Nowhere => Ok(()),
+        NarratedFixSource::Unread => push_failure(out, "IoError"),
+        NarratedFixSource::Lines(source) => push_applied(out, alloc, source, fix.edits()),
     }
 }
 
-/// The fixes, in the order given.
-fn push_each(out: &mut String, alloc: Global, over: &FixSource<'_>, fixes: &[Fix]) -> Appended
-    ensures { OnOk result (string_bytes out.new ≡ string_bytes out.old ++ fixes_rows (fixed_over over.now) fixes.now) }
+/// Appends the fixes in the given order.
+fn push_each(
+    out: &mut String,
+    alloc: Global,
+    over: &NarratedFixSource<'_>,
+    fixes: &[Fix],
+) -> AppendResult
+    ensures { OnOk result (string_bytes out.new ≡ string_bytes out.old
+        ++ narrated_fixes_rows (narrated_origin_of over.now) fixes.now) }
 {
     for fix in fixes {
         push_fix(out, alloc, over, fix)?;
@@ -149,33 +171,34 @@ fn push_each(out: &mut String, alloc: Global, over: &FixSource<'_>, fixes: &[Fix
     Ok(())
 }
 
-/// The fixes over bytes.
-fn push_over(out: &mut String, alloc: Global, bytes: &[u8], fixes: &[Fix]) -> Appended
-    ensures { OnOk result (string_bytes out.new ≡ string_bytes out.old ++ fixes_rows (read bytes.now) fixes.now) }
+/// Appends the fixes of a source with these bytes.
+fn push_over(out: &mut String, alloc: Global, bytes: &[u8], fixes: &[Fix]) -> AppendResult
+    ensures { OnOk result (string_bytes out.new ≡ string_bytes out.old
+        ++ narrated_fixes_rows (read bytes.now) fixes.now) }
 {
     let source = IndexedSource::new(alloc, bytes.to_vec(alloc)?)?;
-    push_each(out, alloc, &FixSource::Lines(&source), fixes)
+    push_each(out, alloc, &NarratedFixSource::Lines(&source), fixes)
 }
 
-/// The fixes over a source, which is read once for all of them, as a whole.
+/// Appends the fixes of a source. The source is read once, as a whole.
 pub(crate) fn push_fixes<S: SourceCode>(
     out: &mut String,
     alloc: Global,
     fixes: &[Fix],
     source: Option<SourceRef<'_, S>>,
-) -> Appended
-    ensures { OnOk result (AppendsFixes (option_map (shown_source S.source) source.entry) fixes.now
+) -> AppendResult
+    ensures { OnOk result (AppendsNarratedFixes (option_map (ref_source S.source) source.entry) fixes.now
         (string_bytes out.old) (string_bytes out.new)) }
 {
     if fixes.is_empty() {
         return Ok(());
     }
     let Some(source) = source else {
-        return push_each(out, alloc, &FixSource::Nowhere, fixes);
+        return push_each(out, alloc, &NarratedFixSource::Nowhere, fixes);
     };
     let begin = SourceSpan::new(SourceOffset::from(0), 0);
     match source.read_span(&begin, 1, usize::MAX) {
         Ok(contents) => push_over(out, alloc, contents.data(), fixes),
-        Err(_) => push_each(out, alloc, &FixSource::Unread, fixes),
+        Err(_) => push_each(out, alloc, &NarratedFixSource::Unread, fixes),
     }
 }

@@ -1,12 +1,12 @@
-//! The handler of narrated reports.
+//! The narrated handler.
 
 ghost use Rattle.std.specs.Prelude.{◌≡◌, ◌++◌, true, false, Some, OnOk, OnErr, string_bytes, option_copied};
 ghost use Rattle.miette_tree.specs.views.Report.{tree_of};
-ghost use Rattle.miette_tree.specs.rules.Reads.{report_reads, report_accepted};
+ghost use Rattle.miette_tree.specs.rules.Reads.{report_reads, report_in_bounds};
 ghost use Rattle.miette_tree.specs.views.Handler.{AppendsOne};
-ghost use Rattle.miette_narrated.specs.rules.Report.{default_settings, narration, unlisted};
+ghost use Rattle.miette_narrated.specs.rules.Report.{default_narration_settings, narration, unlisted};
 ghost use Rattle.miette_narrated.specs.rules.PossibleAnswers.{IsNarrated, fixes_read};
-ghost use Rattle.miette_narrated.specs.steps.NarrationSettings.{settings_of};
+ghost use Rattle.miette_narrated.specs.steps.NarrationSettings.{narration_settings_of};
 
 use crate::report::narration_of;
 use crate::settings::NarrationSettings;
@@ -14,13 +14,13 @@ use miette_protocol::error::RenderError;
 use miette_protocol::protocol::Diagnostic;
 use miette_protocol::source::SourceCode;
 use miette_tree::report::Report;
-use miette_tree::text_handler::{TextHandler, append_text};
+use miette_tree::text_handler::{TextHandler, append_report_text};
 use std::alloc::{AllocError, Global};
 use std::marker::Model;
 
-/// Tells a report in rows of plain words, for people who hear it read: no pictures, no colours, no wrapping.
+/// Renders a report in plain sentences for people who use a screen reader: no drawing, no colors, no wrapping.
 ///
-/// All calls but `render_report`, `render` and `clone`, and `debug` and `display` of a `ReportHandler`, take no memory.
+/// Only `render_report`, `render`, `clone`, and `debug` and `display` of `ReportHandler` allocate.
 #[derive(Debug, Drop)]
 pub struct NarratableReportHandler {
     cause_chain: bool,
@@ -41,7 +41,7 @@ impl Model for NarratableReportHandler {
     } };
 }
 
-/// A clone has the same settings; `AllocError` where memory is refused.
+/// Returns a handler with the same settings, or `AllocError` if allocation fails.
 impl Clone for NarratableReportHandler {
     ghost use Rattle.std.specs.Prelude.{◌≡◌};
 
@@ -55,12 +55,12 @@ impl Clone for NarratableReportHandler {
     }
 }
 
-/// As `new`.
+/// Same as `new`.
 impl Default for NarratableReportHandler {
     ghost use Rattle.std.specs.Prelude.{◌≡◌};
-    ghost use Rattle.miette_narrated.specs.rules.Report.{default_settings};
+    ghost use Rattle.miette_narrated.specs.rules.Report.{default_narration_settings};
 
-    ghost is_default = { λ it. it ≡ default_settings };
+    ghost is_default = { λ it. it ≡ default_narration_settings };
 
     fn default() -> Self {
         NarratableReportHandler::new()
@@ -68,9 +68,9 @@ impl Default for NarratableReportHandler {
 }
 
 impl NarratableReportHandler {
-    /// A handler that tells causes, one line of context, and no footer.
+    /// Creates a handler that prints causes and one line of context, without a footer.
     pub fn new() -> Self
-        ensures { result ≡ default_settings }
+        ensures { result ≡ default_narration_settings }
     {
         NarratableReportHandler {
             cause_chain: true,
@@ -79,21 +79,21 @@ impl NarratableReportHandler {
         }
     }
 
-    /// The causes of the report are told.
+    /// Prints the causes of the report.
     pub fn with_cause_chain(self) -> Self
         ensures { result ≡ record self { cause_chain = true } }
     {
-        self.telling_causes(true)
+        self.set_cause_chain(true)
     }
 
-    /// The causes of the report are not told; those of related reports are.
+    /// Leaves out the causes of the report. The causes of related reports are still printed.
     pub fn without_cause_chain(self) -> Self
         ensures { result ≡ record self { cause_chain = false } }
     {
-        self.telling_causes(false)
+        self.set_cause_chain(false)
     }
 
-    fn telling_causes(self, cause_chain: bool) -> Self
+    fn set_cause_chain(self, cause_chain: bool) -> Self
         ensures { result ≡ record self { cause_chain = cause_chain } }
     {
         NarratableReportHandler {
@@ -102,7 +102,7 @@ impl NarratableReportHandler {
         }
     }
 
-    /// A text as the last row.
+    /// Prints this text as the last line.
     pub fn with_footer(self, footer: String) -> Self
         ensures { result ≡ record self { footer = Some (string_bytes footer) } }
     {
@@ -112,7 +112,7 @@ impl NarratableReportHandler {
         }
     }
 
-    /// How many lines of context are told around a label that has no number of its own.
+    /// Sets the number of context lines around labels that have no number of their own.
     pub fn with_context_lines(self, lines: usize) -> Self
         ensures { result ≡ record self { context_lines = lines } }
     {
@@ -123,7 +123,7 @@ impl NarratableReportHandler {
     }
 
     fn settings(&self) -> NarrationSettings<'_>
-        ensures { settings_of result ≡ self.now }
+        ensures { narration_settings_of result ≡ self.now }
     {
         NarrationSettings {
             cause_chain: self.cause_chain,
@@ -141,15 +141,16 @@ impl NarratableReportHandler {
         }
     }
 
-    /// Appends the narrated text of a report. After an error `out` is as before: `Memory` where memory was refused,
-    /// `Refused` where a label that is told isn't accepted, or where a source that doesn't always read refused one,
-    /// or a group of labels of which one has its own number of context lines, which is read again.
+    /// Appends the narrated text of a report. If it fails, `out` is unchanged. Returns `Memory` if allocation fails.
+    /// Returns `Refused` if a label of the report or of a related one is out of bounds, or if a source that doesn't
+    /// always read refuses a read. A group of labels in which one has its own number of context lines is read again,
+    /// and that read may be refused too.
     pub fn render_report(&self, report: &Report, out: &mut String) -> Result<(), RenderError>
-        // a text for answers that the sources can have given
+        // the text is one for answers that the sources can give
         ensures text { OnOk result (AppendsOne (IsNarrated self.now
             (tree_of ⟦<Box<dyn Diagnostic> as Diagnostic>⟧.meaning ⟦<Box<dyn SourceCode> as SourceCode>⟧.source
             report.now)) (string_bytes out.old) (string_bytes out.new)) }
-        // where every source that labels or fixes are read from always reads, there is one such text
+        // if every source that labels or fixes use always reads, there is exactly one such text
         ensures only { OnOk result (report_reads
             (tree_of ⟦<Box<dyn Diagnostic> as Diagnostic>⟧.meaning ⟦<Box<dyn SourceCode> as SourceCode>⟧.source
             report.now) ≡ true → fixes_read (tree_of ⟦<Box<dyn Diagnostic> as Diagnostic>⟧.meaning
@@ -158,14 +159,14 @@ impl NarratableReportHandler {
             ++ narration self.now (tree_of ⟦<Box<dyn Diagnostic> as Diagnostic>⟧.meaning
             ⟦<Box<dyn SourceCode> as SourceCode>⟧.source report.now) unlisted) }
         ensures refused { (result ≡ Err RenderError.Refused) →
-            report_accepted (tree_of ⟦<Box<dyn Diagnostic> as Diagnostic>⟧.meaning
+            report_in_bounds (tree_of ⟦<Box<dyn Diagnostic> as Diagnostic>⟧.meaning
             ⟦<Box<dyn SourceCode> as SourceCode>⟧.source report.now) ≡ false }
         ensures err { OnErr result (string_bytes out.new ≡ string_bytes out.old) }
     {
         self.render(report, out)
     }
 
-    /// The same of a report of diagnostics and sources of any kind, with the same errors.
+    /// Same as `render_report`, for diagnostics and sources of any type.
     pub fn render<D: Diagnostic, S: SourceCode>(
         &self,
         report: &Report<D, S>,
@@ -178,17 +179,17 @@ impl NarratableReportHandler {
             string_bytes out.new ≡ string_bytes out.old
             ++ narration self.now (tree_of D.meaning S.source report.now) unlisted) }
         ensures refused { (result ≡ Err RenderError.Refused) →
-            report_accepted (tree_of D.meaning S.source report.now) ≡ false }
+            report_in_bounds (tree_of D.meaning S.source report.now) ≡ false }
         ensures err { OnErr result (string_bytes out.new ≡ string_bytes out.old) }
     {
-        append_text(out, self, report)
+        append_report_text(out, self, report)
     }
 }
 
 impl TextHandler for NarratableReportHandler {
     ghost texts = { IsNarrated };
 
-    ghost refusals = { λ _ tree. report_accepted tree ≡ false };
+    ghost refusals = { λ _ tree. report_in_bounds tree ≡ false };
 
     fn text_of<D: Diagnostic, S: SourceCode>(
         &self,

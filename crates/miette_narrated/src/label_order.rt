@@ -1,32 +1,32 @@
-//! The labels of a source, in the orders in which a snippet's lines ask for them.
+//! The labels of a source, sorted in the two orders that the lines of a snippet need.
 
 ghost use Rattle.std.specs.Prelude.{◌≡◌, nat_lt, IfOk};
 ghost use Rattle.std.specs.List.{filter};
 ghost use Rattle.std.specs.List.Sorted.{IsNonDecreasingBy};
-ghost use Rattle.miette_source_lines.specs.views.Walking.{line_of_text};
+ghost use Rattle.miette_lines.specs.views.Walking.{line_of_text};
 ghost use Rattle.miette_narrated.specs.steps.Ends.{is_begun, is_ended, ends_within, without_ranks, ranked_labels};
 ghost use Rattle.miette_narrated.specs.steps.Ends.{AreEnds, IsOrder};
-ghost use Rattle.miette_narrated.specs.steps.Sweeping.{AreOrdered};
+ghost use Rattle.miette_narrated.specs.steps.LabelSweep.{AreOrdered};
 
-use miette_label_rules::placed::PlacedLabel;
-use miette_source_lines::lines::LineOfText;
+use miette_labels::placed::PlacedLabel;
+use miette_lines::lines::LineOfText;
 use std::alloc::{AllocError, Global};
 
-/// A label, and how many come before it by offset.
+/// A label and its rank: the number of labels before it by offset.
 #[derive(Clone, Copy, Drop)]
 pub(crate) struct RankedLabel<'a> {
     pub(crate) rank: usize,
     pub(crate) label: PlacedLabel<'a>,
 }
 
-/// The labels as they are placed, by offset, and by where they end.
+/// The labels sorted by offset, and the same labels sorted by where they end.
 #[derive(Clone, Copy)]
 pub(crate) struct LabelOrder<'a> {
     pub(crate) placed: &'a [PlacedLabel<'a>],
     pub(crate) ends: &'a [RankedLabel<'a>],
 }
 
-// Each label with its rank.
+// Adds to each label its rank.
 fn with_ranks<'a>(
     alloc: Global,
     placed: &[PlacedLabel<'a>],
@@ -44,7 +44,7 @@ fn with_ranks<'a>(
     Ok(made)
 }
 
-/// Labels that come by offset, by where they end.
+/// Sorts labels by where they end. `placed` is sorted by offset.
 pub(crate) fn by_end<'a>(
     alloc: Global,
     placed: &[PlacedLabel<'a>],
@@ -56,7 +56,7 @@ pub(crate) fn by_end<'a>(
     Ok(ends)
 }
 
-// Of labels by where they end those that end within a line's text, found by halving.
+// Returns the labels that end within a line's text, found by binary search. `ends` is sorted by where labels end.
 fn labels_ending_on<'a>(ends: &'a [RankedLabel<'a>], line: &LineOfText) -> &'a [RankedLabel<'a>]
     requires { IsNonDecreasingBy (λ end. end.label.after) ends.now }
     ensures { result.now ≡ filter (λ end. ends_within (line_of_text line.now) end.label) ends.now }
@@ -66,7 +66,7 @@ fn labels_ending_on<'a>(ends: &'a [RankedLabel<'a>], line: &LineOfText) -> &'a [
     &ends[first.min(after)..after]
 }
 
-// Those that begin before a place.
+// Returns the labels that begin before an offset.
 fn begun_before<'a>(
     alloc: Global,
     ends: &[RankedLabel<'a>],
@@ -83,7 +83,7 @@ fn begun_before<'a>(
     Ok(kept)
 }
 
-/// The labels that begin before a line and end within its text, by offset.
+/// Returns the labels that begin before a line and end within its text, sorted by offset.
 pub(crate) fn ended_on<'a>(
     alloc: Global,
     order: &LabelOrder<'a>,
@@ -98,7 +98,7 @@ pub(crate) fn ended_on<'a>(
     Ok(ended)
 }
 
-/// The labels that begin within a line's text, found by halving.
+/// Returns the labels that begin within a line's text, found by binary search.
 pub(crate) fn begun_on<'a>(
     placed: &'a [PlacedLabel<'a>],
     line: &LineOfText,

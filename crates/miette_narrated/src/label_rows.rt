@@ -1,7 +1,7 @@
-//! The rows of labels under a line.
+//! The lines that describe labels, below a source line.
 
 ghost use Rattle.std.specs.Prelude.{◌≡◌, ◌++◌, IfOk, OnOk, string_bytes, option_copied};
-ghost use Rattle.miette_narrated.specs.rules.Labels.{row, begins_within, reaches_line, ends_before};
+ghost use Rattle.miette_narrated.specs.rules.Labels.{row, begins_before_text_end, reaches_line, ends_before};
 ghost use Rattle.miette_narrated.specs.rules.Labels.{first_number, last_number, columns_text, text_after, whole_row};
 ghost use Rattle.miette_narrated.specs.rules.Labels.{column_row, begun_row, reaching_row, label_row};
 ghost use Rattle.miette_narrated.specs.rules.Labels.{label_rows};
@@ -10,10 +10,10 @@ ghost use Rattle.miette_narrated.specs.steps.Conversions.{range_of, ranges_of, n
 
 use crate::label_order::RankedLabel;
 use crate::narrated_line::NarratedLine;
-use crate::words::push_number;
-use miette_basics::sums::sum;
+use crate::rows::push_number;
 use miette_columns::text_columns::TextColumns;
-use miette_label_rules::placed::PlacedLabel;
+use miette_labels::placed::PlacedLabel;
+use miette_lines::sums::sum;
 use std::alloc::{AllocError, Global};
 
 /// Whether a label begins on the line or after it.
@@ -23,29 +23,29 @@ fn begins(it: &NarratedLine<'_>, label: &PlacedLabel<'_>) -> bool
     it.line.start <= label.start
 }
 
-/// Whether a label begins before the text's end.
-fn begins_within(it: &NarratedLine<'_>, label: &PlacedLabel<'_>) -> bool
-    ensures { result ≡ begins_within (narrated_line it.now) label.now.start }
+/// Whether a label begins at or before the end of the line's text.
+fn begins_before_text_end(it: &NarratedLine<'_>, label: &PlacedLabel<'_>) -> bool
+    ensures { result ≡ begins_before_text_end (narrated_line it.now) label.now.start }
 {
     label.start <= it.line.text_end
 }
 
-/// Whether a label reaches the line.
+/// Whether a label ends on the line or after it.
 fn reaches(it: &NarratedLine<'_>, label: &PlacedLabel<'_>) -> bool
     ensures { result ≡ reaches_line (narrated_line it.now) label.now.after }
 {
     it.line.start <= label.after
 }
 
-/// Whether a label ends before the text's end; on a snippet's last line also one does that begins in the data or
-/// where they end.
+/// Whether a label ends at or before the end of the line's text. On the last line of a snippet, a label that begins in
+/// the snippet's data counts as ending there.
 fn ends_before(it: &NarratedLine<'_>, label: &PlacedLabel<'_>) -> bool
     ensures { result ≡ ends_before (narrated_line it.now) label.now.start label.now.after }
 {
     label.after <= it.line.text_end || it.is_last && label.start <= it.data_end
 }
 
-/// Appends a label's text after a colon, where there is one, and a line feed.
+/// Appends a colon and the label's text, if there is one, then a line feed.
 fn push_end(out: &mut String, text: Option<&str>) -> Result<(), AllocError>
     ensures { OnOk result (string_bytes out.new
         ≡ string_bytes out.old ++ row (text_after (option_copied text.entry))) }
@@ -68,7 +68,7 @@ pub(crate) fn push_columns(out: &mut String, first: usize, last: usize) -> Resul
     push_number(out, " to ", last)
 }
 
-/// A line of a snippet, and the columns of its text, which are told by reading it.
+/// A line of a snippet, and the columns of its text.
 #[derive(Drop)]
 pub(crate) struct LabelledLine<'r, 'a> {
     alloc: Global,
@@ -78,7 +78,7 @@ pub(crate) struct LabelledLine<'r, 'a> {
 }
 
 impl<'r, 'a> LabelledLine<'r, 'a> {
-    /// A line, of whose labels `shown` may have rows under it.
+    /// Creates the columns of a line. `shown` is the number of labels that may be described below it.
     pub(crate) fn new(
         alloc: Global,
         line: &'r NarratedLine<'a>,
@@ -86,7 +86,7 @@ impl<'r, 'a> LabelledLine<'r, 'a> {
     ) -> Result<Self, AllocError>
         ensures { IfOk result (λ row. row.line.now ≡ line.now) }
     {
-        // A label has at most two columns.
+        // Two lookups per label are enough: its first and its last column.
         let columns = TextColumns::new(alloc, line.text, shown.saturating_mul(2))?;
         Ok(LabelledLine {
             alloc,
@@ -95,7 +95,7 @@ impl<'r, 'a> LabelledLine<'r, 'a> {
         })
     }
 
-    /// The number of a label's first column.
+    /// Number of a label's first column, from 1.
     fn first_number(&self, label: &PlacedLabel<'_>) -> Result<usize, AllocError>
         ensures { IfOk result (λ n. n ≡ first_number (narrated_line self.now.line.now) label.now.start) }
     {
@@ -104,7 +104,7 @@ impl<'r, 'a> LabelledLine<'r, 'a> {
         sum(before, 1)
     }
 
-    /// The number of its last column; an empty label has one column.
+    /// Number of a label's last column, from 1. An empty label has one column.
     fn last_number(&self, label: &PlacedLabel<'_>) -> Result<usize, AllocError>
         ensures { IfOk result (λ n. n ≡ last_number (narrated_line self.now.line.now) label.now.start label.now.after) }
     {
@@ -127,7 +127,7 @@ impl<'r, 'a> LabelledLine<'r, 'a> {
         push_end(out, label.text)
     }
 
-    /// The row of one column of a label: `    label starting at line 1, column 1`, whose words are given.
+    /// Appends a line that names one column: `    label starting at line 1, column 1`. `words` is its beginning.
     fn push_column(
         &self,
         out: &mut String,
@@ -143,8 +143,8 @@ impl<'r, 'a> LabelledLine<'r, 'a> {
         push_end(out, label.text)
     }
 
-    /// The row of a label that begins on the line or after it, where it has one there:
-    /// `    label starting at line 1, column 1`, or that of a label that ends there too.
+    /// Appends the line of a label that begins on the source line: `    label starting at line 1, column 1`. If the
+    /// label also ends there, the line names both columns.
     fn push_begun(&self, out: &mut String, label: &PlacedLabel<'_>) -> Result<(), AllocError>
         ensures { OnOk result (string_bytes out.new ≡ string_bytes out.old
             ++ begun_row (narrated_line self.now.line.now) (range_of label.now)) }
@@ -152,14 +152,15 @@ impl<'r, 'a> LabelledLine<'r, 'a> {
         if ends_before(self.line, label) {
             return self.push_whole(out, label);
         }
-        if !begins_within(self.line, label) {
+        if !begins_before_text_end(self.line, label) {
             return Ok(());
         }
         let first = self.first_number(label)?;
         self.push_column(out, "    label starting at line ", first, label)
     }
 
-    /// The row of a label that began before the line, where it ends there: `    label ending at line 2, column 0`
+    /// Appends the line of a label that began before the source line, if it ends there:
+    /// `    label ending at line 2, column 0`
     fn push_reaching(&self, out: &mut String, label: &PlacedLabel<'_>) -> Result<(), AllocError>
         ensures { OnOk result (string_bytes out.new ≡ string_bytes out.old
             ++ reaching_row (narrated_line self.now.line.now) (range_of label.now)) }
@@ -172,7 +173,7 @@ impl<'r, 'a> LabelledLine<'r, 'a> {
         }
     }
 
-    /// The row of a label under the line, where it has one there; one that began before the line has one where it ends.
+    /// Appends the line that describes a label below the source line, if there is one.
     fn push_label(&self, out: &mut String, label: &PlacedLabel<'_>) -> Result<(), AllocError>
         ensures { OnOk result (string_bytes out.new ≡ string_bytes out.old
             ++ label_row (narrated_line self.now.line.now) (range_of label.now)) }
@@ -186,7 +187,7 @@ impl<'r, 'a> LabelledLine<'r, 'a> {
         }
     }
 
-    /// The rows of labels under the line, in order.
+    /// Appends the lines that describe labels below the source line, in order.
     pub(crate) fn push_labels(
         &self,
         out: &mut String,
@@ -201,7 +202,7 @@ impl<'r, 'a> LabelledLine<'r, 'a> {
         Ok(())
     }
 
-    /// The rows of labels that end on the line, in order.
+    /// Appends the lines that describe labels ending on the source line, in order.
     pub(crate) fn push_ends(&self, out: &mut String, ends: &[RankedLabel]) -> Result<(), AllocError>
         ensures { OnOk result (string_bytes out.new ≡ string_bytes out.old
             ++ label_rows (narrated_line self.now.line.now) (ranges_of (without_ranks ends.now))) }

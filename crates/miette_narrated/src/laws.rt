@@ -1,5 +1,4 @@
-//! What holds of every narrated report. The law is the contract of a function that does nothing; a caller cites it by
-//! calling it.
+//! A theorem about all narrated reports. It is the contract of an empty function: call the function to use it.
 
 ghost use Rattle.std.specs.Prelude.{◌≡◌, ◌++◌, ℕ, List, true};
 ghost use Rattle.miette_tree.specs.rules.Tree.{Tree};
@@ -8,9 +7,9 @@ ghost use Rattle.miette_tree.specs.views.Handler.{AppendsOne};
 ghost use Rattle.miette_narrated.specs.rules.Report.{NarrationSettings, narration, unlisted};
 ghost use Rattle.miette_narrated.specs.rules.PossibleAnswers.{IsNarrated, fixes_read};
 
-/// Where every source that labels or fixes are read from always reads, a report has one narrated text:
-/// `ReportHandler::debug`, and what stands on it, then appends this one.
-pub fn a_read_report_has_one_text()
+/// If every source that labels or fixes use always reads, a report has exactly one narrated text.
+/// `ReportHandler::debug` then appends that text.
+pub fn narrated_report_has_one_text()
     ensures text { (s : NarrationSettings) (t : Tree) (text : List ℕ) → IsNarrated s t text → report_reads t ≡ true →
         fixes_read t ≡ true →
         text ≡ narration s t unlisted }

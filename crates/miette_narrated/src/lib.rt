@@ -1,18 +1,18 @@
-//! The narrated report: the text of a report for people who hear it read.
+//! The narrated report: plain sentences for people who use a screen reader.
 #![tactic(auto)]
 
-mod decoding;
+mod characters;
 mod edit_places;
 mod fixes;
 pub mod handler;
 mod label_order;
 mod label_rows;
+mod label_sweep;
 pub mod laws;
 mod lines;
 mod narrated_line;
 mod report;
+mod rows;
 mod sections;
 mod settings;
 mod snippets;
-mod sweeping;
-mod words;

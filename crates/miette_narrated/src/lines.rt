@@ -1,27 +1,27 @@
-//! The rows of a snippet's lines.
+//! The source lines of a snippet.
 
 ghost use Rattle.std.specs.Prelude.{◌≡◌, false, ◌++◌, ◌+◌, ◌<◌, ◌≤◌, ◌^◌, length, OnOk, string_bytes};
-ghost use Rattle.miette_label_rules.specs.rules.Contexts.{lines_of_contents};
-ghost use Rattle.miette_source_lines.specs.views.Walking.{line_of_text};
+ghost use Rattle.miette_labels.specs.rules.Contexts.{lines_of_contents};
+ghost use Rattle.miette_lines.specs.views.Walking.{line_of_text};
 ghost use Rattle.miette_narrated.specs.steps.Conversions.{ranges_of, narrated_line};
-ghost use Rattle.miette_narrated.specs.rules.Lines.{snippet_line, line_row, rows_of_line, rows_of_lines};
+ghost use Rattle.miette_narrated.specs.rules.Lines.{snippet_line, line_row, narrated_line_rows, narrated_lines_rows};
 ghost use Rattle.miette_narrated.specs.steps.Ends.{IsOrder};
 ghost use Rattle.miette_narrated.specs.rules.Labels.{label_rows};
-ghost use Rattle.miette_narrated.specs.steps.Sweeping.{IsUnderWay, last_start};
+ghost use Rattle.miette_narrated.specs.steps.LabelSweep.{IsUnderWay, last_start};
 
-use crate::decoding::push_decoded;
+use crate::characters::push_decoded;
 use crate::label_order::{LabelOrder, begun_on, ended_on};
 use crate::label_rows::LabelledLine;
+use crate::label_sweep::{LabelWalk, advance_to};
 use crate::narrated_line::NarratedLine;
-use crate::sweeping::{LabelWalk, come_to};
-use crate::words::{Appended, push_number};
-use miette_basics::sums::sum;
+use crate::rows::{AppendResult, push_number};
+use miette_lines::lines::{LineOfText, Lines};
+use miette_lines::sums::sum;
 use miette_protocol::source::MietteSpanContents;
-use miette_source_lines::lines::{LineOfText, Lines};
 use std::alloc::Global;
 
 /// `snippet line 2:   text`
-fn push_line(out: &mut String, it: &NarratedLine<'_>) -> Appended
+fn push_line(out: &mut String, it: &NarratedLine<'_>) -> AppendResult
     ensures { OnOk result (string_bytes out.new ≡ string_bytes out.old ++ line_row (narrated_line it.now)) }
 {
     push_number(out, "snippet line ", it.number)?;
@@ -30,7 +30,7 @@ fn push_line(out: &mut String, it: &NarratedLine<'_>) -> Appended
     out.push_str("\n")
 }
 
-/// Where the labels begin that may have a row on a line.
+/// The last offset at which a label described below this line may begin.
 fn last_start(it: &NarratedLine<'_>) -> usize
     ensures { result ≡ last_start (narrated_line it.now) }
 {
@@ -41,13 +41,13 @@ fn last_start(it: &NarratedLine<'_>) -> usize
     }
 }
 
-/// A line's row, and those of its labels.
-fn push_shown(out: &mut String, it: &NarratedLine<'_>, walk: &mut LabelWalk<'_>) -> Appended
+/// Appends a source line, and the lines that describe its labels.
+fn push_shown(out: &mut String, it: &NarratedLine<'_>, walk: &mut LabelWalk<'_>) -> AppendResult
     requires order { IsOrder walk.old.order }
     requires at { IsUnderWay walk.old }
     ensures rows { OnOk result (string_bytes out.new
         ≡ string_bytes out.old
-        ++ rows_of_line (ranges_of walk.old.order.placed.now) (narrated_line it.now)) }
+        ++ narrated_line_rows (ranges_of walk.old.order.placed.now) (narrated_line it.now)) }
     ensures order { walk.new.order ≡ walk.old.order }
     ensures at { OnOk result (IsUnderWay walk.new) }
 {
@@ -57,7 +57,7 @@ fn push_shown(out: &mut String, it: &NarratedLine<'_>, walk: &mut LabelWalk<'_>)
     if !it.is_last {
         return push_inner(out, alloc, it, &order);
     }
-    come_to(
+    advance_to(
         alloc,
         order.placed,
         it.line.start,
@@ -68,13 +68,14 @@ fn push_shown(out: &mut String, it: &NarratedLine<'_>, walk: &mut LabelWalk<'_>)
     row.push_labels(out, &walk.sweep.running)
 }
 
-/// The rows of labels under a line that isn't the snippet's last: only labels that begin or end there are gone through.
+/// Appends the labels of a source line that isn't the snippet's last. Only labels that begin or end on the line are
+/// visited.
 fn push_inner(
     out: &mut String,
     alloc: Global,
     it: &NarratedLine<'_>,
     order: &LabelOrder<'_>,
-) -> Appended
+) -> AppendResult
     requires order { IsOrder order.now }
     requires inner { it.now.is_last ≡ false }
     ensures { OnOk result (string_bytes out.new
@@ -89,7 +90,7 @@ fn push_inner(
     row.push_labels(out, begun)
 }
 
-/// A line of the contents that a snippet's read gave.
+/// Creates the line of a snippet from the contents of a read.
 fn narrated_line<'a>(
     contents: &'a MietteSpanContents<'_>,
     line: LineOfText,
@@ -113,17 +114,17 @@ fn narrated_line<'a>(
     }
 }
 
-/// The rows of a snippet's lines, from the contents that its read gave.
+/// Appends all source lines of a snippet, from the contents of a read.
 pub(crate) fn push_lines(
     out: &mut String,
     contents: &MietteSpanContents<'_>,
     walk: &mut LabelWalk<'_>,
-) -> Appended
+) -> AppendResult
     requires small { contents.now.span.offset + length contents.now.bytes < 2 ^ 64 }
     requires order { IsOrder walk.old.order }
     requires at { IsUnderWay walk.old }
     ensures rows { OnOk result (string_bytes out.new
-        ≡ string_bytes out.old ++ rows_of_lines (ranges_of walk.old.order.placed.now) contents.now
+        ≡ string_bytes out.old ++ narrated_lines_rows (ranges_of walk.old.order.placed.now) contents.now
         (contents.now.line + 1) (lines_of_contents contents.now)) }
     ensures order { walk.new.order ≡ walk.old.order }
     ensures at { OnOk result (IsUnderWay walk.new) }

@@ -1,9 +1,8 @@
 //! A line of a snippet.
 
-use miette_source_lines::lines::LineOfText;
+use miette_lines::lines::LineOfText;
 
-/// A line of a snippet: where it lies, its number, whether it is the snippet's last, where the snippet's data end,
-/// and the bytes of its text.
+/// A line of a snippet.
 #[derive(Clone, Copy)]
 pub(crate) struct NarratedLine<'a> {
     pub(crate) line: LineOfText,

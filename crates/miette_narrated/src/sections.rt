@@ -1,13 +1,13 @@
-//! The snippets of a report, over its first source and over further ones.
+//! The snippets of a report: those of its first source, then those of further ones.
 
 ghost use Rattle.std.specs.Prelude.{◌≡◌, false, OnOk, string_bytes, map};
 ghost use Rattle.std.specs.Option.{option_map};
-ghost use Rattle.miette_tree.specs.rules.Reads.{accepts, holds_further};
+ghost use Rattle.miette_tree.specs.rules.Reads.{accepts, further_pass};
 ghost use Rattle.miette_tree.specs.rules.Tree.{head};
-ghost use Rattle.miette_tree.specs.views.Attached.{section_of};
-ghost use Rattle.miette_tree.specs.views.Owned.{shown_source};
+ghost use Rattle.miette_tree.specs.views.Attachments.{section_of};
+ghost use Rattle.miette_tree.specs.views.Owned.{ref_source};
 ghost use Rattle.miette_tree.specs.views.Report.{tree_of};
-ghost use Rattle.miette_narrated.specs.steps.AppendedParts.{AppendsSnippets, AppendsFurther, AppendsAll};
+ghost use Rattle.miette_narrated.specs.steps.AppendedParts.{AppendsNarratedSnippets, AppendsFurther, AppendsAll};
 ghost use Rattle.miette_narrated.specs.steps.AppendedParts.{labels_accepted};
 
 use crate::snippets::push_snippets;
@@ -18,7 +18,7 @@ use miette_tree::parts::labels_of;
 use miette_tree::report::{Report, Snippets, SourceRef};
 use std::alloc::Global;
 
-/// The snippets of labels over a source, none without one.
+/// Appends the snippets of a source, or nothing without one.
 fn push_snippets_of<S: SourceCode>(
     out: &mut String,
     alloc: Global,
@@ -26,10 +26,11 @@ fn push_snippets_of<S: SourceCode>(
     labels: &[LabeledSpan],
     source: Option<SourceRef<'_, S>>,
 ) -> Result<(), RenderError>
-    ensures text { OnOk result (AppendsSnippets context (option_map (shown_source S.source) source.entry) labels.now
+    ensures text { OnOk result (AppendsNarratedSnippets context (option_map (ref_source S.source) source.entry)
+        labels.now
         (string_bytes out.old) (string_bytes out.new)) }
     ensures refused { (result ≡ Err RenderError.Refused) →
-        accepts (option_map (shown_source S.source) source.entry) labels.now ≡ false }
+        accepts (option_map (ref_source S.source) source.entry) labels.now ≡ false }
 {
     match source {
         Some(source) => push_snippets(out, alloc, context, &source, labels),
@@ -37,7 +38,7 @@ fn push_snippets_of<S: SourceCode>(
     }
 }
 
-/// The snippets over further sources, in their order.
+/// Appends the snippets of further sources, in order.
 fn push_further<S: SourceCode>(
     out: &mut String,
     alloc: Global,
@@ -47,7 +48,7 @@ fn push_further<S: SourceCode>(
     ensures text { OnOk result (AppendsFurther context (map (section_of S.source) sections.now)
         (string_bytes out.old) (string_bytes out.new)) }
     ensures refused { (result ≡ Err RenderError.Refused) →
-        holds_further accepts (map (section_of S.source) sections.now) ≡ false }
+        further_pass accepts (map (section_of S.source) sections.now) ≡ false }
 {
     for section in sections {
         push_snippets(out, alloc, context, &section.source(), section.labels())?;
@@ -55,7 +56,7 @@ fn push_further<S: SourceCode>(
     Ok(())
 }
 
-/// The snippets of a report over this source, then those over each further one.
+/// Appends the snippets of the first source, then those of each further one.
 pub(crate) fn push_all_snippets<D: Diagnostic, S: SourceCode>(
     out: &mut String,
     alloc: Global,
@@ -63,10 +64,10 @@ pub(crate) fn push_all_snippets<D: Diagnostic, S: SourceCode>(
     report: &Report<D, S>,
     source: Option<SourceRef<'_, S>>,
 ) -> Result<(), RenderError>
-    ensures text { OnOk result (AppendsAll context (option_map (shown_source S.source) source.entry)
+    ensures text { OnOk result (AppendsAll context (option_map (ref_source S.source) source.entry)
         (head (tree_of D.meaning S.source report.now)) (string_bytes out.old) (string_bytes out.new)) }
     ensures refused { (result ≡ Err RenderError.Refused) →
-        labels_accepted (option_map (shown_source S.source) source.entry)
+        labels_accepted (option_map (ref_source S.source) source.entry)
         (head (tree_of D.meaning S.source report.now)) ≡ false }
 {
     push_snippets_of(out, alloc, context, labels_of(report), source)?;

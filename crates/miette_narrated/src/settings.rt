@@ -1,6 +1,6 @@
-//! How a report is narrated.
+//! The settings of the narrated handler.
 
-/// What a report is narrated with.
+/// The settings of one rendering.
 #[derive(Clone, Copy)]
 pub(crate) struct NarrationSettings<'a> {
     pub(crate) cause_chain: bool,

@@ -1,27 +1,27 @@
-//! The rows of a diagnostic's snippets.
+//! Snippets: source lines with the labels below them.
 
 ghost use Rattle.std.specs.Prelude.{◌≡◌, ◌++◌, ◌+◌, false, Some, map, decimal, OnOk};
 ghost use Rattle.std.specs.Prelude.{string_bytes, option_copied};
 ghost use Rattle.std.specs.List.{All};
-ghost use Rattle.miette_label_rules.specs.rules.Groups.{in_order};
-ghost use Rattle.miette_label_rules.specs.views.GivenLabels.{label_at};
+ghost use Rattle.miette_labels.specs.rules.Groups.{in_order};
+ghost use Rattle.miette_labels.specs.views.ProgramLabels.{label_at};
 ghost use Rattle.miette_labels.specs.views.Reads.{IsRead};
 ghost use Rattle.miette_narrated.specs.steps.Conversions.{ranges_of};
 ghost use Rattle.miette_tree.specs.rules.Reads.{accepts};
-ghost use Rattle.miette_narrated.specs.rules.Snippets.{name_text, begin_rows, snippet};
+ghost use Rattle.miette_narrated.specs.rules.Snippets.{for_name_text, begin_rows, snippet};
 ghost use Rattle.miette_narrated.specs.steps.Ends.{IsOrder};
-ghost use Rattle.miette_narrated.specs.steps.Sweeping.{IsUnderWay};
-ghost use Rattle.miette_narrated.specs.steps.AppendedParts.{AppendsSnippets};
+ghost use Rattle.miette_narrated.specs.steps.LabelSweep.{IsUnderWay};
+ghost use Rattle.miette_narrated.specs.steps.AppendedParts.{AppendsNarratedSnippets};
 
 use crate::label_order::{LabelOrder, by_end};
+use crate::label_sweep::{LabelWalk, ReachSweep};
 use crate::lines::push_lines;
-use crate::sweeping::{LabelWalk, ReachSweep};
-use crate::words::{Appended, push_number};
-use miette_basics::sums::sum;
-use miette_labels::drawn_labels::placed_labels;
-use miette_labels::grouping::groups;
-use miette_labels::order::by_offset;
+use crate::rows::{AppendResult, push_number};
+use miette_labels::drawn_labels::place_labels;
+use miette_labels::groups::groups;
+use miette_labels::order::order_by_offset;
 use miette_labels::reading::{ReadLabel, ReadLabels, read_labels};
+use miette_lines::sums::sum;
 use miette_protocol::error::RenderError;
 use miette_protocol::laws::data_reach_the_span;
 use miette_protocol::protocol::LabeledSpan;
@@ -29,8 +29,8 @@ use miette_protocol::source::{MietteSpanContents, SourceCode};
 use std::alloc::{AllocError, Global};
 
 /// ` for bad_file.rs`
-fn push_name(out: &mut String, name: Option<&str>) -> Appended
-    ensures { OnOk result (string_bytes out.new ≡ string_bytes out.old ++ name_text (option_copied name.entry)) }
+fn push_name(out: &mut String, name: Option<&str>) -> AppendResult
+    ensures { OnOk result (string_bytes out.new ≡ string_bytes out.old ++ for_name_text (option_copied name.entry)) }
 {
     if let Some(name) = name {
         out.push_str(" for ")?;
@@ -39,15 +39,15 @@ fn push_name(out: &mut String, name: Option<&str>) -> Appended
     Ok(())
 }
 
-/// ` starting at line 1, column 1`, from a line and a column that are counted from 0
-fn push_place(out: &mut String, words: &str, before: usize) -> Appended
+/// ` starting at line 1, column 1`; `before` is counted from 0
+fn push_place(out: &mut String, words: &str, before: usize) -> AppendResult
     ensures { OnOk result (string_bytes out.new ≡ string_bytes out.old ++ (words.now ++ decimal (before + 1))) }
 {
     push_number(out, words, sum(before, 1)?)
 }
 
-/// `Begin snippet for bad_file.rs starting at line 1, column 1`, and a blank row
-fn push_begin(out: &mut String, contents: &MietteSpanContents<'_>) -> Appended
+/// `Begin snippet for bad_file.rs starting at line 1, column 1`, and a blank line
+fn push_begin(out: &mut String, contents: &MietteSpanContents<'_>) -> AppendResult
     ensures { OnOk result (string_bytes out.new ≡ string_bytes out.old ++ begin_rows contents.now) }
 {
     out.push_str("Begin snippet")?;
@@ -57,12 +57,12 @@ fn push_begin(out: &mut String, contents: &MietteSpanContents<'_>) -> Appended
     out.push_str("\n\n")
 }
 
-/// A snippet, from the contents that its read gave.
+/// Appends a snippet from the contents of a read.
 fn push_snippet(
     out: &mut String,
     contents: &MietteSpanContents<'_>,
     walk: &mut LabelWalk<'_>,
-) -> Appended
+) -> AppendResult
     requires order { IsOrder walk.old.order }
     requires at { IsUnderWay walk.old }
     ensures rows { OnOk result (string_bytes out.new
@@ -75,8 +75,8 @@ fn push_snippet(
     push_lines(out, contents, walk)
 }
 
-/// The snippets of labels that were read. Fails with `Refused` where a group of them can't be read, and with `Memory`
-/// where memory is refused.
+/// Appends the snippets of labels that were read. Returns `Refused` if a group of labels can't be read, and `Memory` if
+/// allocation fails.
 fn push_read<'a, S: SourceCode>(
     out: &mut String,
     context: usize,
@@ -86,13 +86,14 @@ fn push_read<'a, S: SourceCode>(
 ) -> Result<(), RenderError>
     requires order { map (λ read. label_at labels.now read.index) reads.now ≡ in_order labels.now }
     requires each { All (IsRead context (S.source source.now) labels.now) reads.now }
-    ensures text { OnOk result (AppendsSnippets context (Some (S.source source.now)) labels.now (string_bytes out.old)
+    ensures text { OnOk result (AppendsNarratedSnippets context (Some (S.source source.now)) labels.now
+        (string_bytes out.old)
         (string_bytes out.new)) }
     ensures refused { (result ≡ Err RenderError.Refused) → accepts (Some (S.source source.now)) labels.now ≡ false }
 {
     data_reach_the_span();
     let alloc = *out.allocator();
-    let placed = placed_labels(alloc, &[], None, labels, reads)?;
+    let placed = place_labels(alloc, &[], None, labels, reads)?;
     let Some(groups) = groups(alloc, source, context, labels, reads)? else {
         return Err(RenderError::Refused);
     };
@@ -113,8 +114,8 @@ fn push_read<'a, S: SourceCode>(
     Ok(())
 }
 
-/// The snippets of a diagnostic whose labels are given over a source. Fails with `Refused` where a label isn't
-/// accepted or can't be read, or a group can't, and with `Memory` where memory is refused.
+/// Appends the snippets of the labels over a source. Returns `Refused` if a label is out of bounds or if a read is
+/// refused, and `Memory` if allocation fails.
 pub(crate) fn push_snippets<S: SourceCode>(
     out: &mut String,
     alloc: Global,
@@ -122,11 +123,12 @@ pub(crate) fn push_snippets<S: SourceCode>(
     source: &S,
     labels: &[LabeledSpan],
 ) -> Result<(), RenderError>
-    ensures text { OnOk result (AppendsSnippets context (Some (S.source source.now)) labels.now (string_bytes out.old)
+    ensures text { OnOk result (AppendsNarratedSnippets context (Some (S.source source.now)) labels.now
+        (string_bytes out.old)
         (string_bytes out.new)) }
     ensures refused { (result ≡ Err RenderError.Refused) → accepts (Some (S.source source.now)) labels.now ≡ false }
 {
-    let order = by_offset(alloc, labels)?;
+    let order = order_by_offset(alloc, labels)?;
     match read_labels(alloc, source, context, labels, &order)? {
         ReadLabels::All(reads) => push_read(out, context, source, labels, &reads),
         ReadLabels::Refused(_, _) => Err(RenderError::Refused),

@@ -2,13 +2,13 @@
 use Rattle.std.proofs.Common.{ℕ, ◌<◌, ◌≤◌, ◌≡◌, Bool, true, false, eqb, ltb, leb, ◌&&◌, ◌||◌, List, [], ◌∷◌}
 use Rattle.std.proofs.Common.{refl, sym, ap, ◌∙◌, arith}
 use Rattle.std.proofs.lemmas.Bool.Decides.{nat_tests}
-use Rattle.miette_positions.specs.declared.marked.Target.{Target}
-use Rattle.miette_positions.specs.declared.marked.Target.TheVariants.{ToOffset, ToPosition}
-use Rattle.miette_positions.specs.declared.place.PositionEncoding.{PositionEncoding}
-use Rattle.miette_positions.specs.declared.place.Stop.{Stop}
+use Rattle.miette_positions.specs.declared.sampled_source.SearchTarget.{SearchTarget}
+use Rattle.miette_positions.specs.declared.sampled_source.SearchTarget.TheVariants.{ToOffset, ToPosition}
+use Rattle.miette_positions.specs.declared.position.PositionEncoding.{PositionEncoding}
+use Rattle.miette_positions.specs.declared.position.Stop.{Stop}
 use Rattle.miette_positions.specs.rules.Regions.{first_stop, last_stop}
 use Rattle.miette_positions.specs.rules.Stops.{stops_from}
-use Rattle.miette_positions.specs.steps.Marks.{IsMark, IsWithin, is_reached}
+use Rattle.miette_positions.specs.steps.Samples.{IsSample, IsWithin, is_reached}
 use Rattle.miette_positions.proofs.Stepping.{Later}
 
 pub last_on : (test : Stop → Bool) (s t : Stop) (ss ts : List Stop) → ss ≡ t ∷ ts → test t ≡ true →
@@ -27,7 +27,7 @@ pub first_here : (test : Stop → Bool) (s : Stop) (ss : List Stop) → test s �
 first_here test s [] h = refl
 first_here test s (t ∷ ts) h = rw h refl
 
-reached_before : (target : Target) (m n : Stop) → Later m n → is_reached target n ≡ true →
+reached_before : (target : SearchTarget) (m n : Stop) → Later m n → is_reached target n ≡ true →
     is_reached target m ≡ true
 reached_before (ToOffset at) m n l h = offsets m.offset n.offset at l.offset h
   where
@@ -41,8 +41,8 @@ reached_before (ToPosition p) m n l h =
     positions l c m d n f h g = grind (arith, nat_tests)
 
 -- after a mark the next stop is one
-pub mark_on : (e : PositionEncoding) (source : List ℕ) (m n : Stop) → IsMark e source m →
-    stops_from e source m ≡ n ∷ stops_from e source n → IsWithin source n → Later m n → IsMark e source n
+pub mark_on : (e : PositionEncoding) (source : List ℕ) (m n : Stop) → IsSample e source m →
+    stops_from e source m ≡ n ∷ stops_from e source n → IsWithin source n → Later m n → IsSample e source n
 mark_on e source m n mark next within l =
     record {
       within = within;

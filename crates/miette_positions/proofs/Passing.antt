@@ -5,16 +5,16 @@ use Rattle.std.specs.List.{list_all}
 use Rattle.std.proofs.lemmas.Bool.{and_parts, lt-ltb, ne_eqb}
 use Rattle.std.proofs.lemmas.List.{drop-drop, length-drop}
 use Rattle.bstr.specs.Utf8.{or_replacement}
-use Rattle.miette_cells.specs.rules.Cells.{characters}
-use Rattle.miette_cells.specs.views.Printable.{is_printable}
-use Rattle.miette_cells.proofs.Plaining.{ascii_decoded, plain_byte}
-use Rattle.miette_cells.proofs.Stepping.{IsFirst, made}
-use Rattle.miette_positions.specs.declared.place.PositionEncoding.{PositionEncoding}
-use Rattle.miette_positions.specs.declared.place.PositionEncoding.TheVariants.{Utf8, Utf16, Utf32}
-use Rattle.miette_positions.specs.declared.place.Stop.{Stop}
+use Rattle.miette_columns.specs.rules.Cells.{characters}
+use Rattle.miette_columns.specs.views.Printable.{is_printable}
+use Rattle.miette_columns.proofs.Plaining.{ascii_decoded, plain_byte}
+use Rattle.miette_columns.proofs.Stepping.{IsFirst, made}
+use Rattle.miette_positions.specs.declared.position.PositionEncoding.{PositionEncoding}
+use Rattle.miette_positions.specs.declared.position.PositionEncoding.TheVariants.{Utf8, Utf16, Utf32}
+use Rattle.miette_positions.specs.declared.position.Stop.{Stop}
 use Rattle.miette_positions.specs.rules.Regions.{first_stop, last_stop}
 use Rattle.miette_positions.specs.rules.Stops.{begins_with_lf, stop_past, stops_from, units}
-use Rattle.miette_positions.specs.steps.Marks.{IsMark, IsWithin}
+use Rattle.miette_positions.specs.steps.Samples.{IsSample, IsWithin}
 use Rattle.miette_positions.specs.steps.Onward.{IsOnward, onward}
 use Rattle.miette_positions.proofs.Finding.{first_on, last_on, mark_on}
 use Rattle.miette_positions.proofs.Stepping.{Later, later_one, stops_one, within_one}
@@ -88,11 +88,11 @@ onward_more n s =
     ap₂ (stop_on s.position.line) offset column
 
 mark_many : (e : PositionEncoding) (source : List ℕ) (n : ℕ) (s : Stop) → s.offset + n ≤ length source →
-    list_all is_printable (take n (drop s.offset source)) ≡ true → IsMark e source s → IsMark e source (onward n s)
-mark_many e source zero s le h m = subst (IsMark e source) (onward_none s) m
+    list_all is_printable (take n (drop s.offset source)) ≡ true → IsSample e source s → IsSample e source (onward n s)
+mark_many e source zero s le h m = subst (IsSample e source) (onward_none s) m
 mark_many e source (suc n) s le h m =
     let it = starts e source n s le h in
-    subst (IsMark e source) (onward_more n s)
+    subst (IsSample e source) (onward_more n s)
     (mark_many e source n (onward 1 s) (omega (arith, le)) it.others
     (mark_on e source s (onward 1 s) m it.next (it.within m.within) it.later))
 
@@ -127,11 +127,11 @@ first_many e source test (suc n) s le h each =
 -- ---- walks
 
 -- a walk from after them finds what one from before them does
-pub mark_after : (e : PositionEncoding) (source : List ℕ) (most : ℕ) (m s t : Stop) → IsMark e source m →
+pub mark_after : (e : PositionEncoding) (source : List ℕ) (most : ℕ) (m s t : Stop) → IsSample e source m →
     stops_from e source m ≡ s ∷ stops_from e source s → IsWithin source s → Later m s → IsOnward source most s t →
-    IsMark e source t
+    IsSample e source t
 mark_after e source most m s t mark next within later p =
-    subst (IsMark e source) (sym p.is)
+    subst (IsSample e source) (sym p.is)
     (mark_many e source p.many s p.within p.printable (mark_on e source m s mark next within later))
 
 pub last_passed : (e : PositionEncoding) (source : List ℕ) (test : Stop → Bool) (most : ℕ) (s t : Stop) →

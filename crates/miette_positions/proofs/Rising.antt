@@ -9,11 +9,11 @@ use Rattle.std.specs.Prelude.{slice_get}
 use Rattle.std.proofs.lemmas.Bool.Decides.{nat_tests}
 use Rattle.bstr.specs.Utf8.{decoded, or_replacement}
 use Rattle.bstr.proofs.lemmas.PieceLemmas.{piece-bounds}
-use Rattle.miette_cells.specs.rules.Cells.{Character, characters}
-use Rattle.miette_cells.proofs.Stepping.{characters_end, characters_step, made}
-use Rattle.miette_positions.specs.declared.place.Position.{Position}
-use Rattle.miette_positions.specs.declared.place.PositionEncoding.{PositionEncoding}
-use Rattle.miette_positions.specs.declared.place.Stop.{Stop}
+use Rattle.miette_columns.specs.rules.Cells.{Character, characters}
+use Rattle.miette_columns.proofs.Stepping.{characters_end, characters_step, made}
+use Rattle.miette_positions.specs.declared.position.Position.{Position}
+use Rattle.miette_positions.specs.declared.position.PositionEncoding.{PositionEncoding}
+use Rattle.miette_positions.specs.declared.position.Stop.{Stop}
 use Rattle.miette_positions.specs.rules.Regions.{first_stop, last_stop, is_same, offset_of, stop_after, stop_at}
 use Rattle.miette_positions.specs.rules.Regions.{stop_before}
 use Rattle.miette_positions.specs.rules.Stops.{is_pair, is_until, moved_by, start, stop_past, stops_after}

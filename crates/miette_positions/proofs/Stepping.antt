@@ -6,15 +6,15 @@ use Rattle.std.proofs.lemmas.Bool.Decides.{nat_tests}
 use Rattle.std.proofs.lemmas.Bool.{and_parts, eqb-true}
 use Rattle.std.proofs.lemmas.List.{drop-drop}
 use Rattle.bstr.specs.Utf8.{decoded, or_replacement}
-use Rattle.miette_cells.specs.rules.Cells.{Character, characters}
-use Rattle.miette_cells.proofs.Stepping.{IsFirst, characters_end, characters_step, made}
-use Rattle.miette_positions.specs.declared.place.Position.{Position}
-use Rattle.miette_positions.specs.declared.place.PositionEncoding.{PositionEncoding}
-use Rattle.miette_positions.specs.declared.place.PositionEncoding.TheVariants.{Utf8, Utf16, Utf32}
-use Rattle.miette_positions.specs.declared.place.Stop.{Stop}
+use Rattle.miette_columns.specs.rules.Cells.{Character, characters}
+use Rattle.miette_columns.proofs.Stepping.{IsFirst, characters_end, characters_step, made}
+use Rattle.miette_positions.specs.declared.position.Position.{Position}
+use Rattle.miette_positions.specs.declared.position.PositionEncoding.{PositionEncoding}
+use Rattle.miette_positions.specs.declared.position.PositionEncoding.TheVariants.{Utf8, Utf16, Utf32}
+use Rattle.miette_positions.specs.declared.position.Stop.{Stop}
 use Rattle.miette_positions.specs.rules.Stops.{begins_with_lf, is_newline, is_until, moved_by, position_after}
 use Rattle.miette_positions.specs.rules.Stops.{stop_past, stops_after, stops_from, units}
-use Rattle.miette_positions.specs.steps.Marks.{IsWithin}
+use Rattle.miette_positions.specs.steps.Samples.{IsWithin}
 
 -- ---- an LF in front
 

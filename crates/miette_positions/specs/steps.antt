@@ -1,3 +1,3 @@
--- How the code goes over a source.
-pub mod Marks
+-- How the code searches a source.
+pub mod Samples
 pub mod Onward

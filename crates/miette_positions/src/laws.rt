@@ -1,14 +1,14 @@
-//! Laws of positions. Each function does nothing: its contract is the law, and a proof above calls it.
+//! Theorems about positions. The functions do nothing; their contracts are the theorems.
 
 ghost use Rattle.std.specs.Prelude.{◌≡◌, ℕ, ◌<◌, List, slice_get, Option, Some, None, false};
 ghost use Rattle.miette_positions.specs.rules.Regions.{offset_of, stop_after, stop_at, stop_before};
 ghost use Rattle.miette_positions.specs.rules.Stops.{is_until, stops_of};
-ghost use Rattle.miette_positions.specs.declared.place.Position.{Position};
-ghost use Rattle.miette_positions.specs.declared.place.PositionEncoding.{PositionEncoding};
-ghost use Rattle.miette_positions.specs.declared.place.Stop.{Stop};
+ghost use Rattle.miette_positions.specs.declared.position.Position.{Position};
+ghost use Rattle.miette_positions.specs.declared.position.PositionEncoding.{PositionEncoding};
+ghost use Rattle.miette_positions.specs.declared.position.Stop.{Stop};
 
-/// Of the stops of a source, in order: offsets and positions rise. Each is found by its offset, and by its position,
-/// which has that offset; a position that has an offset is that of a stop there.
+/// The stops of a source have ascending offsets and positions. Each stop is found by its offset and by its position,
+/// and the position converts to that offset. A position that has an offset belongs to a stop.
 pub fn stop_laws()
     ensures rise { (e : PositionEncoding) (source : List ℕ) (i j : ℕ) (s t : Stop) → i < j →
         slice_get (stops_of e source) i ≡ Some s → slice_get (stops_of e source) j ≡ Some t →

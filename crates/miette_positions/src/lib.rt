@@ -1,10 +1,10 @@
-//! Positions: offsets of a source as lines and columns in code units, as other programs count them.
+//! Converts byte offsets to lines and columns in code units, as editors and SARIF count them, and back.
 #![tactic(auto)]
 
 pub mod index;
 pub mod laws;
-mod marked;
-pub mod place;
 mod plain;
+pub mod position;
+mod sampled_source;
 pub mod spans;
 mod stops;

@@ -1,16 +1,16 @@
-//! Stops of printable ASCII characters: each is one byte and one code unit, so that many are passed at a time.
+//! Skips printable ASCII characters. Each is one byte and one code unit, so many are skipped at once.
 
 ghost use Rattle.std.specs.Prelude.{◌≡◌, ◌≤◌, ◌+◌, drop, length, take, true};
 ghost use Rattle.std.specs.List.{list_all};
-ghost use Rattle.miette_cells.specs.views.Printable.{is_printable};
-ghost use Rattle.miette_positions.specs.steps.Marks.{IsWithin};
+ghost use Rattle.miette_columns.specs.views.Printable.{is_printable};
+ghost use Rattle.miette_positions.specs.steps.Samples.{IsWithin};
 ghost use Rattle.miette_positions.specs.steps.Onward.{IsOnward};
 
-use crate::place::{Position, Stop};
+use crate::position::{Position, Stop};
 use crate::stops::rest_from;
-use miette_cells::plain::plain_len;
+use miette_columns::plain::plain_len;
 
-// How many printable ASCII characters come next after a stop, at most `most`.
+// Counts the printable ASCII characters after a stop, up to `most`.
 fn plain_at(source: &[u8], from: Stop, most: usize) -> usize
     requires { IsWithin source.now from }
     ensures few { result ≤ most }
@@ -21,7 +21,7 @@ fn plain_at(source: &[u8], from: Stop, most: usize) -> usize
     plain_len(&rest[..rest.len().min(most)])
 }
 
-/// The stop after the printable ASCII characters that come next, at most `most`.
+/// Returns the stop after the printable ASCII characters that follow, up to `most`.
 pub(crate) fn after_plain(source: &[u8], from: Stop, most: usize) -> Stop
     requires { IsWithin source.now from }
     ensures passed { IsOnward source.now most from result }

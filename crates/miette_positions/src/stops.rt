@@ -1,17 +1,17 @@
-//! From one stop of a source to the next.
+//! Steps from one stop of a source to the next.
 
 ghost use Rattle.std.specs.Prelude.{◌≡◌, ◌<◌, ◌≤◌, ◌+◌, ◌*◌, ◌^◌, ◌∷◌, ◌==◌, ◌||◌, ◌&&◌, [], drop, false, length};
 ghost use Rattle.std.specs.Prelude.{IsNone, IfSome};
 ghost use Rattle.bstr.specs.Utf8.{decoded, or_replacement};
-ghost use Rattle.miette_cells.specs.rules.Cells.{Character, characters};
+ghost use Rattle.miette_columns.specs.rules.Cells.{Character, characters};
 ghost use Rattle.miette_positions.specs.rules.Stops.{begins_with_lf, is_newline, is_until, stop_past, stops_from};
 ghost use Rattle.miette_positions.specs.rules.Stops.{units, start};
-ghost use Rattle.miette_positions.specs.steps.Marks.{IsWithin};
+ghost use Rattle.miette_positions.specs.steps.Samples.{IsWithin};
 
-use crate::place::{Position, PositionEncoding, Stop};
-use miette_cells::cells::first_character;
+use crate::position::{Position, PositionEncoding, Stop};
+use miette_columns::cells::decode_first_char;
 
-/// The first stop of a source.
+/// Returns the first stop of a source.
 pub(crate) fn first_of_all() -> Stop
     ensures { result ≡ start }
 {
@@ -21,7 +21,8 @@ pub(crate) fn first_of_all() -> Stop
     }
 }
 
-// The first character of some bytes, U+FFFD where they begin with none, and how many bytes it takes. Most are ASCII.
+// Returns the first character of some bytes, and its length in bytes. Invalid UTF-8 gives U+FFFD. ASCII takes a fast
+// path.
 #[inline(always)]
 fn character(bytes: &[u8]) -> (char, usize)
     requires { 0 < length bytes.now }
@@ -34,10 +35,10 @@ fn character(bytes: &[u8]) -> (char, usize)
     if first < 0x80 {
         return (char::from(first), 1);
     }
-    first_character(bytes)
+    decode_first_char(bytes)
 }
 
-/// The bytes from an offset on.
+/// Returns the bytes from an offset on.
 pub(crate) fn rest_from(bytes: &[u8], at: usize) -> &[u8]
     requires { at ≤ length bytes.now }
     ensures { result.now ≡ drop at bytes.now }
@@ -45,7 +46,7 @@ pub(crate) fn rest_from(bytes: &[u8], at: usize) -> &[u8]
     &bytes[at..]
 }
 
-// Whether some bytes begin with an LF.
+// Whether bytes begin with LF.
 fn begins_with_lf(bytes: &[u8]) -> bool
     ensures { result ≡ begins_with_lf (characters bytes.now) }
 {
@@ -55,14 +56,14 @@ fn begins_with_lf(bytes: &[u8]) -> bool
     character(bytes).0 == '\n'
 }
 
-// Whether a character is a CR, and these bytes after it begin with an LF.
+// Whether a character is a CR followed by an LF.
 fn is_pair(code: char, left: &[u8]) -> bool
     ensures { result ≡ ((code == 13) && begins_with_lf (characters left.now)) }
 {
     code == '\r' && begins_with_lf(left)
 }
 
-// How many code units a character of `bytes` bytes has.
+// Counts the code units of a character of `bytes` bytes.
 fn units(encoding: PositionEncoding, code: char, bytes: usize) -> usize
     requires { 0 < bytes }
     ensures units { result ≡ units encoding (record { code = code; bytes = bytes }) }
@@ -82,7 +83,7 @@ fn is_newline(code: char) -> bool
     code == '\n' || code == '\r'
 }
 
-// The stop after a character of `bytes` bytes.
+// Returns the stop after a character of `bytes` bytes.
 fn stop_past(encoding: PositionEncoding, from: Stop, code: char, bytes: usize) -> Stop
     requires some { 0 < bytes }
     requires small { from.offset + bytes < 2 ^ 63 }
@@ -105,7 +106,7 @@ fn stop_past(encoding: PositionEncoding, from: Stop, code: char, bytes: usize) -
     Stop { offset, position }
 }
 
-/// The stop of a source after one of its stops, if there is one.
+/// Returns the stop after `from`, if there is one.
 pub(crate) fn next_stop(encoding: PositionEncoding, source: &[u8], from: Stop) -> Option<Stop>
     requires { IsWithin source.now from }
     ensures none { IsNone result → stops_from encoding source.now from ≡ [] }

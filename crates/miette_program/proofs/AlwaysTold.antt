@@ -3,24 +3,25 @@ use Rattle.std.proofs.Common.{◌≡◌, Bool, true, List, [], ◌∷◌, Option
 use Rattle.std.proofs.lemmas.Bool.{and_from, or_right}
 use Rattle.std.specs.List.{All}
 use Rattle.std.proofs.lemmas.List.Elements.{All-head, All-tail}
-use Rattle.miette_basics.specs.rules.Lists.{is_nil}
-use Rattle.miette_fixes.specs.rules.Edits.{Proposal}
+use Rattle.miette_lines.specs.rules.Lists.{is_nil}
+use Rattle.miette_fixes.specs.rules.Edits.{FixModel}
 use Rattle.miette_protocol.specs.views.Meaning.{Label}
-use Rattle.miette_protocol.specs.rules.Reading.{Source, is_accepted}
-use Rattle.miette_label_rules.specs.rules.Groups.{in_order}
+use Rattle.miette_protocol.specs.rules.Reading.{Source, is_in_bounds}
+use Rattle.miette_labels.specs.rules.Groups.{in_order}
 use Rattle.miette_tree.specs.rules.Tree.{Tree, tree, Trees, no_trees, more_trees, effective}
 use Rattle.miette_tree.specs.rules.Diagnosis.{Section}
-use Rattle.miette_tree.specs.rules.Reads.{AlwaysReads, AllAlwaysRead, holds_of}
-use Rattle.miette_tree.specs.rules.Reads.{holds_of_all, accepts, report_accepted, holds_further}
+use Rattle.miette_tree.specs.rules.Reads.{AlwaysReads, AllAlwaysRead, report_passes}
+use Rattle.miette_tree.specs.rules.Reads.{reports_pass, accepts, report_in_bounds, further_pass}
 use Rattle.miette_tree.specs.rules.Answers.{AnswerTrees}
 use Rattle.miette_tree.proofs.Nesting.{Reads, effective_reads}
 use Rattle.miette_brief.specs.rules.PossibleAnswers as briefly
 use Rattle.miette_brief.specs.rules.Report as brief
 use Rattle.miette_narrated.specs.rules.PossibleAnswers as told
-use Rattle.miette_narrated.specs.rules.Report.{Answers, ReadAnswers, related_answers, first_answers, later_answers}
-use Rattle.miette_narrated.specs.rules.Report.{first_fails, later_fails, own_answer}
+use Rattle.miette_narrated.specs.rules.Report.{Answers, NarratedReadAnswers, related_answers, first_answers}
+use Rattle.miette_narrated.specs.rules.Report.{later_answers}
+use Rattle.miette_narrated.specs.rules.Report.{first_fails, later_fails, own_narrated_answer}
 use Rattle.miette_labels.proofs.OwnContexts.{order_all}
-use Rattle.miette_picture_rules.proofs.AlwaysRead.{accept_all}
+use Rattle.miette_graphical_rules.proofs.AlwaysRead.{accept_all}
 
 -- ---- a narrated report: each label that is told is accepted, where the report is
 
@@ -28,12 +29,12 @@ one_accepted : (source : Option Source) (labels : List Label) (fails : List Bool
     → told.IsAnswered source labels fails → accepts source labels ≡ true
 one_accepted None labels fails p a = refl
 one_accepted (Some s) labels fails p a =
-    and_from _ _ (sym (order_all (λ label. is_accepted s.bytes label.span) labels)
+    and_from _ _ (sym (order_all (λ label. is_in_bounds s.bytes label.span) labels)
     ∙ accept_all s.bytes (in_order labels) a.accepted) (or_right (is_nil labels) s.always_reads p)
 
 further_accepted : (fails : List (List Bool)) (sections : List Section)
-    → All (λ section. section.source.always_reads ≡ true) sections → told.AreFurther fails sections
-    → holds_further accepts sections ≡ true
+    → All (λ section. section.source.always_reads ≡ true) sections → told.AreFurtherReads fails sections
+    → further_pass accepts sections ≡ true
 further_accepted fails [] q k = refl
 further_accepted fails (section ∷ sections) q k =
     let reads : Section → Type 0 = λ s. s.source.always_reads ≡ true in
@@ -43,22 +44,22 @@ further_accepted fails (section ∷ sections) q k =
 
 mutual
   tree_accepted : (inherited : Option Source) (a : Answers) (t : Tree) → Reads inherited → AlwaysReads t
-      → told.AreAnswers inherited a t → holds_of accepts inherited t ≡ true
+      → told.AreAnswers inherited a t → report_passes accepts inherited t ≡ true
   tree_accepted inherited a (tree m own c r) p q k =
       let source = effective own inherited in
       let here : Reads source = effective_reads own inherited q.0 p in
       and_from _ _
       (and_from _ _ (one_accepted source _ _ here k.0.0) (trees_accepted source (related_answers a) r here q.2 k.1))
-      (further_accepted (own_answer a).further m.snippets q.3 k.0.1)
+      (further_accepted (own_narrated_answer a).further m.snippets q.3 k.0.1)
 
-  trees_accepted : (inherited : Option Source) (more : AnswerTrees ReadAnswers) (ts : Trees) → Reads inherited
-      → AllAlwaysRead ts → told.AllAnswers inherited more ts → holds_of_all accepts inherited ts ≡ true
+  trees_accepted : (inherited : Option Source) (more : AnswerTrees NarratedReadAnswers) (ts : Trees) → Reads inherited
+      → AllAlwaysRead ts → told.AllAnswers inherited more ts → reports_pass accepts inherited ts ≡ true
   trees_accepted inherited more no_trees p q k = refl
   trees_accepted inherited more (more_trees t ts) p q k =
       and_from _ _ (tree_accepted inherited (first_answers more) t p q.0 k.0)
       (trees_accepted inherited (later_answers more) ts p q.1 k.1)
 
-one_fixed : (source : Option Source) (fixes : List Proposal) → Reads source → told.reads_for source fixes ≡ true
+one_fixed : (source : Option Source) (fixes : List FixModel) → Reads source → told.reads_for_fixes source fixes ≡ true
 one_fixed None fixes p = refl
 one_fixed (Some s) fixes p = or_right (is_nil fixes) s.always_reads p
 
@@ -80,7 +81,7 @@ mutual
 pub told-fixed : (t : Tree) → AlwaysReads t → told.fixes_read t ≡ true
 told-fixed t q = tree_fixed None t tt q
 
-pub told-accepted : (t : Tree) (a : Answers) → AlwaysReads t → told.AreAnswers None a t → report_accepted t ≡ true
+pub told-accepted : (t : Tree) (a : Answers) → AlwaysReads t → told.AreAnswers None a t → report_in_bounds t ≡ true
 told-accepted t a q k = tree_accepted None a t tt q k
 
 -- ---- a brief report
@@ -89,11 +90,11 @@ one_kept : (source : Option Source) (labels : List Label) → Reads source → b
     → accepts source labels ≡ true
 one_kept None labels p a = refl
 one_kept (Some s) labels p a =
-    and_from _ _ (sym (order_all (λ label. is_accepted s.bytes label.span) labels)
+    and_from _ _ (sym (order_all (λ label. is_in_bounds s.bytes label.span) labels)
     ∙ accept_all s.bytes (in_order labels) a) (or_right (is_nil labels) s.always_reads p)
 
 sections_kept : (sections : List Section) → All (λ section. section.source.always_reads ≡ true) sections
-    → briefly.FurtherAccepted sections → holds_further accepts sections ≡ true
+    → briefly.FurtherAccepted sections → further_pass accepts sections ≡ true
 sections_kept [] q k = refl
 sections_kept (section ∷ sections) q k =
     let reads : Section → Type 0 = λ it. it.source.always_reads ≡ true in
@@ -102,7 +103,7 @@ sections_kept (section ∷ sections) q k =
 
 mutual
   tree_kept : (inherited : Option Source) (a : brief.Answers) (t : Tree) → Reads inherited → AlwaysReads t
-      → briefly.AreAnswers inherited a t → holds_of accepts inherited t ≡ true
+      → briefly.AreAnswers inherited a t → report_passes accepts inherited t ≡ true
   tree_kept inherited a (tree m own c r) p q k =
       let source = effective own inherited in
       let here : Reads source = effective_reads own inherited q.0 p in
@@ -110,14 +111,14 @@ mutual
       (and_from _ _ (one_kept source _ here k.0.0) (trees_kept source (brief.related_answers a) r here q.2 k.3))
       (sections_kept m.snippets q.3 k.0.1)
 
-  trees_kept : (inherited : Option Source) (more : AnswerTrees brief.ReadAnswers) (ts : Trees) → Reads inherited
-      → AllAlwaysRead ts → briefly.AllAnswers inherited more ts → holds_of_all accepts inherited ts ≡ true
+  trees_kept : (inherited : Option Source) (more : AnswerTrees brief.BriefReadAnswers) (ts : Trees) → Reads inherited
+      → AllAlwaysRead ts → briefly.AllAnswers inherited more ts → reports_pass accepts inherited ts ≡ true
   trees_kept inherited more no_trees p q k = refl
   trees_kept inherited more (more_trees t ts) p q k =
       and_from _ _ (tree_kept inherited (brief.first_answers more) t p q.0 k.0)
       (trees_kept inherited (brief.later_answers more) ts p q.1 k.1)
 
 -- a brief report is given only where a narrated one is
-pub brief-accepted : (t : Tree) (a : brief.Answers) → AlwaysReads t → briefly.AreAnswers None a t → report_accepted t
+pub brief-accepted : (t : Tree) (a : brief.Answers) → AlwaysReads t → briefly.AreAnswers None a t → report_in_bounds t
     ≡ true
 brief-accepted t a q k = tree_kept None a t tt q k

@@ -4,34 +4,35 @@ use Rattle.std.proofs.Common.{◌≡◌, ◌∙◌, ap, append-nil, append_assoc
 use Rattle.std.proofs.Common.{IfOk, OnErr, OnOk}
 use Rattle.miette.specs.declared.options.handler.MietteHandler.TheVariants as handler
 use Rattle.miette_tree.specs.views.Handler.{AppendsOne}
-use Rattle.miette_picture_rules.specs.rules.PossibleAnswers.{IsAskedText}
-use Rattle.miette_picture_rules.specs.rules.Snippets.{whole_drawing}
-use Rattle.miette_picture_rules.specs.views.Handling.{AreCallsOf, Handling}
+use Rattle.miette_graphical_rules.specs.rules.PossibleAnswers.{IsTextByCalls}
+use Rattle.miette_graphical_rules.specs.rules.Snippets.{whole_drawing}
+use Rattle.miette_graphical_rules.specs.views.HandlerState.{AreCallsOf, HandlerState}
 use Rattle.miette_protocol.specs.rules.Reading.{Source, Span}
 use Rattle.miette_protocol.specs.views.Meaning.{Label}
 use Rattle.miette_highlight.specs.rules.FollowingCalls.{FollowTokens}
 use Rattle.miette_highlight.specs.rules.HighlighterCalls.{Call, asked, restarted}
 use Rattle.miette_highlight.specs.declared.rule.Rule.{Rule}
 use Rattle.miette_highlight.specs.declared.tokens.OpenPart.{OpenPart}
-use Rattle.miette_label_rules.specs.rules.Answers.{Highlight}
-use Rattle.miette_label_rules.specs.rules.Around.{group_context}
-use Rattle.miette_label_rules.specs.rules.Groups.{groups_of, in_order, refusal}
+use Rattle.miette_labels.specs.rules.Answers.{Highlight}
+use Rattle.miette_labels.specs.rules.Around.{group_context}
+use Rattle.miette_labels.specs.rules.Groups.{groups_of, in_order, first_refusal}
 use Rattle.miette_snippet_rules.specs.declared.options.LayoutOptions.{LayoutOptions}
 use Rattle.miette_snippet_rules.specs.rules.Highlighting.{follows, group_calls}
 use Rattle.miette_snippet_rules.specs.rules.SnippetLayout.{end_lines}
 use Rattle.miette_tree.specs.rules.Diagnosis.{Diagnosis}
 use Rattle.miette_tree.specs.rules.Tree.{Tree, tree, Cause, diagnostic, texts, Trees, no_trees, more_trees, effective}
-use Rattle.miette_picture_rules.specs.rules.Answers.{Answer, Answers, RelatedAnswers, SourceAnswer, SourceAnswers}
-use Rattle.miette_picture_rules.specs.rules.Answers.{cause_answers, first_answers, first_source, later_answers}
-use Rattle.miette_picture_rules.specs.rules.Answers.{own_answer}
-use Rattle.miette_picture_rules.specs.rules.Answers.{related_answers}
-use Rattle.miette_picture_rules.specs.rules.Calls.{calls_over, cause_calls, own_calls, related_calls, report_calls}
-use Rattle.miette_picture_rules.specs.rules.Calls.{source_calls}
-use Rattle.miette_picture_rules.specs.rules.Settings.{Settings}
-use Rattle.miette_picture_rules.specs.rules.Sources.{LabelledSource, layout_with, sources_of}
+use Rattle.miette_graphical_rules.specs.rules.Answers.{DiagnosticAnswer, Answers, RelatedAnswers, SourceAnswer}
+use Rattle.miette_graphical_rules.specs.rules.Answers.{SourceAnswers}
+use Rattle.miette_graphical_rules.specs.rules.Answers.{cause_answers, first_answers, first_source, later_answers}
+use Rattle.miette_graphical_rules.specs.rules.Answers.{own_answer}
+use Rattle.miette_graphical_rules.specs.rules.Answers.{related_answers}
+use Rattle.miette_graphical_rules.specs.rules.Calls.{calls_over, cause_calls, own_calls, related_calls, report_calls}
+use Rattle.miette_graphical_rules.specs.rules.Calls.{source_calls}
+use Rattle.miette_graphical_rules.specs.rules.GraphicalSettings.{GraphicalSettings}
+use Rattle.miette_graphical_rules.specs.rules.Sources.{LabelledSource, layout_with, sources_of}
 use Rattle.miette_program.specs.declared.language.LanguageHighlighter.{LanguageHighlighter}
 use Rattle.miette_program.specs.rules.LanguageRules.{TokensFollow}
-use Rattle.miette_program.specs.steps.JobHandler.{HappenLater, IsLed, highlighter_of}
+use Rattle.miette_program.specs.rules.JobText.{HappenLater, IsLed, highlighter_of}
 use Rattle.miette_program.specs.declared.job_handler.JobHandler.{JobHandler}
 use Rattle.miette_program.specs.declared.job_handler.JobHandler.TheVariants as chosen
 
@@ -66,7 +67,7 @@ of_source layout None labels a = tt
 of_source layout (Some source) labels a =
     let context = end_lines layout a.end_fails source labels in
     let groups = groups_of context source a.join_fails (in_order labels) in
-    where_not (is_some (refusal source.bytes a.label_fails (in_order labels)))
+    where_not (is_some (first_refusal source.bytes a.label_fails (in_order labels)))
     (group_calls (group_context context (in_order labels)) source groups a.pieces)
     (of_groups (group_context context (in_order labels)) source groups a.pieces)
 
@@ -77,7 +78,7 @@ over layout (it ∷ more) a =
     both (source_calls layout it.source it.labels (first_source a)) (calls_over layout more (drop 1 a))
     (of_source layout it.source it.labels (first_source a)) (over layout more (drop 1 a))
 
-of_own : (layout : LayoutOptions) (source : Option Source) (m : Diagnosis) (a : Answer)
+of_own : (layout : LayoutOptions) (source : Option Source) (m : Diagnosis) (a : DiagnosticAnswer)
     → Restarts (own_calls layout source m a)
 of_own layout source m a = over (layout_with m.snippets layout) (sources_of source m) a.sources
 
@@ -111,7 +112,7 @@ mutual
       (of_related layout nested source r (related_answers a))))
       (of_related layout nested inherited ts (later_answers more))
 
-of_report : (s : Settings) (t : Tree) (a : Answers) → Restarts (report_calls s t a)
+of_report : (s : GraphicalSettings) (t : Tree) (a : Answers) → Restarts (report_calls s t a)
 of_report s (tree m own c r) a =
     let layout = s.layout in
     let nested = s.related_as_nested in
@@ -152,7 +153,7 @@ later-follow (Some it) calls begun later =
     (later.2 [] (none-follow later.1)))
 
 -- the calls for a report follow as at first
-pub report-follows : (it : Option LanguageHighlighter) (s : Settings) (t : Tree) (a : Answers)
+pub report-follows : (it : Option LanguageHighlighter) (s : GraphicalSettings) (t : Tree) (a : Answers)
     → HappenLater TokensFollow it (report_calls s t a) → follows TokensFollow it (report_calls s t a)
 report-follows it s t a = later-follow it (report_calls s t a) (of_report s t a)
 
@@ -192,10 +193,11 @@ led-without may_follow h k is will =
     record { calls = []; happened = λ later follow. subst (λ x. follows may_follow x later) (sym is) tt }
 
 -- by the calls for a picture
-pub led-drawing : {A E H : Type 0} (may_follow : H → List Call → Type 0) (h k : JobHandler H) (it after : Handling H)
+pub led-drawing : {A E H : Type 0} (may_follow : H → List Call → Type 0) (h k : JobHandler H)
+    (it after : HandlerState H)
     (blank : Bool) (t : Tree) (old new : List ℕ) (r : Result A E) → h ≡ chosen.Built (handler.Graphical it)
     → k ≡ chosen.Built (handler.Graphical after) → OnOk r
-    (AppendsOne (IsAskedText whole_drawing it.settings blank (AreCallsOf may_follow it after) t) old new)
+    (AppendsOne (IsTextByCalls whole_drawing it.settings blank (AreCallsOf may_follow it after) t) old new)
     → OnOk r (IsLed may_follow h k)
 led-drawing may_follow h k it after blank t old new (Err e) is will ok = tt
 led-drawing may_follow h k it after blank t old new (Ok x) is will ok =

@@ -2,7 +2,7 @@
 use Rattle.std.proofs.Common.{◌≡◌, ℕ, Bool, List, [], ◌++◌, ◌∙◌, ap, Result, Ok}
 use Rattle.std.proofs.Common.{Err, IfOk, OnOk, OnErr, String, string_bytes, true, false, encode_utf8_all, refl}
 use Rattle.std.proofs.Common.{sym, subst, not, ◌&&◌}
-use Rattle.miette_printed_laws.proofs.Only as one_text
+use Rattle.miette_graphical_rules.proofs.Only as one_text
 use Rattle.miette.specs.rules.Choice.{is_graphical}
 use Rattle.miette.specs.rules.Options.{Options}
 use Rattle.miette.specs.declared.options.handler.MietteHandler.{MietteHandler}
@@ -13,33 +13,33 @@ use Rattle.miette_brief.specs.rules.PossibleAnswers as briefly
 use Rattle.miette_brief.specs.rules.Report as brief
 use Rattle.miette_narrated.specs.rules.Report as narrated
 use Rattle.miette_narrated.specs.rules.PossibleAnswers.{IsNarrated, fixes_read}
-use Rattle.miette_picture_rules.specs.rules.Answers.{unlisted}
+use Rattle.miette_graphical_rules.specs.rules.Answers.{unlisted}
 use Rattle.miette_tree.specs.views.Handler.{AppendsOne}
-use Rattle.miette_tree.specs.rules.Reads.{AlwaysReads, report_accepted, report_reads}
+use Rattle.miette_tree.specs.rules.Reads.{AlwaysReads, report_in_bounds, report_reads}
 use Rattle.miette_tree.proofs.Readings.{told_reads}
 use Rattle.miette_debug.specs.rules.DebugText.{IsDebugText}
-use Rattle.miette_picture_rules.specs.rules.PrintedDiagnostics.{diagnostics_of, labels_read}
-use Rattle.miette_picture_rules.proofs.Lists.{labels_of_all}
+use Rattle.miette_graphical_rules.specs.rules.PrintedDiagnostics.{diagnostics_of, labels_read}
+use Rattle.miette_graphical_rules.proofs.Lists.{labels_of_all}
 use Rattle.miette_json.specs.rules.Json.{json_text}
 use Rattle.miette_json.specs.rules.JsonReport.{value_of}
 use Rattle.miette_json.specs.rules.JsonText.{IsJsonOf}
-use Rattle.miette_picture_rules.specs.rules.PossibleAnswers as drawn
-use Rattle.miette_picture_rules.specs.rules.Calls.{report_calls}
-use Rattle.miette_picture_rules.specs.views.Handling.{AreCallsOf, Handling, draws_plain}
+use Rattle.miette_graphical_rules.specs.rules.PossibleAnswers as drawn
+use Rattle.miette_graphical_rules.specs.rules.Calls.{report_calls}
+use Rattle.miette_graphical_rules.specs.views.HandlerState.{AreCallsOf, HandlerState, draws_plain}
 use Rattle.miette_highlight.specs.rules.HighlighterCalls.{Call}
 use Rattle.miette_snippet_rules.specs.rules.Highlighting.{follows}
-use Rattle.miette_picture_rules.specs.rules.Snippets.{whole_drawing}
-use Rattle.miette_picture_rules.specs.rules.Text.{report_text}
-use Rattle.miette_program.specs.steps.JobHandler.{HappenLater, IsAsked, IsGiven, IsLed, MayRefuse, Stays}
+use Rattle.miette_graphical_rules.specs.rules.Snippets.{whole_drawing}
+use Rattle.miette_graphical_rules.specs.rules.Text.{report_text}
+use Rattle.miette_program.specs.rules.JobText.{HappenLater, IsAsked, IsGiven, IsLed, JobMayRefuse, JobHandlerStays}
 use Rattle.miette_program.specs.rules.JobText.{IsBuiltText, IsJobText, IsTelling}
 use Rattle.miette_program.specs.declared.job_handler.JobHandler.{JobHandler}
 use Rattle.miette_program.specs.declared.job_handler.JobHandler.TheVariants as chosen
 use Rattle.miette_program.specs.declared.job_handler.JobHandler.TheVariants.{Built}
 use Rattle.miette_program.specs.declared.language.LanguageHighlighter.{LanguageHighlighter}
-use Rattle.miette_program.specs.declared.option_words.Choice.{Choice}
+use Rattle.miette_program.specs.declared.arguments.Choice.{Choice}
 use Rattle.miette_program.specs.rules.LanguageRules.{TokensFollow}
 use Rattle.miette_program.proofs.HighlighterSteps.{happen-after, report-follows}
-use Rattle.miette_picture_rules.proofs.AlwaysRead.{printed-reads}
+use Rattle.miette_graphical_rules.proofs.AlwaysRead.{printed-reads}
 use Rattle.miette_program.proofs.AlwaysTold.{told-accepted, brief-accepted, told-fixed}
 
 -- ---- what a handler of the library appends
@@ -69,7 +69,7 @@ debug-given is_blank may_follow h t old new (Ok x) is text =
     subst (λ k. AppendsOne (IsGiven is_blank may_follow k t) old new) (sym is) text
 
 -- where lines are left plain, the text is the one under the answers that always come
-only-text : {H : Type 0} (is_blank : H → Bool) (it : Handling H) (t : Tree) (text : List ℕ) → AlwaysReads t
+only-text : {H : Type 0} (is_blank : H → Bool) (it : HandlerState H) (t : Tree) (text : List ℕ) → AlwaysReads t
     → drawn.IsTextOf whole_drawing it.settings (draws_plain is_blank it) t text
     → draws_plain is_blank it ≡ true → text ≡ encode_utf8_all (report_text whole_drawing it.settings t unlisted)
 only-text is_blank it t text reads given plain =
@@ -77,9 +77,10 @@ only-text is_blank it t text reads given plain =
     (subst (λ b. drawn.IsTextOf whole_drawing it.settings b t text) plain given) (printed-reads it.settings t reads)
 
 pub graphical-given : {A E H : Type 0} (is_blank : H → Bool) (may_follow : H → List Call → Type 0) (h : JobHandler H)
-    (it after : Handling H) (t : Tree) (old new : List ℕ) (r : Result A E) → h ≡ Built (handler.Graphical it)
+    (it after : HandlerState H) (t : Tree) (old new : List ℕ) (r : Result A E) → h ≡ Built (handler.Graphical it)
     → AlwaysReads t → OnOk r
-    (AppendsOne (drawn.IsAskedText whole_drawing it.settings (draws_plain is_blank it) (AreCallsOf may_follow it after)
+    (AppendsOne (drawn.IsTextByCalls whole_drawing it.settings (draws_plain is_blank it)
+    (AreCallsOf may_follow it after)
     t) old new) → OnOk r (AppendsOne (IsGiven is_blank may_follow h t) old new)
 graphical-given is_blank may_follow h it after t old new (Err e) is reads ok = tt
 graphical-given is_blank may_follow h it after t old new (Ok x) is reads ok =
@@ -98,8 +99,8 @@ graphical-given is_blank may_follow h it after t old new (Ok x) is reads ok =
     subst (λ k. AppendsOne (IsGiven is_blank may_follow k t) old new) (sym is) one
 
 -- no label of such a report is refused
-pub graphical-accepts : {H : Type 0} (h : JobHandler H) (it : Handling H) (t : Tree) → AlwaysReads t
-    → labels_read (diagnostics_of it.settings t) ≡ false → MayRefuse h t
+pub graphical-accepts : {H : Type 0} (h : JobHandler H) (it : HandlerState H) (t : Tree) → AlwaysReads t
+    → labels_read (diagnostics_of it.settings t) ≡ false → JobMayRefuse h t
 graphical-accepts h it t reads refused =
     let no : true ≡ false =
     sym (labels_of_all (diagnostics_of it.settings t) (printed-reads it.settings t reads)) ∙ refused in cc
@@ -140,16 +141,16 @@ brief-given is_blank may_follow h s t old new (Ok x) is reads text only =
     })
 
 pub brief-refuses : {H : Type 0} (h : JobHandler H) (s : brief.BriefSettings) (t : Tree) → h
-    ≡ Built (handler.Brief s) → report_accepted t ≡ false → MayRefuse h t
+    ≡ Built (handler.Brief s) → report_in_bounds t ≡ false → JobMayRefuse h t
 brief-refuses {H} h s t is refused =
-    let here : MayRefuse {H = H} (Built (handler.Brief s)) t = refused in
-    subst (λ (k : JobHandler H). MayRefuse k t) (sym is) here
+    let here : JobMayRefuse {H = H} (Built (handler.Brief s)) t = refused in
+    subst (λ (k : JobHandler H). JobMayRefuse k t) (sym is) here
 
 pub narrated-refuses : {H : Type 0} (h : JobHandler H) (s : narrated.NarrationSettings) (t : Tree) → h
-    ≡ Built (handler.Narrated s) → report_accepted t ≡ false → MayRefuse h t
+    ≡ Built (handler.Narrated s) → report_in_bounds t ≡ false → JobMayRefuse h t
 narrated-refuses {H} h s t is refused =
-    let here : MayRefuse {H = H} (Built (handler.Narrated s)) t = refused in
-    subst (λ (k : JobHandler H). MayRefuse k t) (sym is) here
+    let here : JobMayRefuse {H = H} (Built (handler.Narrated s)) t = refused in
+    subst (λ (k : JobHandler H). JobMayRefuse k t) (sym is) here
 
 -- the text where it was appended to none
 pub text-given : {A E F Z : Type 0} (rendered : Result A E) (result : Result (String Z) F) (text : String Z)
@@ -200,7 +201,7 @@ no-picture : {H : Type 0} (o : Options H) (l : Terminal) → o.brief ≡ true �
 no-picture o l is = ap (λ b. not b && is_graphical (record o { brief = false }) l) is
 
 pub asked-refusal : {H : Type 0} (c : Choice) (o : Options H) (l : Terminal) (h : JobHandler H) (t : Tree)
-    → IsAsked c o l h → MayRefuse h t → IsTelling c o l × (report_accepted t ≡ false)
+    → IsAsked c o l h → JobMayRefuse h t → IsTelling c o l × (report_in_bounds t ≡ false)
 asked-refusal c o l chosen.Json t is refused = absurd refused
 asked-refusal c o l chosen.Debug t is refused = absurd refused
 asked-refusal c o l (Built (handler.Graphical it)) t is refused = absurd refused
@@ -209,17 +210,18 @@ asked-refusal c o l (Built (handler.Brief it)) t is refused = ((is.0, no-picture
 
 -- ---- where the handler was called before
 
-pub stays-itself : {H : Type 0} (is_blank : H → Bool) (h : JobHandler H) → Stays is_blank h h
+pub stays-itself : {H : Type 0} (is_blank : H → Bool) (h : JobHandler H) → JobHandlerStays is_blank h h
 stays-itself is_blank chosen.Json = refl
 stays-itself is_blank chosen.Debug = refl
 stays-itself is_blank (Built (handler.Graphical it)) = (refl, refl)
 stays-itself is_blank (Built (handler.Narrated it)) = refl
 stays-itself is_blank (Built (handler.Brief it)) = refl
 
-pub stays-on : {H : Type 0} (is_blank : H → Bool) (h k m : JobHandler H) → Stays is_blank h k → Stays is_blank k m
-    → Stays is_blank h m
-stays-on is_blank chosen.Json k m p q = subst (λ x. Stays is_blank x m) p q
-stays-on is_blank chosen.Debug k m p q = subst (λ x. Stays is_blank x m) p q
+pub stays-on : {H : Type 0} (is_blank : H → Bool) (h k m : JobHandler H) → JobHandlerStays is_blank h k
+    → JobHandlerStays is_blank k m
+    → JobHandlerStays is_blank h m
+stays-on is_blank chosen.Json k m p q = subst (λ x. JobHandlerStays is_blank x m) p q
+stays-on is_blank chosen.Debug k m p q = subst (λ x. JobHandlerStays is_blank x m) p q
 stays-on is_blank (Built h) chosen.Json m p q = absurd p
 stays-on is_blank (Built h) chosen.Debug m p q = absurd p
 stays-on is_blank (Built h) (Built k) chosen.Json p q = absurd q
@@ -244,7 +246,8 @@ stays-on is_blank (Built (handler.Brief h)) (Built (handler.Narrated k)) (Built 
 
 -- what it gives then, it might have given at first
 pub given-before : {H : Type 0} (is_blank : H → Bool) (may_follow : H → List Call → Type 0) (h k : JobHandler H)
-    (t : Tree) (text : List ℕ) → Stays is_blank h k → IsLed may_follow h k → IsGiven is_blank may_follow k t text
+    (t : Tree) (text : List ℕ) → JobHandlerStays is_blank h k → IsLed may_follow h k
+    → IsGiven is_blank may_follow k t text
     → IsGiven is_blank may_follow h t text
 given-before is_blank follow chosen.Json k t text stays led given =
     subst (λ x. IsGiven is_blank follow x t text) stays given
@@ -259,9 +262,9 @@ given-before is_blank follow (Built (handler.Graphical h)) (Built (handler.Graph
     let happens_later : HappenLater follow h.highlighter (report_calls k.settings t asked.0) =
     happen-after follow (Built (handler.Graphical h)) (Built (handler.Graphical k))
     (report_calls k.settings t asked.0) led asked.2 in
-    subst (λ b. drawn.IsAskedText whole_drawing h.settings b happen t text
+    subst (λ b. drawn.IsTextByCalls whole_drawing h.settings b happen t text
     × (b ≡ true → text ≡ encode_utf8_all (report_text whole_drawing h.settings t unlisted))) stays.1
-    (subst (λ s. drawn.IsAskedText whole_drawing s (draws_plain is_blank k) happen t text
+    (subst (λ s. drawn.IsTextByCalls whole_drawing s (draws_plain is_blank k) happen t text
     × (draws_plain is_blank k ≡ true → text ≡ encode_utf8_all (report_text whole_drawing s t unlisted))) stays.0
     ((given.0.0, (asked.0, asked.1, happens_later, asked.3), given.0.2), given.1))
 given-before is_blank follow (Built (handler.Narrated h)) (Built (handler.Narrated k)) t text
@@ -277,17 +280,17 @@ given-before b f (Built (handler.Brief h)) (Built (handler.Graphical k)) t text 
 given-before b f (Built (handler.Brief h)) (Built (handler.Narrated k)) t text p q given = absurd p
 
 pub given-still : {Z E H : Type 0} (is_blank : H → Bool) (may_follow : H → List Call → Type 0) (h k : JobHandler H)
-    (t : Tree) (r : Result (String Z) E) → Stays is_blank h k → IsLed may_follow h k
+    (t : Tree) (r : Result (String Z) E) → JobHandlerStays is_blank h k → IsLed may_follow h k
     → IfOk r (λ text. IsGiven is_blank may_follow k t (string_bytes text))
     → IfOk r (λ text. IsGiven is_blank may_follow h t (string_bytes text))
 given-still is_blank may_follow h k t (Ok text) stays led given =
     given-before is_blank may_follow h k t (string_bytes text) stays led given
 given-still is_blank may_follow h k t (Err e) stays led given = tt
 
-pub refused-before : {H : Type 0} (is_blank : H → Bool) (h k : JobHandler H) (t : Tree) → Stays is_blank h k
-    → MayRefuse k t → MayRefuse h t
-refused-before is_blank chosen.Json k t stays refused = subst (λ x. MayRefuse x t) stays refused
-refused-before is_blank chosen.Debug k t stays refused = subst (λ x. MayRefuse x t) stays refused
+pub refused-before : {H : Type 0} (is_blank : H → Bool) (h k : JobHandler H) (t : Tree) → JobHandlerStays is_blank h k
+    → JobMayRefuse k t → JobMayRefuse h t
+refused-before is_blank chosen.Json k t stays refused = subst (λ x. JobMayRefuse x t) stays refused
+refused-before is_blank chosen.Debug k t stays refused = subst (λ x. JobMayRefuse x t) stays refused
 refused-before is_blank (Built h) chosen.Json t stays refused = absurd refused
 refused-before is_blank (Built h) chosen.Debug t stays refused = absurd refused
 refused-before is_blank (Built h) (Built (handler.Graphical k)) t stays refused = absurd refused

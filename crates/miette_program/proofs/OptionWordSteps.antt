@@ -13,13 +13,14 @@ use Rattle.miette_program.specs.rules.OptionWords.{with_read, with_value, with_w
 use Rattle.miette_devices.specs.rules.Words.{IsReadAs}
 use Rattle.miette_program.specs.steps.AskedWords.{AreGiven, IsGiven}
 use Rattle.miette_program.specs.declared.arguments.Arguments.{Arguments}
-use Rattle.miette_devices.specs.declared.fault.Fault.{Fault}
-use Rattle.miette_devices.specs.declared.fault.Fault.TheVariants.{Usage, Memory, Read, Write, Description, Refused}
+use Rattle.miette_devices.specs.declared.fault.ProgramError.{ProgramError}
+use Rattle.miette_devices.specs.declared.fault.ProgramError.TheVariants.{Usage, Memory, Read, Write, Description}
+use Rattle.miette_devices.specs.declared.fault.ProgramError.TheVariants.{Refused}
 use Rattle.miette.specs.rules.Options.{Options}
 use Rattle.miette_style.specs.declared.theme.Terminal.{Terminal}
 use Rattle.miette_program.specs.rules.OptionWords.{asked_by, request_of, AreWanted}
 use Rattle.miette_program.specs.declared.language.LanguageHighlighter.{LanguageHighlighter}
-use Rattle.miette_program.specs.declared.option_words.Choice.{Choice}
+use Rattle.miette_program.specs.declared.arguments.Choice.{Choice}
 
 -- ---- numbers
 
@@ -77,7 +78,7 @@ read : (word value : List ℕ) (o p : Option ℕ) (r : JobRequest) → IsReadAs 
 read word value o p r is e =
     ap (λ n. option_map_or (λ n. with_number word n r) n (no_number word value r)) (sym (number_read value o is) ∙ e)
 
-pub of_number : (word value : List ℕ) (n : ℕ) (o : Option ℕ) (r : JobRequest) (result : Result Arguments Fault) →
+pub of_number : (word value : List ℕ) (n : ℕ) (o : Option ℕ) (r : JobRequest) (result : Result Arguments ProgramError) →
     IsReadAs value o → o ≡ Some n → AreGiven (with_number word n r) result → AreGiven (with_read word value r) result
 of_number word value n o r result is e =
     subst (λ given. AreGiven given result) (sym (read word value o (Some n) r is e))
@@ -88,7 +89,7 @@ skipped false false x y z h k = refl
 skipped true c x y z h k = absurd (cc)
 skipped false true x y z h k = absurd (cc)
 
-pub of_name : (word value : List ℕ) (o : Option ℕ) (r : JobRequest) (result : Result Arguments Fault) →
+pub of_name : (word value : List ℕ) (o : Option ℕ) (r : JobRequest) (result : Result Arguments ProgramError) →
     IsReadAs value o → o ≡ None → (value ≡ codes "yes" → ⊥) → (value ≡ codes "no" → ⊥)
     → AreGiven (with_name word value r) result → AreGiven (with_read word value r) result
 of_name word value o r result is e not_yes not_no =
@@ -114,7 +115,7 @@ all_done (x ∷ xs) r h = absurd (omega (arith, eqb-true (length (x ∷ xs)) 0 (
 -- ---- faults
 
 -- a fault says the same of what is given, whatever the value would be
-pub same_fault : {A B C : Type 0} (f : A → B) (g : C → B) (given : Option B) (fault : Fault)
+pub same_fault : {A B C : Type 0} (f : A → B) (g : C → B) (given : Option B) (fault : ProgramError)
     → IsGiven f given (Err fault) → IsGiven g given (Err fault)
 same_fault f g given Usage h = h
 same_fault f g given Memory h = h

@@ -1,4 +1,4 @@
--- What users rely on, in the words of docs/RULES.md.
+-- The definitions that users rely on, named as in docs/RULES.md.
 pub mod LanguageRules
 pub mod OptionWords
 pub mod JobText

@@ -1,3 +1,2 @@
 -- The code's own steps, which no rule names.
-pub mod JobHandler
 pub mod AskedWords

@@ -6,14 +6,26 @@ ghost use Rattle.miette_program.specs.rules.OptionWords.{AreWanted, asked_by, ch
 ghost use Rattle.miette_program.specs.steps.AskedWords.{AreGiven, asked_of, with_asked, with_named};
 
 use crate::language::LanguageHighlighter;
-use crate::option_words::{Asked, Choice, Named, ReportAsked, first_asked, read_named};
+use crate::option_words::{Asked, Named, first_asked, read_named};
 use miette::handlers::Form;
-use miette::options::MietteHandlerOpts;
+use miette::options::{MietteHandlerOpts, SetLayout};
 use miette::theme::Terminal;
 use miette::wrap::WordSplitter;
-use miette_devices::fault::Fault;
+use miette_devices::fault::ProgramError;
+use miette_devices::output::Output;
 use miette_devices::words::number;
 use std::alloc::Global;
+
+/// Which handler gives the text.
+#[derive(Clone, Copy, Debug, PartialEq, Eq)]
+pub enum Choice {
+    /// The one that the options build: graphical, narrated or brief.
+    Build,
+    /// JSON.
+    Json,
+    /// The debug report.
+    Debug,
+}
 
 /// What a job is asked for.
 #[derive(Drop)]
@@ -43,19 +55,19 @@ impl Arguments {
     /// # Errors
     /// `Usage` where a word is none of those that there are, where a value is missing or isn't one that its word
     /// takes, and for tabs or lines of no columns; `Memory` where none is found for a text or a theme.
-    pub fn read(alloc: Global, words: &[String]) -> Result<Arguments, Fault>
+    pub fn read(alloc: Global, words: &[String]) -> Result<Arguments, ProgramError>
         // What all words ask for by the table, and the usage fault exactly where the table has none.
         ensures table { IfOk result (λ it. AreWanted (map string_bytes words.now) it.choice it.options it.terminal) }
-        ensures usage { (result ≡ Err Fault.Usage) → asked_by (map string_bytes words.now) ≡ None }
+        ensures usage { (result ≡ Err ProgramError.Usage) → asked_by (map string_bytes words.now) ≡ None }
         // The last of `--json` and `--debug` that is no value chooses the handler.
         ensures choice { IfOk result (λ it. chosen_by (map string_bytes words.now) ≡ Some it.choice) }
-        ensures others { OnErr result ((result ≡ Err Fault.Usage) ⊎ (result ≡ Err Fault.Memory)) }
+        ensures others { OnErr result ((result ≡ Err ProgramError.Usage) ⊎ (result ≡ Err ProgramError.Memory)) }
     {
         let mut settings = Arguments::empty();
         let mut rest = words;
         while !rest.is_empty() {
             let Some((asked, more)) = first_asked(rest) else {
-                return Err(Fault::Usage);
+                return Err(ProgramError::Usage);
             };
             settings = settings.with(alloc, asked)?;
             rest = more;
@@ -84,32 +96,38 @@ impl Arguments {
     }
 
     /// The settings with what one word asks for.
-    fn with(self, alloc: Global, asked: Asked<'_>) -> Result<Arguments, Fault>
+    fn with(self, alloc: Global, asked: Asked<'_>) -> Result<Arguments, ProgramError>
         ensures { AreGiven (with_asked asked.entry (asked_of self)) result }
     {
         match asked {
-            Asked::Report(report) => Ok(self.with_report(report)),
+            Asked::Form(form) => self.with_form(form),
             Asked::Value(word, value) => self.with_value(alloc, word, value),
         }
     }
 
-    /// With another report.
-    fn with_report(mut self, asked: ReportAsked) -> Arguments
-        ensures { asked_of result ≡ table.with_report asked (asked_of self) }
+    /// With another form of the report. A log is none.
+    fn with_form(mut self, form: Output) -> Result<Arguments, ProgramError>
+        ensures { AreGiven (table.with_form form (asked_of self)) result }
     {
-        match asked {
-            ReportAsked::Json => self.choice = Choice::Json,
-            ReportAsked::Debug => self.choice = Choice::Debug,
-            ReportAsked::Brief => self.options = brief_options(self.options, Form::Gcc),
-            ReportAsked::Github => self.options = brief_options(self.options, Form::Github),
-            ReportAsked::Narrated => self.options = self.options.force_narrated(true),
-            ReportAsked::Graphical => self.options = self.options.force_graphical(true),
+        match form {
+            Output::Graphical => self.options = self.options.force_graphical(true),
+            Output::Narrated => self.options = self.options.force_narrated(true),
+            Output::Brief => self.options = brief_options(self.options, Form::Gcc),
+            Output::Github => self.options = brief_options(self.options, Form::Github),
+            Output::Json => self.choice = Choice::Json,
+            Output::Debug => self.choice = Choice::Debug,
+            Output::Sarif | Output::Lsp => return Err(ProgramError::Usage),
         }
-        self
+        Ok(self)
     }
 
     /// With a word and its value: of two words that is any text.
-    fn with_value(mut self, alloc: Global, word: &str, value: &str) -> Result<Arguments, Fault>
+    fn with_value(
+        mut self,
+        alloc: Global,
+        word: &str,
+        value: &str,
+    ) -> Result<Arguments, ProgramError>
         ensures { AreGiven (table.with_value word.now value.now (asked_of self)) result }
     {
         match word {
@@ -124,7 +142,7 @@ impl Arguments {
     }
 
     /// With a word whose value is a number, `yes`, `no` or a name.
-    fn with_read(self, alloc: Global, word: &str, value: &str) -> Result<Arguments, Fault>
+    fn with_read(self, alloc: Global, word: &str, value: &str) -> Result<Arguments, ProgramError>
         ensures { AreGiven (table.with_read word.now value.now (asked_of self)) result }
     {
         if let Some(number) = number(value) {
@@ -138,7 +156,7 @@ impl Arguments {
     }
 
     /// With a word whose value is a number.
-    fn with_number(mut self, word: &str, number: usize) -> Result<Arguments, Fault>
+    fn with_number(mut self, word: &str, number: usize) -> Result<Arguments, ProgramError>
         ensures { AreGiven (table.with_number word.now number (asked_of self)) result }
     {
         match word {
@@ -151,23 +169,23 @@ impl Arguments {
     }
 
     /// With a word whose value is a number from 1.
-    fn with_count(mut self, word: &str, count: usize) -> Result<Arguments, Fault>
+    fn with_count(mut self, word: &str, count: usize) -> Result<Arguments, ProgramError>
         ensures { AreGiven (table.with_count word.now count (asked_of self)) result }
     {
         if count == 0 {
-            return Err(Fault::Usage);
+            return Err(ProgramError::Usage);
         }
         self.options = match word {
             "--tab" => self.options.tab_width(count),
             "--label-lines" => self.options.label_lines(count),
             "--line-columns" => self.options.line_columns(count),
-            _ => return Err(Fault::Usage),
+            _ => return Err(ProgramError::Usage),
         };
         Ok(self)
     }
 
     /// With a word whose value is `yes` or `no`.
-    fn with_answer(mut self, word: &str, yes: bool) -> Result<Arguments, Fault>
+    fn with_answer(mut self, word: &str, yes: bool) -> Result<Arguments, ProgramError>
         ensures { AreGiven (table.with_answer word.now yes (asked_of self)) result }
     {
         self.options = match word {
@@ -190,19 +208,19 @@ impl Arguments {
     }
 
     /// With a word whose value is `yes` or `no`, and which speaks of the terminal.
-    fn with_terminal(mut self, word: &str, yes: bool) -> Result<Arguments, Fault>
+    fn with_terminal(mut self, word: &str, yes: bool) -> Result<Arguments, ProgramError>
         ensures { AreGiven (table.with_terminal word.now yes (asked_of self)) result }
     {
         match word {
             "--term-unicode" => self.terminal.unicode = yes,
             "--term-links" => self.terminal.hyperlinks = yes,
-            _ => return Err(Fault::Usage),
+            _ => return Err(ProgramError::Usage),
         }
         Ok(self)
     }
 
     /// With a word whose value is a name.
-    fn with_name(self, alloc: Global, word: &str, name: &str) -> Result<Arguments, Fault>
+    fn with_name(self, alloc: Global, word: &str, name: &str) -> Result<Arguments, ProgramError>
         ensures { AreGiven (table.with_name word.now name.now (asked_of self)) result }
     {
         let named = read_named(alloc, word, name)?;

@@ -3,11 +3,10 @@
 ghost use Rattle.std.specs.Prelude.{◌≡◌, ◌⊎◌, IfOk, OnErr, OnOk, string_bytes};
 ghost use Rattle.miette_tree.specs.views.Report.{tree_of};
 ghost use Rattle.miette_tree.specs.rules.Reads.{AlwaysReads};
-ghost use Rattle.miette_program.specs.steps.JobHandler.{IsAsked, IsGiven, IsLed, MayRefuse, Stays};
+ghost use Rattle.miette_program.specs.rules.JobText.{IsAsked, IsGiven, IsLed, JobMayRefuse, JobHandlerStays};
 
-use crate::arguments::Arguments;
+use crate::arguments::{Arguments, Choice};
 use crate::language::LanguageHighlighter;
-use crate::option_words::Choice;
 use miette::error::RenderError;
 use miette::handlers::{DebugReportHandler, JSONReportHandler, ReportHandler};
 use miette::highlight::Highlighter;
@@ -15,8 +14,8 @@ use miette::options::MietteHandler;
 use miette::protocol::Diagnostic;
 use miette::report::Report;
 use miette::source::SourceCode;
-use miette_devices::fault::Fault;
-use miette_tree::text_handler::append_text;
+use miette_devices::fault::ProgramError;
+use miette_tree::text_handler::append_report_text;
 use std::alloc::{AllocError, Global};
 
 /// The handler of a job.
@@ -52,15 +51,15 @@ impl JobHandler<LanguageHighlighter> {
 }
 
 /// The text that was rendered, or why there is none.
-fn text_or_fault(rendered: Result<(), RenderError>, text: String) -> Result<String, Fault>
+fn text_or_fault(rendered: Result<(), RenderError>, text: String) -> Result<String, ProgramError>
     ensures ok { IfOk result (λ it. (it ≡ text) × OnErr rendered ⊥) }
-    ensures refused { (result ≡ Err Fault.Refused) → rendered ≡ Err RenderError.Refused }
-    ensures others { OnErr result ((result ≡ Err Fault.Refused) ⊎ (result ≡ Err Fault.Memory)) }
+    ensures refused { (result ≡ Err ProgramError.Refused) → rendered ≡ Err RenderError.Refused }
+    ensures others { OnErr result ((result ≡ Err ProgramError.Refused) ⊎ (result ≡ Err ProgramError.Memory)) }
 {
     match rendered {
         Ok(()) => Ok(text),
-        Err(RenderError::Memory) => Err(Fault::Memory),
-        Err(RenderError::Refused) => Err(Fault::Refused),
+        Err(RenderError::Memory) => Err(ProgramError::Memory),
+        Err(RenderError::Refused) => Err(ProgramError::Refused),
     }
 }
 
@@ -73,21 +72,21 @@ impl<H: Highlighter> JobHandler<H> {
         &mut self,
         alloc: Global,
         report: &Report<D, S>,
-    ) -> Result<String, Fault>
+    ) -> Result<String, ProgramError>
         requires reads { AlwaysReads (tree_of D.meaning S.source report.now) }
         ensures ok { IfOk result (λ text. IsGiven H.is_blank H.may_follow self.old
             (tree_of D.meaning S.source report.now) (string_bytes text)) }
-        ensures refused { (result ≡ Err Fault.Refused) →
-            MayRefuse self.old (tree_of D.meaning S.source report.now) }
-        ensures others { OnErr result ((result ≡ Err Fault.Refused) ⊎ (result ≡ Err Fault.Memory)) }
-        ensures stays { Stays H.is_blank self.old self.new }
+        ensures refused { (result ≡ Err ProgramError.Refused) →
+            JobMayRefuse self.old (tree_of D.meaning S.source report.now) }
+        ensures others { OnErr result ((result ≡ Err ProgramError.Refused) ⊎ (result ≡ Err ProgramError.Memory)) }
+        ensures stays { JobHandlerStays H.is_blank self.old self.new }
         // By its own calls its highlighter is where it is, once it gave a text.
         ensures led { OnOk result (IsLed H.may_follow self.old self.new) }
     {
         let mut text = String::new(alloc);
         let rendered = match self {
-            JobHandler::Json => append_text(&mut text, &JSONReportHandler::new(), report),
-            JobHandler::Debug => append_text(&mut text, &DebugReportHandler::new(), report),
+            JobHandler::Json => append_report_text(&mut text, &JSONReportHandler::new(), report),
+            JobHandler::Debug => append_report_text(&mut text, &DebugReportHandler::new(), report),
             JobHandler::Built(MietteHandler::Graphical(handler)) => {
                 handler.debug(report, &mut text)
             }

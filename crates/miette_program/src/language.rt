@@ -1,4 +1,4 @@
-//! Languages by their names, and their highlighters.
+//! Languages by name, and their highlighters.
 
 ghost use Rattle.std.specs.Prelude.{◌≡◌, IfOk, None, false};
 ghost use Rattle.miette_highlight.specs.rules.FollowingCalls.{FollowTokens};
@@ -26,15 +26,15 @@ pub enum Language {
 pub struct LanguageHighlighter {
     /// The language.
     pub language: Language,
-    /// Its rules, and what the line before left open.
+    /// Its rules, and what the previous line left open.
     pub patterns: PatternHighlighter,
 }
 
 impl LanguageHighlighter {
-    /// The highlighter of a language, at the start of a text.
+    /// Creates the highlighter of a language, at the start of a text.
     ///
     /// # Errors
-    /// Where no memory is found for its rules.
+    /// `AllocError` if allocation for its rules fails.
     pub fn new(alloc: Global, language: Language) -> Result<Self, AllocError>
         ensures language { IfOk result (λ it. it.language ≡ language) }
         ensures rules { IfOk result (λ it. rule_texts it.patterns.rules.items ≡ language_rules language) }
@@ -54,7 +54,7 @@ impl Highlighter for LanguageHighlighter {
 
     fn restart(&mut self, contents: &MietteSpanContents<'_>)
         ensures stays { false ≡ false }
-        // Nothing of the text before stays open.
+        // Forgets what the previous text left open.
         ensures closed { self.new ≡ record self.old { patterns = record self.old.patterns { left_open = None } } }
     {
         self.patterns.restart(contents);

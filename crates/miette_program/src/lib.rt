@@ -1,4 +1,4 @@
-//! What words ask for, and the handler that they choose.
+//! The arguments of `job` and `bench`, and the handler that they choose.
 #![tactic(auto)]
 
 pub mod arguments;

@@ -11,38 +11,17 @@ use crate::language::{Language, LanguageHighlighter};
 use miette::options::RgbColors;
 use miette::theme::GraphicalTheme;
 use miette::wrap::WordSeparator;
-use miette_devices::fault::Fault;
+use miette_devices::fault::ProgramError;
+use miette_devices::output::Output;
 use std::alloc::Global;
-
-/// Which handler gives the text.
-#[derive(Clone, Copy, Debug, PartialEq, Eq)]
-pub enum Choice {
-    /// The one that the options build: graphical, narrated or brief.
-    Build,
-    /// JSON.
-    Json,
-    /// The debug report.
-    Debug,
-}
 
 /// The first of the words, with what belongs to it.
 #[derive(Clone, Copy)]
 pub(crate) enum Asked<'a> {
-    /// A word without a value.
-    Report(ReportAsked),
+    /// A word without a value: a form of the report.
+    Form(Output),
     /// Any other word, and its value.
     Value(&'a str, &'a str),
-}
-
-/// Which report is asked for.
-#[derive(Clone, Copy)]
-pub(crate) enum ReportAsked {
-    Json,
-    Debug,
-    Brief,
-    Github,
-    Narrated,
-    Graphical,
 }
 
 /// The first of the words with what belongs to it, and the words after. Nothing where its value is missing.
@@ -56,8 +35,8 @@ pub(crate) fn first_asked<'a>(words: &'a [String]) -> Option<(Asked<'a>, &'a [St
     let [word, rest @ ..] = words else {
         return None;
     };
-    if let Some(report) = report_named(word.as_str()) {
-        return Some((Asked::Report(report), rest));
+    if let Some(form) = Output::named(word.as_str()) {
+        return Some((Asked::Form(form), rest));
     }
     value_asked(word.as_str(), rest)
 }
@@ -72,21 +51,6 @@ fn value_asked<'a>(word: &'a str, words: &'a [String]) -> Option<(Asked<'a>, &'a
 {
     let (value, rest) = words.split_first()?;
     Some((Asked::Value(word, value.as_str()), rest))
-}
-
-/// The words without a value.
-fn report_named(word: &str) -> Option<ReportAsked>
-    ensures { result ≡ table.report_named word.now }
-{
-    match word {
-        "--json" => Some(ReportAsked::Json),
-        "--debug" => Some(ReportAsked::Debug),
-        "--brief" => Some(ReportAsked::Brief),
-        "--github" | "--brief=github" => Some(ReportAsked::Github),
-        "--narrated" => Some(ReportAsked::Narrated),
-        "--graphical" => Some(ReportAsked::Graphical),
-        _ => None,
-    }
 }
 
 /// What a word asks for whose value is a name.
@@ -104,20 +68,20 @@ pub(crate) enum Named {
 /// # Errors
 /// `Usage` where there is no such word or it takes no such name, and `Memory` where none is found for a theme or a
 /// highlighter.
-pub(crate) fn read_named(alloc: Global, word: &str, name: &str) -> Result<Named, Fault>
+pub(crate) fn read_named(alloc: Global, word: &str, name: &str) -> Result<Named, ProgramError>
     ensures { (r : JobRequest) →
         IsGiven (λ it. with_named it r) (table.with_name word.now name.now r) result }
 {
     match word {
         "--theme" => Ok(Named::Theme(theme_named(alloc, name)?)),
-        "--rgb" => Ok(Named::Rgb(rgb_named(name).ok_or(Fault::Usage)?)),
-        "--separator" => Ok(Named::Separator(separator_named(name).ok_or(Fault::Usage)?)),
+        "--rgb" => Ok(Named::Rgb(rgb_named(name).ok_or(ProgramError::Usage)?)),
+        "--separator" => Ok(Named::Separator(separator_named(name).ok_or(ProgramError::Usage)?)),
         "--highlight" => {
-            let language = language_named(name).ok_or(Fault::Usage)?;
+            let language = language_named(name).ok_or(ProgramError::Usage)?;
             Ok(Named::Highlighter(LanguageHighlighter::new(alloc, language)?))
         }
-        "--term-color" => Ok(Named::Color(color_named(name).ok_or(Fault::Usage)?)),
-        _ => Err(Fault::Usage),
+        "--term-color" => Ok(Named::Color(color_named(name).ok_or(ProgramError::Usage)?)),
+        _ => Err(ProgramError::Usage),
     }
 }
 
@@ -125,7 +89,7 @@ pub(crate) fn read_named(alloc: Global, word: &str, name: &str) -> Result<Named,
 ///
 /// # Errors
 /// `Usage` where there is none, and `Memory` where none is found for it.
-pub(crate) fn theme_named(alloc: Global, name: &str) -> Result<GraphicalTheme, Fault>
+pub(crate) fn theme_named(alloc: Global, name: &str) -> Result<GraphicalTheme, ProgramError>
     ensures { IsGiven theme_of (table.theme_named name.now) result }
 {
     match name {
@@ -133,7 +97,7 @@ pub(crate) fn theme_named(alloc: Global, name: &str) -> Result<GraphicalTheme, F
         "unicode" => Ok(GraphicalTheme::unicode(alloc)?),
         "unicode_nocolor" => Ok(GraphicalTheme::unicode_nocolor(alloc)?),
         "none" => Ok(GraphicalTheme::none(alloc)?),
-        _ => Err(Fault::Usage),
+        _ => Err(ProgramError::Usage),
     }
 }
 

@@ -11,7 +11,7 @@ use Rattle.std.proofs.lemmas.List.{map-id, append-nil, take_more, take-append-dr
 use Rattle.std.proofs.lemmas.List.{length-reverse, length_push}
 use Rattle.std.proofs.lemmas.List.Sums.{sum_by-append, count_by-le-length, prefix_len-le-length}
 use Rattle.std.proofs.lemmas.Str.{encodes-append, encodes-chars, length-le-encodes}
-use Rattle.miette_source_lines.specs.rules.Lines.{LF}
+use Rattle.miette_lines.specs.rules.Lines.{LF}
 use Rattle.miette_protocol.specs.rules.Location.{line_after, column_after, Reaches, IsFirstToReach, IsLocation}
 
 cond_eq : (b d : Bool) (m n : ℕ) → b ≡ d → cond b m n ≡ cond d m n

@@ -4,15 +4,15 @@ use Rattle.std.proofs.Common.{length, refl, sym}
 use Rattle.std.proofs.Common.{ap, ◌∙◌, inl, inr, arith}
 use Rattle.std.specs.Prelude.{◌==◌, slice_range}
 use Rattle.std.proofs.lemmas.Bool.{cases_lt, ne_eqb}
-use Rattle.miette_source_lines.specs.rules.Lines.{lines_from, lines_of, line_of, line_start, line_end, terminators_in}
-use Rattle.miette_protocol.specs.rules.Reading.{Span, Source, IsAccepted, span_end, splits_crlf, reading_end}
+use Rattle.miette_lines.specs.rules.Lines.{lines_from, lines_of, line_of, line_start, line_end, terminators_in}
+use Rattle.miette_protocol.specs.rules.Reading.{Span, Source, IsInBounds, span_end, splits_crlf, reading_end}
 use Rattle.miette_protocol.specs.rules.Reading.{data_start, data_end, contents_of}
 use Rattle.miette_protocol.specs.rules.Context.{first_line, last_line}
-use Rattle.miette_source_lines.proofs.Places.{line_of_mono, line_of_past, line_of_all, line_of_start_before}
-use Rattle.miette_source_lines.proofs.Places.{line_of_next, line_end_le, line_end_after, line_start_next}
-use Rattle.miette_source_lines.proofs.Places.{line_start_mono, line_start_le, terminators_in-is}
-use Rattle.miette_source_lines.proofs.Cuts.{few_lines, nonempty, some_line}
-use Rattle.miette_source_lines.proofs.Only.{lines_between}
+use Rattle.miette_lines.proofs.Places.{line_of_mono, line_of_past, line_of_all, line_of_start_before}
+use Rattle.miette_lines.proofs.Places.{line_of_next, line_end_le, line_end_after, line_start_next}
+use Rattle.miette_lines.proofs.Places.{line_start_mono, line_start_le, terminators_in-is}
+use Rattle.miette_lines.proofs.Cuts.{few_lines, nonempty, some_line}
+use Rattle.miette_lines.proofs.Only.{lines_between}
 
 -- where a span's read ends
 
@@ -219,7 +219,7 @@ end_within bytes span after =
     (line_end bytes (line_of bytes (reading_end bytes span) + after)) (length bytes)
     (omega arith) (line_end_le bytes (line_of bytes (reading_end bytes span) + after))
 
-pub shown_end : (source : Source) (span : Span) (before after : ℕ) → IsAccepted source.bytes span →
+pub shown_end : (source : Source) (span : Span) (before after : ℕ) → IsInBounds source.bytes span →
     min (span.offset + span.len) (length source.bytes)
     ≡ min (span.offset + span.len) ((contents_of source span before after).span.offset
     + (contents_of source span before after).span.len)

@@ -1,9 +1,9 @@
--- What users rely on, in the words of docs/RULES.md.
+-- Definitions that contracts use. docs/RULES.md says them in words.
 pub mod Reading
 pub mod Context
 pub mod Outcome
 pub mod Texts
 pub mod Location
 pub mod DebugForms
-pub use Rattle.miette_source_lines.specs.rules.Lines
-pub use Rattle.miette_source_lines.specs.rules.Cutting
+pub use Rattle.miette_lines.specs.rules.Lines
+pub use Rattle.miette_lines.specs.rules.Cutting

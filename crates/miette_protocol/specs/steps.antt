@@ -1,2 +1,2 @@
--- The code's own steps, which no rule names.
+-- Definitions of the code's internal steps. No rule names them.
 pub mod ContextLines

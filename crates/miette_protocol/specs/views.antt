@@ -1,5 +1,5 @@
--- What the code's values stand for.
-pub mod Named
+-- What the values of the code represent.
+pub mod NamedSources
 pub mod Meaning
 pub mod Diagnostic
-pub use Rattle.miette_source_lines.specs.views.Walking
+pub use Rattle.miette_lines.specs.views.Walking

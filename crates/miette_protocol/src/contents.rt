@@ -1,16 +1,16 @@
-//! The contents that a read gives.
+//! The contents that a read returns.
 
 ghost use Rattle.std.specs.Prelude.{◌≡◌, Some, None};
 ghost use Rattle.std.specs.Option.{option_copied};
 ghost use Rattle.miette_protocol.specs.rules.Reading.{Contents};
 
 use crate::protocol::SourceSpan;
-use miette_source_lines::near::{KnownLine, KnownLines};
+use miette_lines::near::{KnownLine, KnownLines};
 use std::alloc::AllocError;
 use std::marker::Model;
 
-/// The contents that a read gives: the bytes, where they stand in the source, and whose they are. Nothing
-/// in it is a copy. It stands for the trait `SpanContents` of the original crate too.
+/// The contents that a read returns: the bytes, their position in the source, and the source's name and language. All
+/// of it is borrowed. It replaces the trait `SpanContents` of the original crate.
 #[derive(Debug, Drop)]
 pub struct MietteSpanContents<'a> {
     bytes: &'a [u8],
@@ -39,7 +39,7 @@ impl<'a> Model for MietteSpanContents<'a> {
     } };
 }
 
-/// A clone has the same contents. Takes no memory.
+/// A clone has the same contents. Does not allocate.
 impl<'a> Clone for MietteSpanContents<'a> {
     ghost use Rattle.std.specs.Prelude.{◌≡◌};
 
@@ -52,14 +52,14 @@ impl<'a> Clone for MietteSpanContents<'a> {
     }
 }
 
-/// A clone of contents is equal to them.
+/// A clone of contents equals them.
 pub fn contents_clone_law<'a>()
     ensures { (a b : Contents) → ⟦<MietteSpanContents<'a> as Clone>⟧.is_clone a b → b ≡ a }
 {}
 
 impl<'a> MietteSpanContents<'a> {
-    /// Contents of a source without a name: its bytes, their span in it, the zero-based line and column at
-    /// which they begin, and how many line terminators they hold.
+    /// Creates contents without a name from the bytes, their span, the zero-based line and column of the first byte,
+    /// and the number of line terminators.
     pub fn new(
         data: &'a [u8],
         span: SourceSpan,
@@ -88,7 +88,7 @@ impl<'a> MietteSpanContents<'a> {
         }
     }
 
-    /// Contents of a source with a name.
+    /// Like `new`, with the name of the source.
     pub fn new_named(
         name: &'a str,
         data: &'a [u8],
@@ -113,7 +113,7 @@ impl<'a> MietteSpanContents<'a> {
         }
     }
 
-    /// These contents, with the language of the source as a highlighter knows it in place of any before.
+    /// Sets the language of the source, as highlighters know it.
     pub fn with_language(self, language: &'a str) -> Self
         ensures { result ≡ record self.entry { language = Some language.now } }
     {
@@ -123,35 +123,35 @@ impl<'a> MietteSpanContents<'a> {
         }
     }
 
-    /// The bytes that were read, context lines included.
+    /// Returns the bytes that were read, including context lines.
     pub fn data(&self) -> &'a [u8]
         ensures { result.now ≡ self.now.bytes }
     {
         self.bytes
     }
 
-    /// Where those bytes stand in the source.
+    /// Returns the span of those bytes in the source.
     pub fn span(&self) -> &SourceSpan
         ensures { result.now ≡ self.now.span }
     {
         &self.span
     }
 
-    /// The name of the source, if it has one.
+    /// Returns the name of the source, if it has one.
     pub fn name(&self) -> Option<&'a str>
         ensures { option_copied result ≡ self.now.name }
     {
         self.name
     }
 
-    /// The zero-based number of the line at which the bytes begin.
+    /// Returns the zero-based line number of the first byte.
     pub fn line(&self) -> usize
         ensures { result ≡ self.now.line }
     {
         self.line
     }
 
-    /// Where the bytes begin, and the line there.
+    /// Returns the offset of the first byte and its line.
     pub fn begin(&self) -> KnownLine
         ensures offset { result.offset ≡ self.now.span.offset }
         ensures line { result.line ≡ self.now.line }
@@ -162,7 +162,7 @@ impl<'a> MietteSpanContents<'a> {
         }
     }
 
-    /// The same, for a read near them.
+    /// Returns the same twice, as a hint for a read nearby.
     pub fn known(&self) -> KnownLines
         ensures offset { result.first.offset ≡ self.now.span.offset }
         ensures line { result.first.line ≡ self.now.line }
@@ -175,22 +175,22 @@ impl<'a> MietteSpanContents<'a> {
         }
     }
 
-    /// The zero-based column, in bytes of text, at which the bytes begin in that line.
+    /// Returns the zero-based column of the first byte, in bytes.
     pub fn column(&self) -> usize
         ensures { result ≡ self.now.column }
     {
         self.column
     }
 
-    /// How many line terminators have their last byte in the bytes. The code of the original crate counts
-    /// them from the start of the source, against its documentation.
+    /// Returns how many line terminators end in the bytes. (The original crate documents this, but counts from the
+    /// start of the source.)
     pub fn line_count(&self) -> usize
         ensures { result ≡ self.now.line_count }
     {
         self.line_count
     }
 
-    /// The language of the source, if it is known.
+    /// Returns the language of the source, if it is known.
     pub fn language(&self) -> Option<&'a str>
         ensures { option_copied result ≡ self.now.language }
     {

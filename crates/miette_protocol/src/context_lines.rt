@@ -1,4 +1,4 @@
-//! A label's own number of context lines, as `serde` writes and reads it.
+//! Serializes and deserializes the number of context lines of a label.
 
 ghost use Rattle.std.specs.Prelude.{◌≡◌, IfOk, OnOk};
 ghost use Rattle.std.specs.Option.{option_map};
@@ -10,7 +10,7 @@ use serde::{Deserialize, Deserializer, Format, Serialize, Serializer};
 use std::alloc::Global;
 use std::num::NonZeroUsize;
 
-/// Writes the number that is there.
+/// Writes the number.
 pub(crate) fn serialize<S: Serializer>(
     lines: &Option<NonZeroUsize>,
     out: &mut S,
@@ -24,7 +24,7 @@ pub(crate) fn serialize<S: Serializer>(
     }
 }
 
-/// Reads a number. `null` and 0 are none.
+/// Reads a number. `null` and 0 become `None`.
 pub(crate) fn deserialize<F: Format>(
     alloc: Global,
     from: &mut Deserializer<'_, '_, F>,
@@ -38,7 +38,7 @@ pub(crate) fn deserialize<F: Format>(
     Ok(context_count(number))
 }
 
-/// The number, unless it is 0.
+/// Returns the number, or `None` for 0.
 fn context_count(number: usize) -> Option<NonZeroUsize>
     ensures { option_map non_zero_usize_get result ≡ context_count (Some number) }
 {

@@ -1,4 +1,4 @@
-//! A diagnostic that is plain data, as in the crate miette 7.6.0.
+//! A diagnostic that is plain data, as in miette 7.6.0.
 
 ghost use Rattle.std.specs.Prelude.{◌≡◌, ◌↔◌, List, [], ◌∷◌, IfOk, IsTrue, Some, None, false, true, string_bytes};
 ghost use Rattle.std.specs.Iterator.{Drains, IsFinite};
@@ -12,36 +12,36 @@ use serde::{Deserialize, Serialize};
 use std::alloc::{AllocError, Global};
 use std::fmt;
 
-/// A diagnostic that is plain data, made by builders or by its fields. `with_` replaces what was
-/// there, `and_` appends to it. A builder that answers `AllocError` has dropped the value.
+/// A diagnostic that is plain data. Build it with the methods or set its fields. Methods `with_..` replace a part,
+/// methods `and_..` append to it. A method that returns `AllocError` drops the diagnostic.
 #[derive(Debug, Drop, PartialEq, Eq, Serialize, Deserialize)]
 pub struct MietteDiagnostic {
     /// The message.
     pub message: String,
-    /// A code by which the kind of error can be looked up.
+    /// The error code.
     #[serde(skip_serializing_if = "Option::is_none")]
     pub code: Option<String>,
-    /// How grave it is.
+    /// The severity.
     #[serde(skip_serializing_if = "Option::is_none")]
     pub severity: Option<Severity>,
-    /// What may help.
+    /// The help text.
     #[serde(skip_serializing_if = "Option::is_none")]
     pub help: Option<String>,
-    /// Where more is written about it.
+    /// The URL of further documentation.
     #[serde(skip_serializing_if = "Option::is_none")]
     pub url: Option<String>,
-    /// The places of the source that it speaks of.
+    /// The labels over the source.
     #[serde(skip_serializing_if = "Option::is_none")]
     pub labels: Option<Vec<LabeledSpan>>,
 }
 
-/// Two diagnostics are equal where they mean the same.
+/// Two diagnostics are equal if all their parts are.
 pub fn diagnostic_equality_law()
     ensures { (a b : MietteDiagnostic)
         → IsTrue (⟦<MietteDiagnostic as PartialEq>⟧.eq a b) ↔ (meaning_of a ≡ meaning_of b) }
 {}
 
-// A copy of a text that may be missing.
+// Copies an optional text.
 fn copied_text(alloc: Global, text: Option<&str>) -> Result<Option<String>, AllocError>
     ensures { IfOk result (λ it. option_map string_bytes it ≡ option_copied text.entry) }
 {
@@ -51,7 +51,7 @@ fn copied_text(alloc: Global, text: Option<&str>) -> Result<Option<String>, Allo
     }
 }
 
-// A copy of labels that may be missing.
+// Copies an optional list of labels.
 fn copied_labels(
     alloc: Global,
     labels: Option<&[LabeledSpan]>,
@@ -68,10 +68,10 @@ impl MietteDiagnostic {
     ghost use Rattle.miette_protocol.specs.views.Diagnostic.{meaning_of, message_alone, appended_labels};
     ghost use Rattle.miette_protocol.specs.views.Diagnostic.{with_label_at};
 
-    /// A diagnostic with a copy of a message, and nothing else.
+    /// Creates a diagnostic with a copy of a message and nothing else.
     ///
     /// # Errors
-    /// `AllocError` where memory for the copy is refused.
+    /// `AllocError` if allocation fails.
     pub fn new(alloc: Global, message: &str) -> Result<Self, AllocError>
         ensures { IfOk result (λ it. meaning_of it ≡ message_alone message.now) }
     {
@@ -85,11 +85,10 @@ impl MietteDiagnostic {
         })
     }
 
-    /// A plain diagnostic that says what another one says now, labels included: its texts and
-    /// labels are copied.
+    /// Creates a plain diagnostic with copies of the texts and labels that another one returns now.
     ///
     /// # Errors
-    /// `AllocError` where memory for the copies is refused.
+    /// `AllocError` if allocation fails.
     pub fn copied<D: Diagnostic>(alloc: Global, diagnostic: &D) -> Result<Self, AllocError>
         ensures { IfOk result (λ it. meaning_of it ≡ D.meaning diagnostic.now) }
     {
@@ -103,10 +102,10 @@ impl MietteDiagnostic {
         })
     }
 
-    /// With a copy of a code in place of the one that was there.
+    /// Sets the code.
     ///
     /// # Errors
-    /// `AllocError` where memory for the copy is refused; the value is dropped.
+    /// `AllocError` if allocation fails. The value is then dropped.
     pub fn with_code(mut self, alloc: Global, code: &str) -> Result<Self, AllocError>
         ensures { IfOk result (λ it. meaning_of it ≡ record (meaning_of self) { code = Some code.now }) }
     {
@@ -114,7 +113,7 @@ impl MietteDiagnostic {
         Ok(self)
     }
 
-    /// With a severity in place of the one that was there. Takes no memory.
+    /// Sets the severity. Does not allocate.
     pub fn with_severity(self, severity: Severity) -> Self
         ensures { meaning_of result ≡ record (meaning_of self) { severity = Some severity } }
     {
@@ -124,10 +123,10 @@ impl MietteDiagnostic {
         }
     }
 
-    /// With a copy of a help text in place of the one that was there.
+    /// Sets the help text.
     ///
     /// # Errors
-    /// `AllocError` where memory for the copy is refused; the value is dropped.
+    /// `AllocError` if allocation fails. The value is then dropped.
     pub fn with_help(mut self, alloc: Global, help: &str) -> Result<Self, AllocError>
         ensures { IfOk result (λ it. meaning_of it ≡ record (meaning_of self) { help = Some help.now }) }
     {
@@ -135,10 +134,10 @@ impl MietteDiagnostic {
         Ok(self)
     }
 
-    /// With a copy of a url in place of the one that was there.
+    /// Sets the URL.
     ///
     /// # Errors
-    /// `AllocError` where memory for the copy is refused; the value is dropped.
+    /// `AllocError` if allocation fails. The value is then dropped.
     pub fn with_url(mut self, alloc: Global, url: &str) -> Result<Self, AllocError>
         ensures { IfOk result (λ it. meaning_of it ≡ record (meaning_of self) { url = Some url.now }) }
     {
@@ -146,10 +145,10 @@ impl MietteDiagnostic {
         Ok(self)
     }
 
-    /// With one label in place of all that were there.
+    /// Replaces all labels by one.
     ///
     /// # Errors
-    /// `AllocError` where memory for the list is refused; the value is dropped.
+    /// `AllocError` if allocation fails. The value is then dropped.
     pub fn with_label(self, alloc: Global, label: LabeledSpan) -> Result<Self, AllocError>
         ensures { IfOk result (λ it. meaning_of it ≡ record (meaning_of self) {
           labels = Some (label ∷ []);
@@ -159,7 +158,7 @@ impl MietteDiagnostic {
         Ok(self.with_labels(one))
     }
 
-    /// With these labels in place of all that were there. Takes no memory.
+    /// Replaces all labels. Does not allocate.
     pub fn with_labels(self, labels: Vec<LabeledSpan>) -> Self
         ensures { meaning_of result ≡ record (meaning_of self) { labels = Some labels.items } }
     {
@@ -169,10 +168,10 @@ impl MietteDiagnostic {
         }
     }
 
-    /// With the labels that an iterator gives, in place of all that were there.
+    /// Replaces all labels by those of an iterator.
     ///
     /// # Errors
-    /// `AllocError` where memory for the list is refused; the value is dropped.
+    /// `AllocError` if allocation fails. The value is then dropped.
     pub fn with_labels_from<I: IntoIterator<Item = LabeledSpan>>(
         self,
         alloc: Global,
@@ -188,10 +187,10 @@ impl MietteDiagnostic {
         Ok(self.with_labels(list))
     }
 
-    /// With one label after those that were there.
+    /// Appends a label.
     ///
     /// # Errors
-    /// `AllocError` where memory for the list is refused; the value is dropped.
+    /// `AllocError` if allocation fails. The value is then dropped.
     pub fn and_label(mut self, alloc: Global, label: LabeledSpan) -> Result<Self, AllocError>
         ensures { IfOk result (λ it. meaning_of it ≡ record (meaning_of self) {
           labels = appended_labels (meaning_of self).labels (label ∷ []);
@@ -202,10 +201,10 @@ impl MietteDiagnostic {
         Ok(self.with_labels(labels))
     }
 
-    /// With a label on a span, with a copy of a text, after those that were there.
+    /// Appends a label with a span and a copy of a text.
     ///
     /// # Errors
-    /// `AllocError` where memory for the list or the text is refused; the value is dropped.
+    /// `AllocError` if allocation fails. The value is then dropped.
     pub fn and_label_at<S: Into<SourceSpan>>(
         self,
         alloc: Global,
@@ -219,10 +218,10 @@ impl MietteDiagnostic {
         self.and_label(alloc, label)
     }
 
-    /// As `and_label_at`, with the label marked as primary.
+    /// Like `and_label_at`, with a primary label.
     ///
     /// # Errors
-    /// `AllocError` where memory for the list or the text is refused; the value is dropped.
+    /// `AllocError` if allocation fails. The value is then dropped.
     pub fn and_primary_at<S: Into<SourceSpan>>(
         self,
         alloc: Global,
@@ -236,10 +235,10 @@ impl MietteDiagnostic {
         self.and_label(alloc, label)
     }
 
-    /// With these labels after those that were there.
+    /// Appends labels.
     ///
     /// # Errors
-    /// `AllocError` where memory for the list is refused; the value is dropped.
+    /// `AllocError` if allocation fails. The value is then dropped.
     pub fn and_labels(
         mut self,
         alloc: Global,
@@ -255,7 +254,7 @@ impl MietteDiagnostic {
     }
 }
 
-/// A clone means what its source does; `AllocError` where memory is refused.
+/// A clone has the same parts. Returns `AllocError` if allocation fails.
 impl Clone for MietteDiagnostic {
     ghost use Rattle.std.specs.Prelude.{◌≡◌};
     ghost use Rattle.miette_protocol.specs.views.Diagnostic.{meaning_of};
@@ -278,7 +277,7 @@ impl fmt::Display for MietteDiagnostic {
     }
 }
 
-/// Answers its fields.
+/// Returns the fields.
 impl Diagnostic for MietteDiagnostic {
     ghost use Rattle.miette_protocol.specs.views.Diagnostic.{meaning_of};
 

@@ -1,4 +1,4 @@
-//! How reads and reports fail.
+//! Errors of reading and of rendering.
 
 ghost use Rattle.std.specs.Prelude.{◌≡◌, ◌↔◌, IsTrue};
 
@@ -7,16 +7,16 @@ use std::alloc::AllocError;
 use std::error::Error;
 use std::{fmt, io};
 
-/// Why a span was not read.
+/// Why a span could not be read.
 #[derive(Debug, Drop)]
 pub enum MietteError {
     /// The source could not be read.
     IoError(io::Error),
-    /// The span lies outside of the source.
+    /// The span is out of bounds.
     OutOfBounds,
 }
 
-/// A source that could not be read: the error is kept inside `IoError`.
+/// Wraps the error in `IoError`.
 impl From<io::Error> for MietteError {
     ghost use Rattle.std.specs.Prelude.{◌≡◌};
     ghost use Rattle.miette_protocol.specs.declared.error.MietteError.TheVariants.{IoError};
@@ -28,7 +28,7 @@ impl From<io::Error> for MietteError {
     }
 }
 
-/// Prints the inner error, or that the span lies outside of the source.
+/// Prints the inner error, or that the span is out of bounds.
 impl fmt::Display for MietteError {
     ghost use Rattle.miette_protocol.specs.rules.Texts.{error_text};
 
@@ -46,7 +46,7 @@ impl fmt::Display for MietteError {
 
 impl Error for MietteError {}
 
-/// Fixed texts for each of the two errors, with no severity and no labels.
+/// Each error has a fixed code, help text and URL. It has no severity and no labels.
 impl Diagnostic for MietteError {
     ghost use Rattle.miette_protocol.specs.rules.Texts.{error_meaning};
 
@@ -95,22 +95,22 @@ impl Diagnostic for MietteError {
     }
 }
 
-/// Why a report was not written.
+/// Why a report could not be rendered.
 #[derive(Clone, Copy, Debug, PartialEq, Eq)]
 pub enum RenderError {
-    /// Memory was refused.
+    /// Allocation failed.
     Memory,
-    /// A read of a source was refused, for which the text has no row.
+    /// A source failed to read, and the format has no text for that.
     Refused,
 }
 
-/// Errors of writing are equal where they are the same one, and a clone is the same one.
+/// Rendering errors are equal if they are the same variant. A clone is the same variant.
 pub fn render_error_law()
     ensures equal { (a b : RenderError) → IsTrue (⟦<RenderError as PartialEq>⟧.eq a b) ↔ (a ≡ b) }
     ensures cloned { (a b : RenderError) → ⟦<RenderError as Clone>⟧.is_clone a b → b ≡ a }
 {}
 
-/// Refused memory is the error `Memory`.
+/// Allocation failure becomes `Memory`.
 impl From<AllocError> for RenderError {
     ghost use Rattle.std.specs.Prelude.{◌≡◌};
     ghost use Rattle.miette_protocol.specs.declared.error.RenderError.TheVariants.{Memory};
@@ -122,7 +122,7 @@ impl From<AllocError> for RenderError {
     }
 }
 
-/// Prints which of the two it is.
+/// Prints the error's text.
 impl fmt::Display for RenderError {
     ghost use Rattle.std.specs.Prelude.{Some};
     ghost use Rattle.miette_protocol.specs.rules.Texts.{render_text};
@@ -139,7 +139,7 @@ impl Error for RenderError {}
 impl RenderError {
     ghost use Rattle.miette_protocol.specs.rules.Texts.{render_text};
 
-    /// What it prints. Takes no memory.
+    /// Returns the text that the error prints. Does not allocate.
     pub fn text(&self) -> &'static str
         ensures { result.now ≡ render_text self.now }
     {

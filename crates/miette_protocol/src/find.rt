@@ -1,16 +1,16 @@
-//! Reading a span of bytes whose lines can be found.
+//! Reads a span of bytes, given a way to find lines.
 
 ghost use Rattle.std.specs.Prelude.{◌≡◌, ◌≤◌, ◌+◌, ◌-◌, ◌==◌, if◌then◌else◌, MatchBool, min, length};
-ghost use Rattle.miette_source_lines.specs.rules.Lines.{line_of, column_of};
-ghost use Rattle.miette_protocol.specs.rules.Reading.{IsAccepted, reading_end, data_start, data_end, plain_source};
+ghost use Rattle.miette_lines.specs.rules.Lines.{line_of, column_of};
+ghost use Rattle.miette_protocol.specs.rules.Reading.{IsInBounds, reading_end, data_start, data_end, plain_source};
 ghost use Rattle.miette_protocol.specs.rules.Outcome.{Answers};
 
 use crate::contents::MietteSpanContents;
 use crate::error::MietteError;
 use crate::protocol::{SourceOffset, SourceSpan};
-use miette_source_lines::find::{FindLines, column_from};
+use miette_lines::find::{FindLines, column_from};
 
-/// Where the data of a read begin: an offset with its line and column, and the number of the line of the span.
+/// The start of a read's data: its offset, line and column, and the line of the span.
 #[derive(Clone, Copy)]
 struct DataStart {
     at: usize,
@@ -19,16 +19,16 @@ struct DataStart {
     own: usize,
 }
 
-/// May a span be read?
-fn is_accepted(bytes: &[u8], span: &SourceSpan) -> bool
-    ensures { MatchBool result (IsAccepted bytes.now span.now) (¬ IsAccepted bytes.now span.now) }
+/// Whether a span is in bounds.
+fn is_in_bounds(bytes: &[u8], span: &SourceSpan) -> bool
+    ensures { MatchBool result (IsInBounds bytes.now span.now) (¬ IsInBounds bytes.now span.now) }
 {
     span.offset() <= bytes.len() && span.len() <= bytes.len() - span.offset() + 1
 }
 
-/// Where the read of a span ends, no further than the bytes.
+/// Returns where the read of a span ends, cut to the end of the bytes.
 fn reading_end(bytes: &[u8], span: &SourceSpan) -> usize
-    requires { IsAccepted bytes.now span.now }
+    requires { IsInBounds bytes.now span.now }
     ensures end { result ≡ min (length bytes.now) (reading_end bytes.now span.now) }
     ensures after { span.now.offset ≤ result }
     ensures within { result ≤ length bytes.now }
@@ -41,8 +41,8 @@ fn reading_end(bytes: &[u8], span: &SourceSpan) -> usize
     }
 }
 
-/// Where the data of a read end, and the number of that end's line. The number of the line of the span's
-/// offset is known.
+/// Returns where the data of a read end, and the line number there. The caller passes the line number of the span's
+/// offset.
 #[tactic(auto, using(crate::proofs::LineFacts::reads))]
 fn data_end<L: FindLines>(
     lines: &L,
@@ -52,7 +52,7 @@ fn data_end<L: FindLines>(
     after: usize,
 ) -> (usize, usize)
     requires bytes { L.text lines.now ≡ bytes.now }
-    requires accepted { IsAccepted bytes.now span.now }
+    requires accepted { IsInBounds bytes.now span.now }
     requires line { line ≡ line_of bytes.now span.now.offset }
     ensures end { result.0 ≡ data_end bytes.now span.now after }
     ensures line { result.1 ≡ line_of bytes.now result.0 }
@@ -68,12 +68,11 @@ fn data_end<L: FindLines>(
     }
 }
 
-/// Where the data of a read begin, the number and the column of that offset, and the number of the line of the
-/// span's offset.
+/// Returns where the data of a read begin, with line and column, and the line number of the span's offset.
 #[tactic(auto, using(crate::proofs::LineFacts::reads))]
 fn data_start<L: FindLines>(lines: &L, bytes: &[u8], span: &SourceSpan, before: usize) -> DataStart
     requires bytes { L.text lines.now ≡ bytes.now }
-    requires accepted { IsAccepted bytes.now span.now }
+    requires accepted { IsInBounds bytes.now span.now }
     ensures start { result.at ≡ data_start bytes.now span.now before }
     ensures own { result.own ≡ line_of bytes.now span.now.offset }
     ensures line { result.line ≡ line_of bytes.now span.now.offset - before }
@@ -102,8 +101,8 @@ fn data_start<L: FindLines>(lines: &L, bytes: &[u8], span: &SourceSpan, before: 
     }
 }
 
-/// Reads a span of the bytes: back from the span over the lines before it that are shown, once over the bytes
-/// before these, and forward from the span to the end of the data.
+/// Reads a span. It searches backwards over the context lines before the span, counts the lines before these once, and
+/// searches forwards to the end of the data.
 #[tactic(auto, using(crate::proofs::LineFacts::reads))]
 pub(crate) fn read<'a, L: FindLines>(
     lines: &L,
@@ -115,7 +114,7 @@ pub(crate) fn read<'a, L: FindLines>(
     requires { L.text lines.now ≡ bytes.now }
     ensures { Answers (plain_source bytes.now) span.now before after result }
 {
-    if !is_accepted(bytes, span) {
+    if !is_in_bounds(bytes, span) {
         return Err(MietteError::OutOfBounds);
     }
     let from = data_start(lines, bytes, span, before);

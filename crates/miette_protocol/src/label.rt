@@ -1,4 +1,4 @@
-//! Labels: spans with a text, as in the crate miette 7.6.0.
+//! Labels: spans with a text, as in miette 7.6.0.
 
 ghost use Rattle.std.specs.Prelude.{◌≡◌, ◌==◌, ◌≤◌, Some, None, IfOk, true, false, string_bytes};
 ghost use Rattle.std.specs.Option.{option_map, option_copied, ForSome};
@@ -10,8 +10,8 @@ use std::fmt;
 use std::marker::Model;
 use std::num::NonZeroUsize;
 
-/// A span of a source, with a text where there is one. It may be marked as the primary label of
-/// its diagnostic, and may ask for its own number of context lines.
+/// A span of a source, with an optional text. A label can be the primary one of its diagnostic, and can set its own
+/// number of context lines.
 #[derive(Drop, Serialize, Deserialize)]
 pub struct LabeledSpan {
     #[serde(skip_serializing_if = "Option::is_none")]
@@ -38,7 +38,7 @@ impl Model for LabeledSpan {
     } };
 }
 
-/// Two labels are equal where text, span, mark and number of context lines are.
+/// Two labels are equal if text, span, primary flag and number of context lines are.
 impl PartialEq for LabeledSpan {
     ghost use Rattle.std.specs.Prelude.{◌==◌};
     ghost use Rattle.std.proofs.Common.{rules};
@@ -70,7 +70,7 @@ impl Eq for LabeledSpan {
     ghost laws = { Prim.search (comparing, rules) depth 12 };
 }
 
-/// A clone equals its source; `AllocError` where memory for the text is refused.
+/// A clone equals the original. Returns `AllocError` if allocation fails.
 impl Clone for LabeledSpan {
     ghost use Rattle.std.specs.Prelude.{◌≡◌};
 
@@ -115,7 +115,7 @@ impl fmt::Debug for LabeledSpan {
 }
 
 impl LabeledSpan {
-    /// A label that is not primary; offset and length are in bytes.
+    /// Creates a label that isn't primary. Offset and length are in bytes.
     pub fn new(label: Option<String>, offset: ByteOffset, len: usize) -> Self
         ensures { result ≡ record {
           text = option_map string_bytes label;
@@ -127,7 +127,7 @@ impl LabeledSpan {
         LabeledSpan::new_with_span(label, (offset, len))
     }
 
-    /// A label that is not primary.
+    /// Creates a label that isn't primary.
     pub fn new_with_span<S: Into<SourceSpan>>(label: Option<String>, span: S) -> Self
         ensures text { result.text ≡ option_map string_bytes label }
         ensures span { S.converts span result.span }
@@ -142,7 +142,7 @@ impl LabeledSpan {
         }
     }
 
-    /// A primary label.
+    /// Creates a primary label.
     pub fn new_primary_with_span<S: Into<SourceSpan>>(label: Option<String>, span: S) -> Self
         ensures text { result.text ≡ option_map string_bytes label }
         ensures span { S.converts span result.span }
@@ -154,10 +154,10 @@ impl LabeledSpan {
         it
     }
 
-    /// A label with a copy of a text, not primary.
+    /// Creates a label with a copy of a text. It isn't primary.
     ///
     /// # Errors
-    /// `AllocError` where memory for the copy is refused.
+    /// `AllocError` if allocation fails.
     pub fn at<S: Into<SourceSpan>>(alloc: Global, span: S, label: &str) -> Result<Self, AllocError>
         ensures text { IfOk result (λ it. it.text ≡ Some label.now) }
         ensures span { IfOk result (λ it. S.converts span it.span) }
@@ -172,10 +172,10 @@ impl LabeledSpan {
         })
     }
 
-    /// A primary label with a copy of a text.
+    /// Creates a primary label with a copy of a text.
     ///
     /// # Errors
-    /// `AllocError` where memory for the copy is refused.
+    /// `AllocError` if allocation fails.
     pub fn primary_at<S: Into<SourceSpan>>(
         alloc: Global,
         span: S,
@@ -189,10 +189,10 @@ impl LabeledSpan {
         Ok(LabeledSpan::at(alloc, span, label)?.as_primary())
     }
 
-    /// An empty label at an offset in bytes, with a copy of a text, not primary.
+    /// Creates an empty label at a byte offset, with a copy of a text. It isn't primary.
     ///
     /// # Errors
-    /// `AllocError` where memory for the copy is refused.
+    /// `AllocError` if allocation fails.
     pub fn at_offset(alloc: Global, offset: ByteOffset, label: &str) -> Result<Self, AllocError>
         ensures { IfOk result (λ it. it ≡ record {
           text = Some label.now;
@@ -204,7 +204,7 @@ impl LabeledSpan {
         LabeledSpan::at(alloc, offset, label)
     }
 
-    /// A label without a text, not primary.
+    /// Creates a label without text. It isn't primary.
     pub fn underline<S: Into<SourceSpan>>(span: S) -> Self
         ensures text { result.text ≡ None }
         ensures span { S.converts span result.span }
@@ -214,15 +214,15 @@ impl LabeledSpan {
         LabeledSpan::new_with_span(None, span)
     }
 
-    /// Replaces the text, or takes it away.
+    /// Sets or removes the text.
     pub fn set_label(&mut self, label: Option<String>)
         ensures { self.new ≡ record self.old { text = option_map string_bytes label } }
     {
         self.label = label;
     }
 
-    /// The label with its own number of context lines: `lines` lines before and after it are shown,
-    /// whatever the handler's number is.
+    /// Sets the label's own number of context lines: `lines` lines before and after it are shown, whatever the
+    /// handler's setting is.
     pub fn with_context_lines(self, lines: usize) -> Self
         requires { 1 ≤ lines }
         ensures { result ≡ record self { context = Some lines } }
@@ -233,7 +233,7 @@ impl LabeledSpan {
         }
     }
 
-    /// The label as the primary one of its diagnostic.
+    /// Makes the label the primary one of its diagnostic.
     pub fn as_primary(self) -> Self
         ensures { result ≡ record self { primary = true } }
     {
@@ -243,7 +243,7 @@ impl LabeledSpan {
         }
     }
 
-    /// Its own number of context lines, where it has one.
+    /// Returns the label's own number of context lines, if it has one.
     pub fn context_lines(&self) -> Option<usize>
         ensures own { result ≡ self.now.context }
         ensures positive { ForSome result (λ n. 1 ≤ n) }
@@ -254,7 +254,7 @@ impl LabeledSpan {
         }
     }
 
-    /// The text, where there is one.
+    /// Returns the text, if there is one.
     pub fn label(&self) -> Option<&str>
         ensures { option_copied result ≡ self.now.text }
     {
@@ -264,21 +264,21 @@ impl LabeledSpan {
         }
     }
 
-    /// The span.
+    /// Returns the span.
     pub fn inner(&self) -> &SourceSpan
         ensures { result.now ≡ self.now.span }
     {
         &self.span
     }
 
-    /// Where the span begins, in bytes from the start of the source.
+    /// Returns where the span begins, in bytes from the start of the source.
     pub fn offset(&self) -> ByteOffset
         ensures { result ≡ self.now.span.offset }
     {
         self.span.offset()
     }
 
-    /// The length of the span in bytes.
+    /// Returns the length of the span in bytes.
     pub fn len(&self) -> usize
         ensures { result ≡ self.now.span.len }
     {
@@ -292,7 +292,7 @@ impl LabeledSpan {
         self.span.is_empty()
     }
 
-    /// Whether it is marked as primary.
+    /// Whether the label is primary.
     pub fn primary(&self) -> bool
         ensures { result ≡ self.now.primary }
     {

@@ -1,18 +1,18 @@
-//! Laws of lines and reads. Each function does nothing: its contract is the law, and a proof above calls it.
+//! Theorems about lines and reads. The functions do nothing; their contracts are the theorems.
 
 ghost use Rattle.std.specs.Prelude.{◌≡◌, ◌↔◌, ℕ, ◌+◌, ◌<◌, ◌≤◌, min, length, slice_range};
 ghost use Rattle.miette_protocol.specs.rules.Context.{first_line, last_line};
-ghost use Rattle.miette_source_lines.specs.rules.Lines.{lines_of, lines_from, line_of, line_start, line_end};
-ghost use Rattle.miette_protocol.specs.rules.Reading.{Span, Source, Contents, IsAccepted, contents_of};
+ghost use Rattle.miette_lines.specs.rules.Lines.{lines_of, lines_from, line_of, line_start, line_end};
+ghost use Rattle.miette_protocol.specs.rules.Reading.{Span, Source, Contents, IsInBounds, contents_of};
 
 use crate::error::RenderError;
 use crate::protocol::{LengthOverflow, Severity, SourceOffset, SourceSpan};
 use crate::source::MietteSpanContents;
-pub use miette_source_lines::laws::lines_cut_the_source;
+pub use miette_lines::laws::lines_cut_the_source;
 
-/// With at least one line of context before and after, the data of a read are whole lines: cut alone, they
-/// are the lines of the source from the first to the last of the context. As many terminators stand before
-/// their end as the source has up to the last line of the context, and no other line lies in the data's span.
+/// With at least one context line before and after, the data of a read are whole lines. Split into lines, they are the
+/// source's lines from the first to the last line of the context. The number of terminators before their end is the
+/// number up to the last line of the context. No other line of the source is in the data's span.
 #[tactic(auto, using(crate::proofs::Wholes::lines, crate::proofs::Wholes::count, crate::proofs::Wholes::numbers))]
 pub fn data_are_whole_lines()
     ensures lines { (source : Source) → (span : Span) → (before after : ℕ) → 1 ≤ before → 1 ≤ after →
@@ -30,18 +30,17 @@ pub fn data_are_whole_lines()
         ↔ ((first_line source.bytes span before ≤ k) × (k ≤ last_line source.bytes span after)) }
 {}
 
-/// The end of a span that is accepted, cut to the end of the source, is to be had from its own read: it is
-/// the span's end cut to the end of the data, with every number of lines of context.
+/// The end of an in-bounds span, cut to the end of the source, equals its end cut to the end of the data, for any
+/// number of context lines.
 #[tactic(auto, using(crate::proofs::Wholes::shown_end))]
 pub fn data_reach_the_span()
-    ensures { (source : Source) → (span : Span) → (before after : ℕ) → IsAccepted source.bytes span →
+    ensures { (source : Source) → (span : Span) → (before after : ℕ) → IsInBounds source.bytes span →
         min (span.offset + span.len) (length source.bytes)
         ≡ min (span.offset + span.len) ((contents_of source span before after).span.offset
         + (contents_of source span before after).span.len) }
 {}
 
-/// Offsets, spans, severities, contents and the errors without a text are cloned without memory: no such clone is
-/// refused.
+/// Cloning offsets, spans, severities, contents and errors without text never fails.
 pub fn clones_take_no_memory<'a>()
     ensures offsets { (it : ℕ) → ⟦<SourceOffset as Clone>⟧.is_infallible it }
     ensures spans { (it : Span) → ⟦<SourceSpan as Clone>⟧.is_infallible it }

@@ -1,5 +1,5 @@
-//! What the port of `miette` speaks of: spans, sources, the reading of a span, diagnostics and errors.
-//! Offsets and lengths are in bytes; numbers of lines and columns are zero-based.
+//! Spans, labels, sources, diagnostics and errors. Offsets and lengths are in bytes. Line and column numbers are
+//! zero-based.
 #![tactic(auto)]
 
 mod contents;
@@ -9,8 +9,8 @@ pub mod error;
 mod find;
 mod label;
 pub mod laws;
-mod named;
-mod named_traits;
+mod named_source;
+mod named_source_traits;
 pub mod protocol;
 pub mod source;
 mod source_code;

@@ -1,4 +1,4 @@
-//! What describes an error: offsets, spans, labels, severities, and the trait of diagnostics.
+//! What describes an error: offsets, spans, labels, severities, and the trait `Diagnostic`.
 
 ghost use Rattle.std.specs.Prelude.{◌≡◌, ◌↔◌, ◌++◌, ℕ, IsTrue};
 ghost use Rattle.std.specs.Option.{option_copied};
@@ -13,22 +13,21 @@ pub use crate::span::{ByteOffset, LengthOverflow, SourceOffset, SourceSpan, loca
 use serde::{Deserialize, Serialize};
 use std::hash::Hash;
 
-/// How grave a diagnostic is, in rising order.
+/// The severity of a diagnostic, in ascending order.
 #[derive(Clone, Copy, Debug, PartialEq, Eq, PartialOrd, Ord, Default, Serialize, Deserialize)]
 pub enum Severity {
     /// A hint: nothing is wrong.
     Advice,
-    /// Something may be wrong, and work goes on.
+    /// Something may be wrong, but the program continues.
     Warning,
-    /// Something is wrong. Reports take a diagnostic without a severity for an error.
+    /// Something is wrong. Reports treat a diagnostic without severity as an error.
     #[default]
     Error,
 }
 
-/// What comparing, hashing and cloning the types of this module say. Values are equal where all
-/// their parts are, and a clone equals its source. Offsets compare as numbers, spans by offset and
-/// then by length, and both hash these numbers. Severities rise from advice to error, and the
-/// default is an error.
+/// Comparing, hashing and cloning the types of this module. Values are equal if all their parts are, and a clone equals
+/// the original. Offsets are ordered as numbers, spans by offset and then by length; both hash these numbers.
+/// Severities ascend from advice to error. The default is an error.
 pub fn comparison_laws()
     ensures equal_offsets { (a b : ℕ) → IsTrue (⟦<SourceOffset as PartialEq>⟧.eq a b) ↔ (a ≡ b) }
     ensures equal_spans { (a b : Span) → IsTrue (⟦<SourceSpan as PartialEq>⟧.eq a b) ↔ (a ≡ b) }
@@ -55,37 +54,36 @@ pub fn comparison_laws()
         → ⟦<Severity as Default>⟧.is_default it → it ≡ Severity.Error }
 {}
 
-/// What describes an error. An implementation writes every method, and answers `None` where it has
-/// nothing to say; all answers together are its meaning.
+/// Describes an error. An implementation writes every method and returns `None` for a part that it doesn't have.
 pub trait Diagnostic: Drop {
     ghost meaning: { Self → Meaning };
 
-    /// The message.
+    /// Returns the message.
     fn message(&self) -> &str
         ensures { result.now ≡ (meaning self.now).message };
 
-    /// A code by which the kind of error can be looked up.
+    /// Returns the error code.
     fn code(&self) -> Option<&str>
         ensures { option_copied result ≡ (meaning self.now).code };
 
-    /// How grave it is.
+    /// Returns the severity.
     fn severity(&self) -> Option<Severity>
         ensures { result ≡ (meaning self.now).severity };
 
-    /// What may help.
+    /// Returns the help text.
     fn help(&self) -> Option<&str>
         ensures { option_copied result ≡ (meaning self.now).help };
 
-    /// Where more is written about it.
+    /// Returns the URL of further documentation.
     fn url(&self) -> Option<&str>
         ensures { option_copied result ≡ (meaning self.now).url };
 
-    /// The places of the source that it speaks of.
+    /// Returns the labels over the source.
     fn labels(&self) -> Option<&[LabeledSpan]>
         ensures { option_copied result ≡ (meaning self.now).labels };
 }
 
-/// Passes on what the boxed diagnostic answers.
+/// Forwards to the boxed diagnostic.
 impl Diagnostic for Box<dyn Diagnostic> {
     ghost meaning = { λ it. (Diagnostic-box it).meaning it.value };
 

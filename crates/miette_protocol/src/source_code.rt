@@ -1,43 +1,42 @@
-//! What a source is: bytes of which a span can be read.
+//! The trait of sources: bytes of which spans can be read.
 
 ghost use Rattle.std.specs.Prelude.{string_bytes};
 ghost use Rattle.miette_protocol.specs.rules.Reading.{Source, plain_source};
 ghost use Rattle.miette_protocol.specs.rules.Outcome.{Answers};
-ghost use Rattle.miette_source_lines.specs.views.Known.{IsKnown};
+ghost use Rattle.miette_lines.specs.views.Known.{IsKnown};
 
 use crate::contents::MietteSpanContents;
 use crate::error::MietteError;
 use crate::find;
 use crate::protocol::SourceSpan;
-use miette_source_lines::indexed::IndexedSource;
-use miette_source_lines::near::{KnownLines, Near, START};
+use miette_lines::indexed::IndexedSource;
+use miette_lines::near::{KnownLines, NearScan, START};
 
-/// What a read of a span answers.
+/// The result of reading a span.
 pub type ReadResult<'a> = Result<MietteSpanContents<'a>, MietteError>;
 
-/// A source of bytes. Its meaning is its bytes, its name and language, and whether it always reads.
+/// A source of bytes. Contracts describe it by its bytes, name and language, and by whether reading can fail.
 pub trait SourceCode: Drop {
     ghost source: { Self → Source };
 
     /// Reads a span with `before` lines of context before it and `after` lines after it. The contents borrow the
-    /// source's own bytes at the span that they report.
+    /// source's bytes.
     ///
-    /// A line ends with LF, CRLF or a CR that no LF follows. On a side without context the data begin or end
-    /// as the span does, a CRLF at its end whole, and an empty span at 0 as one byte. On a side with context
-    /// they begin or end where a line does; with context on both sides they are whole lines.
+    /// A line ends with LF, CRLF, or a CR that no LF follows. On a side without context the data begin or end where the
+    /// span does; a CRLF at the end is kept whole, and an empty span at 0 is read as one byte. On a side with context
+    /// the data begin or end at a line boundary.
     ///
     /// # Errors
-    /// `OutOfBounds` only for a span that begins after the end of the source or ends more than one byte past
-    /// it; such a span is always refused. `IoError` only from a source that doesn't always read, which may
-    /// answer it for any span.
+    /// `OutOfBounds` only if the span begins after the end of the source or ends more than one byte after it. Such a
+    /// span is never read. `IoError` only from a source that can fail to read; it may return that for any span.
     fn read_span(&self, span: &SourceSpan, before: usize, after: usize) -> ReadResult<'_>
         ensures { Answers (source self.now) span.now before after result };
 
-    /// The same, where the lines of two offsets are known: a source without an index counts lines from these on or
-    /// back, and not from its start. Contents tell where they begin, for the next read.
+    /// Like `read_span`, for callers that know the lines of two offsets. A source without an index counts lines from
+    /// these offsets instead of its start. Pass `MietteSpanContents::known` of the previous read.
     ///
     /// # Errors
-    /// As those of `read_span`.
+    /// Those of `read_span`.
     fn read_span_near(
         &self,
         known: KnownLines,
@@ -54,7 +53,7 @@ pub trait SourceCode: Drop {
     }
 }
 
-/// Reads a span of bytes, whose lines are found by a scan from two offsets whose lines are known.
+/// Reads a span of bytes by scanning for lines from two offsets with known lines.
 fn read_bytes<'a>(
     bytes: &'a [u8],
     known: KnownLines,
@@ -66,7 +65,7 @@ fn read_bytes<'a>(
     requires last { IsKnown bytes.now known.last }
     ensures { Answers (plain_source bytes.now) span.now before after result }
 {
-    find::read(&Near::new(bytes, known), bytes, span, before, after)
+    find::read(&NearScan::new(bytes, known), bytes, span, before, after)
 }
 
 impl SourceCode for &[u8] {
@@ -145,7 +144,7 @@ impl SourceCode for String {
     }
 }
 
-/// It has no name and no language, and always reads.
+/// It has no name and no language. Reading never fails.
 impl SourceCode for IndexedSource {
     ghost source = { λ it. plain_source it };
 
@@ -154,7 +153,7 @@ impl SourceCode for IndexedSource {
     }
 }
 
-/// A boxed source is read as the source inside.
+/// Forwards to the boxed source.
 impl SourceCode for Box<dyn SourceCode> {
     ghost source = { λ it. (SourceCode-box it).source it.value };
 

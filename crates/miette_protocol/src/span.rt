@@ -1,4 +1,4 @@
-//! Offsets and spans, in bytes, as in the crate miette 7.6.0.
+//! Offsets and spans, in bytes, as in miette 7.6.0.
 
 ghost use Rattle.std.specs.Prelude.{◌≡◌, ◌==◌, ℕ, ◌+◌, ◌-◌, ◌^◌, List, MatchResult};
 ghost use Rattle.miette_protocol.specs.rules.Location.{IsLocation};
@@ -13,7 +13,7 @@ use std::ops::{Range, RangeInclusive};
 /// A number of bytes from the start of a source.
 pub type ByteOffset = usize;
 
-/// A place in a source: a number of bytes from its start.
+/// An offset into a source, in bytes.
 #[derive(Clone, Copy, PartialEq, Eq, PartialOrd, Ord, Hash, Serialize, Deserialize)]
 #[serde(transparent)]
 pub struct SourceOffset(usize);
@@ -29,9 +29,9 @@ impl Model for SourceOffset {
 }
 
 impl SourceOffset {
-    /// The offset in bytes of the first character of a text whose line and column are at least
-    /// those asked for, or the text's length where there is none. Lines and columns count from 1;
-    /// a column counts characters, and LF alone ends a line, as in the original crate.
+    /// Returns the byte offset of the first character whose line and column are both at least those given, or the
+    /// length of the text if there is none. Lines and columns are one-based, columns count characters, and only LF ends
+    /// a line, as in the original crate.
     pub fn from_location(source: &str, line: usize, column: usize) -> Self
         ensures { IsLocation source.now line column result }
     {
@@ -53,7 +53,7 @@ impl SourceOffset {
         SourceOffset(at)
     }
 
-    /// The number of bytes from the start of the source.
+    /// Returns the number of bytes from the start of the source.
     pub fn offset(&self) -> ByteOffset
         ensures { result ≡ self.now }
     {
@@ -76,13 +76,13 @@ impl fmt::Debug for SourceOffset {
     }
 }
 
-/// A text has one location for a line and a column.
+/// A text has exactly one location for a line and a column.
 pub fn location_law()
     ensures { (text : List ℕ) (line column a b : ℕ)
         → IsLocation text line column a → IsLocation text line column b → a ≡ b }
 {}
 
-/// That many bytes from the start of a source.
+/// Converts a number of bytes.
 impl From<ByteOffset> for SourceOffset {
     ghost from_gives = { λ offset it. it ≡ offset };
 
@@ -91,7 +91,7 @@ impl From<ByteOffset> for SourceOffset {
     }
 }
 
-/// A range of a source: where it begins, and its length, both in bytes.
+/// A range of a source: its offset and length, both in bytes.
 #[derive(Clone, Copy, PartialEq, Eq, PartialOrd, Ord, Hash, Serialize, Deserialize)]
 pub struct SourceSpan {
     offset: SourceOffset,
@@ -109,7 +109,7 @@ impl Model for SourceSpan {
 }
 
 impl SourceSpan {
-    /// The span of `length` bytes from an offset on.
+    /// Creates the span of `length` bytes that begins at `start`.
     pub fn new(start: SourceOffset, length: usize) -> Self
         ensures { result ≡ record { offset = start; len = length } }
     {
@@ -119,9 +119,9 @@ impl SourceSpan {
         }
     }
 
-    /// The span of `length` bytes from a line and a column on, which count as in
-    /// `SourceOffset::from_location`: from 1, and columns in characters. After the text's last
-    /// character it begins at the text's end.
+    /// Creates the span of `length` bytes that begins at a line and column. Both are one-based, and columns count
+    /// characters, as in `SourceOffset::from_location`. After the last character the span begins at the end of the
+    /// text.
     pub fn at_line_column(text: &str, line: usize, column: usize, length: usize) -> Self
         ensures offset { IsLocation text.now line column result.offset }
         ensures len { result.len ≡ length }
@@ -129,14 +129,14 @@ impl SourceSpan {
         SourceSpan::new(SourceOffset::from_location(text, line, column), length)
     }
 
-    /// Where the span begins, in bytes from the start of the source.
+    /// Returns where the span begins, in bytes from the start of the source.
     pub fn offset(&self) -> usize
         ensures { result ≡ self.now.offset }
     {
         self.offset.offset()
     }
 
-    /// The length of the span in bytes.
+    /// Returns the length of the span in bytes.
     pub fn len(&self) -> usize
         ensures { result ≡ self.now.len }
     {
@@ -174,7 +174,7 @@ impl fmt::Debug for SourceSpan {
     }
 }
 
-/// An offset and a length, in bytes.
+/// Converts an offset and a length, both in bytes.
 impl From<(ByteOffset, usize)> for SourceSpan {
     ghost from_gives = { λ pair it. it ≡ record { offset = pair.0; len = pair.1 } };
 
@@ -183,7 +183,7 @@ impl From<(ByteOffset, usize)> for SourceSpan {
     }
 }
 
-/// An offset, and a length in bytes.
+/// Converts an offset and a length in bytes.
 impl From<(SourceOffset, usize)> for SourceSpan {
     ghost from_gives = { λ pair it. it ≡ record { offset = pair.0; len = pair.1 } };
 
@@ -192,8 +192,7 @@ impl From<(SourceOffset, usize)> for SourceSpan {
     }
 }
 
-/// From the range's start up to its end, the end not included. A range that ends before it starts
-/// has length 0.
+/// Converts a half-open range. A range that ends before it starts becomes a span of length 0.
 impl From<Range<ByteOffset>> for SourceSpan {
     ghost from_gives = { λ range it. it ≡ record {
       offset = range.start;
@@ -208,7 +207,7 @@ impl From<Range<ByteOffset>> for SourceSpan {
     }
 }
 
-/// The empty span at an offset.
+/// Converts an offset to an empty span.
 impl From<SourceOffset> for SourceSpan {
     ghost from_gives = { λ offset it. it ≡ record { offset = offset; len = 0 } };
 
@@ -217,7 +216,7 @@ impl From<SourceOffset> for SourceSpan {
     }
 }
 
-/// The empty span at an offset.
+/// Converts an offset to an empty span.
 impl From<ByteOffset> for SourceSpan {
     ghost from_gives = { λ offset it. it ≡ record { offset = offset; len = 0 } };
 
@@ -226,12 +225,12 @@ impl From<ByteOffset> for SourceSpan {
     }
 }
 
-/// The length of an inclusive range is greater than a `usize` can say. Of all ranges of `usize`
-/// this is so for `0..=usize::MAX` alone. (The original crate panics there.)
+/// The length of an inclusive range exceeds `usize::MAX`. Only `0..=usize::MAX` is that long. (The original crate
+/// panics there.)
 #[derive(Clone, Copy, Debug, PartialEq, Eq)]
 pub struct LengthOverflow;
 
-/// Prints that the length is too great.
+/// Prints that the range is too long.
 impl fmt::Display for LengthOverflow {
     ghost use Rattle.std.specs.Prelude.{Some};
     ghost use Rattle.miette_protocol.specs.rules.Texts.{overflow_text};
@@ -245,8 +244,7 @@ impl fmt::Display for LengthOverflow {
 
 impl Error for LengthOverflow {}
 
-/// From the range's start up to its end, the end included. A range that ends before it starts has
-/// length 0.
+/// Converts an inclusive range. A range that ends before it starts becomes a span of length 0.
 ///
 /// # Errors
 /// `LengthOverflow` for `0..=usize::MAX`, and for no other range.

@@ -11,18 +11,20 @@ use Rattle.miette_program.specs.rules.JobText.{IsTelling}
 use Rattle.miette_report.specs.rules.JobCalls.{AreBenchWords, CallMeasures, CallWrites, IsJobEnd, IsJobStatus}
 use Rattle.miette_report.specs.rules.JobCalls.{IsNoBenchCall, Measures}
 use Rattle.miette_program.specs.rules.OptionWords.{AreWanted}
-use Rattle.miette_devices.specs.declared.fault.Fault.{Fault}
-use Rattle.miette_devices.specs.declared.fault.Fault.TheVariants.{Usage, Memory, Description, Refused}
+use Rattle.miette_devices.specs.declared.fault.ProgramError.{ProgramError}
+use Rattle.miette_devices.specs.declared.fault.ProgramError.TheVariants.{Usage, Memory, Description, Refused}
 use Rattle.miette_program.specs.declared.language.LanguageHighlighter.{LanguageHighlighter}
-use Rattle.miette_program.specs.declared.option_words.Choice.{Choice}
+use Rattle.miette_program.specs.declared.arguments.Choice.{Choice}
 use Rattle.miette_devices.proofs.FaultStatuses.{description-status, only-usage, refused-status, usual-below}
 use Rattle.miette_devices.proofs.FaultStatuses.{usual-positive, words-status}
 use Rattle.miette_program.proofs.OptionWordSteps.{not-wrong}
 
 -- ---- statuses
 
-pub job-status : {T : Type 0} (status : Fault → ℕ) → ((f : Fault) → status f ≡ usual_status f) → (wrong : Type 0)
-    (options : List (List ℕ)) (told : Option (List ℕ)) (r : Result T Fault) (n : ℕ) → IsJobEnd wrong options told r
+pub job-status : {T : Type 0} (status : ProgramError → ℕ) → ((f : ProgramError) → status f ≡ usual_status f)
+    → (wrong : Type 0)
+    (options : List (List ℕ)) (told : Option (List ℕ)) (r : Result T ProgramError) (n : ℕ)
+    → IsJobEnd wrong options told r
     → n ≡ end_status status r → IsJobStatus wrong options told n
 job-status status usual wrong options told (Ok x) n end same =
     let zero : n ≡ 0 = same in
@@ -53,7 +55,8 @@ job-status status usual wrong options told (Err f) n end same =
 -- ---- where the words are read no further
 
 -- a fault of the words is no other
-pub early-other : {A T X : Type 0} (r : Result A Fault) (s : Result T Fault) (f g : Fault) → r ≡ Err f → s ≡ Err f
+pub early-other : {A T X : Type 0} (r : Result A ProgramError) (s : Result T ProgramError) (f g : ProgramError) → r
+    ≡ Err f → s ≡ Err f
     → ((r ≡ Err Usage) ⊎ (r ≡ Err Memory)) → (Usage ≡ g → ⊥) → (Memory ≡ g → ⊥) → s ≡ Err g → X
 early-other r s f g is same others not_usage not_memory e =
     elim others [
@@ -67,14 +70,16 @@ early-other r s f g is same others not_usage not_memory e =
           absurd (not_memory cc))
     ]
 
-pub early-failed : {A T : Type 0} (failed : Bool) (r : Result A Fault) (s : Result T Fault) (f g : Fault) → r ≡ Err f
+pub early-failed : {A T : Type 0} (failed : Bool) (r : Result A ProgramError) (s : Result T ProgramError)
+    (f g : ProgramError) → r ≡ Err f
     → s ≡ Err f → ((r ≡ Err Usage) ⊎ (r ≡ Err Memory)) → (Usage ≡ g → ⊥) → (Memory ≡ g → ⊥) → failed ≡ false
     → IsTrue failed ↔ (s ≡ Err g)
 early-failed failed r s f g is same others not_usage not_memory sound =
     (λ on. (let no : false ≡ true = sym sound ∙ on in cc), early-other r s f g is same others not_usage not_memory)
 
-pub early-end : {A T : Type 0} (wrong : Type 0) (options : List (List ℕ)) (told : Option (List ℕ)) (r : Result A Fault)
-    (s : Result T Fault) (f : Fault) → r ≡ Err f → s ≡ Err f → (r ≡ Err Usage → wrong)
+pub early-end : {A T : Type 0} (wrong : Type 0) (options : List (List ℕ)) (told : Option (List ℕ))
+    (r : Result A ProgramError)
+    (s : Result T ProgramError) (f : ProgramError) → r ≡ Err f → s ≡ Err f → (r ≡ Err Usage → wrong)
     → ((r ≡ Err Usage) ⊎ (r ≡ Err Memory)) → IsJobEnd wrong options told s
 early-end wrong options told r s f is same usage others = record {
   described = subst (λ x. OnOk x (IfSome told IsDescription)) (sym same) tt;
@@ -105,11 +110,12 @@ described is_blank c o t (Some bs) P h = (h.0, (h.1.0, h.1.1))
 
 pub writes-described : {T : Type 0} (is_blank : LanguageHighlighter → Bool) (c : Choice)
     (o : Options LanguageHighlighter) (t : Terminal) (told : Option (List ℕ)) (P : List ℕ → Type 0)
-    (r : Result T Fault) → OnOk r (IfSome told (λ bs. Writes is_blank c o t bs P)) → OnOk r (IfSome told IsDescription)
+    (r : Result T ProgramError) → OnOk r (IfSome told (λ bs. Writes is_blank c o t bs P))
+    → OnOk r (IfSome told IsDescription)
 writes-described is_blank c o t told P r = on_ok_weaker r (described is_blank c o t told P)
 
 pub settings-end : {T : Type 0} (wrong : Type 0) (words : List (List ℕ)) (c : Choice) (o : Options LanguageHighlighter)
-    (t : Terminal) (told : Option (List ℕ)) (r : Result T Fault) → AreWanted words c o t → (wrong → ⊥)
+    (t : Terminal) (told : Option (List ℕ)) (r : Result T ProgramError) → AreWanted words c o t → (wrong → ⊥)
     → OnOk r (IfSome told IsDescription) → (r ≡ Err Description → IfSome told IsNoDescription)
     → (r ≡ Err Refused → IsTelling c o t × IfSome told IsRefused) → (r ≡ Err Usage → ⊥) → IsJobEnd wrong words told r
 settings-end wrong words c o t told r are right done bad refused called = record {

@@ -5,13 +5,12 @@ use Rattle.std.proofs.Common.{subst}
 use Rattle.miette_program.specs.Options.{Options}
 use Rattle.miette_style.specs.declared.theme.Terminal.{Terminal}
 use Rattle.miette_tree.specs.rules.Tree.{Tree}
-use Rattle.miette_program.specs.steps.JobHandler.{IsAsked, IsGiven, MayRefuse}
-use Rattle.miette_description.specs.rules.Description.{tree_for}
-use Rattle.miette_program.specs.rules.JobText.{IsTelling}
+use Rattle.miette_program.specs.rules.JobText.{IsAsked, IsGiven, IsTelling, JobMayRefuse}
+use Rattle.miette_description.specs.rules.Description.{tree_of_bytes}
 use Rattle.miette_report.specs.rules.Job.{IsRefused, Writes}
 use Rattle.miette_program.specs.declared.job_handler.JobHandler.{JobHandler}
 use Rattle.miette_program.specs.declared.language.LanguageHighlighter.{LanguageHighlighter}
-use Rattle.miette_program.specs.declared.option_words.Choice.{Choice}
+use Rattle.miette_program.specs.declared.arguments.Choice.{Choice}
 use Rattle.miette_program.specs.rules.LanguageRules.{TokensFollow}
 use Rattle.miette_program.proofs.JobHandlerSteps.{asked-text, asked-refusal}
 
@@ -19,7 +18,7 @@ use Rattle.miette_program.proofs.JobHandlerSteps.{asked-text, asked-refusal}
 
 pub render-writes : {E Z : Type 0} (is_blank : LanguageHighlighter → Bool) (c : Choice)
     (o : Options LanguageHighlighter) (l : Terminal) (h : JobHandler LanguageHighlighter) (bytes : List ℕ) (t : Tree)
-    (r : Result (String Z) E) → IsAsked c o l h → (IsUtf8 bytes × (tree_for bytes ≡ Some t))
+    (r : Result (String Z) E) → IsAsked c o l h → (IsUtf8 bytes × (tree_of_bytes bytes ≡ Some t))
     → IfOk r (λ text. IsGiven is_blank TokensFollow h t (string_bytes text))
     → IfOk r (λ text. Writes is_blank c o l bytes (λ given. string_bytes text ≡ given))
 render-writes is_blank c o l h bytes t (Err e) is read given = tt
@@ -27,14 +26,14 @@ render-writes is_blank c o l h bytes t (Ok text) is read given =
     (read.0, (t, read.1, (string_bytes text, asked-text is_blank c o l h t (string_bytes text) is given, refl)))
 
 pub render-refuses : {H : Type 0} (c : Choice) (o : Options H) (l : Terminal) (h : JobHandler H) (bytes : List ℕ)
-    (t : Tree) → IsAsked c o l h → (IsUtf8 bytes × (tree_for bytes ≡ Some t)) → MayRefuse h t → IsTelling c o l
+    (t : Tree) → IsAsked c o l h → (IsUtf8 bytes × (tree_of_bytes bytes ≡ Some t)) → JobMayRefuse h t → IsTelling c o l
     × IsRefused bytes
 render-refuses c o l h bytes t is read refused = let told = asked-refusal c o l h t is refused in
     (told.0, (read.0, (t, read.1, told.1)))
 
 pub length-written : (is_blank : LanguageHighlighter → Bool) (c : Choice) (o : Options LanguageHighlighter)
     (l : Terminal) (h : JobHandler LanguageHighlighter) (bytes : List ℕ) (t : Tree) (text : List ℕ) (n : ℕ)
-    → IsAsked c o l h → (IsUtf8 bytes × (tree_for bytes ≡ Some t)) → IsGiven is_blank TokensFollow h t text
+    → IsAsked c o l h → (IsUtf8 bytes × (tree_of_bytes bytes ≡ Some t)) → IsGiven is_blank TokensFollow h t text
     → n ≡ length text → Writes is_blank c o l bytes (λ given. n ≡ length given)
 length-written is_blank c o l h bytes t text n is read given same =
     (read.0, (t, read.1, (text, asked-text is_blank c o l h t text is given, same)))

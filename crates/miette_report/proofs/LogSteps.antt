@@ -2,8 +2,8 @@
 use Rattle.std.proofs.Common.{◌≡◌, ℕ, List, [], ◌∷◌, map, Option, Some, None}
 use Rattle.std.proofs.Common.{Result, Ok, Err, IfOk, IfSome, sym, ◌∙◌, subst, ap}
 use Rattle.std.specs.Prelude.{IsUtf8}
-use Rattle.miette_description.specs.rules.Description.{tree_for}
-use Rattle.miette_logs.specs.rules.LogWords.{LogRequest, logged_text}
+use Rattle.miette_description.specs.rules.Description.{tree_of_bytes}
+use Rattle.miette_lsp.specs.rules.LogWords.{LogRequest, logged_text}
 use Rattle.miette_tree.specs.rules.Reads.{AllAlwaysRead, AlwaysReads}
 use Rattle.miette_tree.specs.rules.Tree.{Tree, trees}
 use Rattle.miette_report.specs.rules.Logs.{Logs}
@@ -13,7 +13,7 @@ pub one_reads : {R : Type 0} (value : R → Tree) (rs : List R) (r : R) → rs �
 one_reads value rs r e h = subst (λ l. AllAlwaysRead (trees (map value l))) (sym e) (h, tt)
 
 pub described : {R S E : Type 0} (value : R → Tree) (bytes_of : S → List ℕ) (rs : List R) (r : R) (asked : LogRequest)
-    (bytes : List ℕ) (made : Result S E) → rs ≡ r ∷ [] → IsUtf8 bytes × (tree_for bytes ≡ Some (value r))
+    (bytes : List ℕ) (made : Result S E) → rs ≡ r ∷ [] → IsUtf8 bytes × (tree_of_bytes bytes ≡ Some (value r))
     → IfOk made (λ text. bytes_of text ≡ logged_text asked (trees (map value rs)))
     → IfOk made (λ text. Logs asked bytes (λ log. bytes_of text ≡ log))
 described value bytes_of rs r asked bytes (Err e) same h p = tt

@@ -4,10 +4,10 @@ use Rattle.std.proofs.Common.{arith}
 use Rattle.std.proofs.lemmas.List.{take_all}
 use Rattle.std.specs.Prelude.{slice_index, slice_range, if◌then◌else◌}
 use Rattle.miette_protocol.specs.rules.Reading.{Source, reading_end}
-use Rattle.miette_source_lines.specs.rules.Lines.{Line, ends_line, line_end, line_of, lines_from, with_byte}
-use Rattle.miette_source_lines.proofs.Cuts.{few_lines}
-use Rattle.miette_source_lines.proofs.Places.{line_end_past}
-use Rattle.miette_report.specs.rules.Fixing.{whole_text}
+use Rattle.miette_lines.specs.rules.Lines.{Line, ends_line, line_end, line_of, lines_from, with_byte}
+use Rattle.miette_lines.proofs.Cuts.{few_lines}
+use Rattle.miette_lines.proofs.Places.{line_end_past}
+use Rattle.miette_report.specs.rules.AppliedFixes.{whole_text}
 
 joined : (b at n : ℕ) (ls : List Line) → length ls ≤ n → length (with_byte b at ls) ≤ suc n
 joined b at n [] h = omega arith

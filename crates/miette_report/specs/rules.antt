@@ -1,5 +1,6 @@
--- What users rely on, in the words of docs/RULES.md.
+-- The definitions that users rely on, named as in docs/RULES.md.
 pub mod Job
 pub mod Logs
 pub mod JobCalls
-pub mod Fixing
+pub mod AppliedFixes
+pub mod Requests

@@ -1,2 +1,2 @@
--- The code's own steps, which no rule names.
+-- Helper definitions of the code that no rule mentions.
 pub mod FixLists

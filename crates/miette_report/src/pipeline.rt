@@ -6,14 +6,13 @@ ghost use Rattle.std.specs.Io.KnownBytes.{Appends};
 ghost use Rattle.miette_devices.specs.views.Device.{TakesBeginning};
 ghost use Rattle.miette_tree.specs.views.Report.{tree_of};
 ghost use Rattle.miette_tree.specs.rules.Reads.{AlwaysReads};
-ghost use Rattle.miette_description.specs.rules.Description.{tree_for};
-ghost use Rattle.miette_program.specs.steps.JobHandler.{IsAsked, IsGiven, MayRefuse};
+ghost use Rattle.miette_description.specs.rules.Description.{tree_of_bytes};
+ghost use Rattle.miette_program.specs.rules.JobText.{IsAsked, IsGiven, IsTelling, JobMayRefuse};
 ghost use Rattle.miette_report.specs.rules.Job.{IsDescription, IsNoDescription, IsRefused, Writes};
-ghost use Rattle.miette_program.specs.rules.JobText.{IsTelling};
 
 use miette_description::error::BuildError;
 use miette_devices::device::Device;
-use miette_devices::fault::Fault;
+use miette_devices::fault::ProgramError;
 use miette_devices::whole::{read_whole, write_whole};
 use miette_highlight::highlight::Highlighter;
 use miette_program::arguments::Arguments;
@@ -26,19 +25,19 @@ use std::alloc::Global;
 use std::io::{Read, Write};
 
 /// The report that the bytes describe.
-pub(crate) fn report_of(alloc: Global, bytes: &[u8]) -> Result<Report, Fault>
+pub(crate) fn report_from_json(alloc: Global, bytes: &[u8]) -> Result<Report, ProgramError>
     ensures ok { IfOk result (λ r. IsUtf8 bytes.now
-        × (tree_for bytes.now ≡ Some (tree_of ⟦<Box<dyn Diagnostic> as Diagnostic>⟧.meaning
+        × (tree_of_bytes bytes.now ≡ Some (tree_of ⟦<Box<dyn Diagnostic> as Diagnostic>⟧.meaning
         ⟦<Box<dyn SourceCode> as SourceCode>⟧.source r))) }
     ensures sources { IfOk result (λ r. AlwaysReads
         (tree_of ⟦<Box<dyn Diagnostic> as Diagnostic>⟧.meaning ⟦<Box<dyn SourceCode> as SourceCode>⟧.source r)) }
-    ensures description { (result ≡ Err Fault.Description) → IsNoDescription bytes.now }
-    ensures others { OnErr result ((result ≡ Err Fault.Description) ⊎ (result ≡ Err Fault.Memory)) }
+    ensures description { (result ≡ Err ProgramError.Description) → IsNoDescription bytes.now }
+    ensures others { OnErr result ((result ≡ Err ProgramError.Description) ⊎ (result ≡ Err ProgramError.Memory)) }
 {
-    match miette_description::report::report_of(alloc, bytes) {
+    match miette_description::report::report_from_json(alloc, bytes) {
         Ok(report) => Ok(report),
-        Err(BuildError::Memory) => Err(Fault::Memory),
-        Err(BuildError::Description) => Err(Fault::Description),
+        Err(BuildError::Memory) => Err(ProgramError::Memory),
+        Err(BuildError::Description) => Err(ProgramError::Description),
     }
 }
 
@@ -47,29 +46,29 @@ fn report_and_handler(
     alloc: Global,
     bytes: &[u8],
     settings: Arguments,
-) -> Result<(Report, JobHandler<LanguageHighlighter>), Fault>
+) -> Result<(Report, JobHandler<LanguageHighlighter>), ProgramError>
     ensures ok { IfOk result (λ it. IsUtf8 bytes.now
-        × (tree_for bytes.now ≡ Some (tree_of ⟦<Box<dyn Diagnostic> as Diagnostic>⟧.meaning
+        × (tree_of_bytes bytes.now ≡ Some (tree_of ⟦<Box<dyn Diagnostic> as Diagnostic>⟧.meaning
         ⟦<Box<dyn SourceCode> as SourceCode>⟧.source it.0))) }
     ensures sources { IfOk result (λ it. AlwaysReads
         (tree_of ⟦<Box<dyn Diagnostic> as Diagnostic>⟧.meaning ⟦<Box<dyn SourceCode> as SourceCode>⟧.source it.0)) }
     ensures asked { IfOk result (λ it. IsAsked settings.choice settings.options settings.terminal it.1) }
-    ensures description { (result ≡ Err Fault.Description) → IsNoDescription bytes.now }
-    ensures others { OnErr result ((result ≡ Err Fault.Description) ⊎ (result ≡ Err Fault.Memory)) }
+    ensures description { (result ≡ Err ProgramError.Description) → IsNoDescription bytes.now }
+    ensures others { OnErr result ((result ≡ Err ProgramError.Description) ⊎ (result ≡ Err ProgramError.Memory)) }
 {
-    let report = report_of(alloc, bytes)?;
+    let report = report_from_json(alloc, bytes)?;
     Ok((report, JobHandler::new(alloc, settings)?))
 }
 
 /// The text for a description.
-fn text_of(alloc: Global, bytes: &[u8], settings: Arguments) -> Result<String, Fault>
+fn text_of(alloc: Global, bytes: &[u8], settings: Arguments) -> Result<String, ProgramError>
     ensures ok { IfOk result (λ text. Writes ⟦<LanguageHighlighter as Highlighter>⟧.is_blank settings.choice
         settings.options settings.terminal bytes.now (λ given. string_bytes text ≡ given)) }
-    ensures description { (result ≡ Err Fault.Description) → IsNoDescription bytes.now }
-    ensures refused { (result ≡ Err Fault.Refused) →
+    ensures description { (result ≡ Err ProgramError.Description) → IsNoDescription bytes.now }
+    ensures refused { (result ≡ Err ProgramError.Refused) →
         IsTelling settings.choice settings.options settings.terminal × IsRefused bytes.now }
-    ensures others { OnErr result ((result ≡ Err Fault.Description) ⊎ (result ≡ Err Fault.Refused)
-        ⊎ (result ≡ Err Fault.Memory)) }
+    ensures others { OnErr result ((result ≡ Err ProgramError.Description) ⊎ (result ≡ Err ProgramError.Refused)
+        ⊎ (result ≡ Err ProgramError.Memory)) }
 {
     let (report, mut handler) = report_and_handler(alloc, bytes, settings)?;
     handler.render(alloc, &report)
@@ -81,15 +80,15 @@ fn render_times<H: Highlighter>(
     alloc: Global,
     report: &Report,
     times: usize,
-) -> Result<String, Fault>
+) -> Result<String, ProgramError>
     requires reads { AlwaysReads (tree_of ⟦<Box<dyn Diagnostic> as Diagnostic>⟧.meaning
         ⟦<Box<dyn SourceCode> as SourceCode>⟧.source report.now) }
     ensures ok { IfOk result (λ text. IsGiven H.is_blank H.may_follow handler.old
         (tree_of ⟦<Box<dyn Diagnostic> as Diagnostic>⟧.meaning ⟦<Box<dyn SourceCode> as SourceCode>⟧.source
         report.now) (string_bytes text)) }
-    ensures others { OnErr result ((result ≡ Err Fault.Refused) ⊎ (result ≡ Err Fault.Memory)) }
-    ensures refused { (result ≡ Err Fault.Refused) →
-        MayRefuse handler.old (tree_of ⟦<Box<dyn Diagnostic> as Diagnostic>⟧.meaning
+    ensures others { OnErr result ((result ≡ Err ProgramError.Refused) ⊎ (result ≡ Err ProgramError.Memory)) }
+    ensures refused { (result ≡ Err ProgramError.Refused) →
+        JobMayRefuse handler.old (tree_of ⟦<Box<dyn Diagnostic> as Diagnostic>⟧.meaning
         ⟦<Box<dyn SourceCode> as SourceCode>⟧.source report.now) }
 {
     for _ in 1..times {
@@ -105,16 +104,16 @@ pub(crate) fn rendered_length(
     bytes: &[u8],
     times: usize,
     settings: Arguments,
-) -> Result<usize, Fault>
+) -> Result<usize, ProgramError>
     ensures ok { IfOk result (λ n. 0 < times →
         Writes ⟦<LanguageHighlighter as Highlighter>⟧.is_blank settings.choice settings.options settings.terminal
         bytes.now (λ text. n ≡ length text)) }
     ensures none { IfOk result (λ n. times ≡ 0 → n ≡ 0) }
     ensures described { OnOk result (IsDescription bytes.now) }
-    ensures others { OnErr result ((result ≡ Err Fault.Description) ⊎ (result ≡ Err Fault.Refused)
-        ⊎ (result ≡ Err Fault.Memory)) }
-    ensures description { (result ≡ Err Fault.Description) → IsNoDescription bytes.now }
-    ensures refused { (result ≡ Err Fault.Refused) →
+    ensures others { OnErr result ((result ≡ Err ProgramError.Description) ⊎ (result ≡ Err ProgramError.Refused)
+        ⊎ (result ≡ Err ProgramError.Memory)) }
+    ensures description { (result ≡ Err ProgramError.Description) → IsNoDescription bytes.now }
+    ensures refused { (result ≡ Err ProgramError.Refused) →
         IsTelling settings.choice settings.options settings.terminal × IsRefused bytes.now }
 {
     let (report, mut handler) = report_and_handler(alloc, bytes, settings)?;
@@ -137,28 +136,28 @@ pub fn run<R: Read, W: Write>(
     reader: &mut Device<R>,
     writer: &mut Device<W>,
     settings: Arguments,
-) -> Result<(), Fault>
+) -> Result<(), ProgramError>
     requires reader_sound { reader.old.failed ≡ false }
     requires writer_sound { writer.old.failed ≡ false }
     // All that the reader had left is a description, and the writer took its text and nothing else.
     ensures ok { OnOk result (IfSome (R.remaining reader.old.inner) (λ bytes.
         Writes ⟦<LanguageHighlighter as Highlighter>⟧.is_blank settings.choice settings.options settings.terminal bytes
         (Appends (W.contents writer.old.inner) (W.contents writer.new.inner)))) }
-    ensures description { (result ≡ Err Fault.Description) →
+    ensures description { (result ≡ Err ProgramError.Description) →
         IfSome (R.remaining reader.old.inner) IsNoDescription }
-    ensures read_failed { IsTrue reader.new.failed ↔ (result ≡ Err Fault.Read) }
-    ensures write_failed { IsTrue writer.new.failed ↔ (result ≡ Err Fault.Write) }
+    ensures read_failed { IsTrue reader.new.failed ↔ (result ≡ Err ProgramError.Read) }
+    ensures write_failed { IsTrue writer.new.failed ↔ (result ≡ Err ProgramError.Write) }
     // Only a narrated or brief report is refused, and only where a label that it tells isn't accepted.
-    ensures refused { (result ≡ Err Fault.Refused) →
+    ensures refused { (result ≡ Err ProgramError.Refused) →
         IsTelling settings.choice settings.options settings.terminal
         × IfSome (R.remaining reader.old.inner) IsRefused }
     // After a write fault a beginning of the text was taken.
-    ensures beginning { (result ≡ Err Fault.Write) → IfSome (R.remaining reader.old.inner) (λ bytes.
+    ensures beginning { (result ≡ Err ProgramError.Write) → IfSome (R.remaining reader.old.inner) (λ bytes.
         Writes ⟦<LanguageHighlighter as Highlighter>⟧.is_blank settings.choice settings.options settings.terminal bytes
         (TakesBeginning (W.contents writer.old.inner) (W.contents writer.new.inner))) }
-    ensures called { ¬ (result ≡ Err Fault.Usage) }
+    ensures called { ¬ (result ≡ Err ProgramError.Usage) }
     // After any other error nothing was written.
-    ensures untouched { OnErr result ((result ≡ Err Fault.Write) ⊎ (writer.new ≡ writer.old)) }
+    ensures untouched { OnErr result ((result ≡ Err ProgramError.Write) ⊎ (writer.new ≡ writer.old)) }
 {
     let bytes = read_whole(alloc, reader)?;
     let text = text_of(alloc, bytes.as_slice(), settings)?;

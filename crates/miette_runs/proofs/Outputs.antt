@@ -3,7 +3,7 @@ use Rattle.std.proofs.Common.{◌≡◌, ℕ, List, [], ◌∷◌, ◌++◌, cha
 use Rattle.std.proofs.Common.{String, string_bytes}
 use Rattle.std.proofs.lemmas.Str.{chars-nil, encodes-append, encodes-chars}
 use Rattle.std.specs.Str.{IsUtf8}
-use Rattle.miette_page.proofs.PrintedText.{text-bytes}
+use Rattle.miette_style.proofs.PrintedText.{text-bytes}
 use Rattle.miette_runs.specs.rules.Runs.{link_start}
 
 -- the bytes of a text that was empty

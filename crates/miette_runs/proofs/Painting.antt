@@ -4,7 +4,7 @@ use Rattle.std.proofs.Common.{append_assoc}
 use Rattle.std.specs.Str.{chars}
 use Rattle.miette_runs.specs.rules.Runs.{printed_run}
 use Rattle.miette_style.specs.rules.Codes.{colour_start, colour_stop, style_codes}
-use Rattle.miette_basics.specs.rules.Lists.{is_nil}
+use Rattle.miette_lines.specs.rules.Lists.{is_nil}
 use Rattle.miette_style.specs.declared.style.Style.{Style}
 
 pub run-plain : (s : Style) (text : List ℕ) → is_nil (style_codes s) ≡ true → printed_run s text ≡ text

@@ -1,7 +1,7 @@
 -- What begins a style is a colour.
 use Rattle.std.proofs.Common.{◌≡◌, ℕ, true, false, ◌==◌, List, [], ◌∷◌, ◌++◌, refl, arith}
 use Rattle.std.proofs.lemmas.Bool.Decides.{nat_tests}
-use Rattle.miette_page.proofs.StyleBytes.{parameters, separated_style}
+use Rattle.miette_style.proofs.StyleBytes.{parameters, separated_style}
 use Rattle.miette_runs.specs.rules.Sequences.{is_parameter}
 use Rattle.miette_runs.specs.rules.Colours.{is_colour, is_colour_end}
 use Rattle.miette_style.specs.declared.style.Style.{Style}

@@ -8,7 +8,7 @@ use Rattle.std.proofs.Math.Bool.{and_assoc}
 use Rattle.miette_style.specs.rules.Codes.{colour_start}
 use Rattle.miette_runs.specs.rules.Sequences.{Token, Character, Sequence, is_whole, tokens, spell, is_line_feed}
 use Rattle.miette_runs.specs.rules.Sequences.{is_bell, one_more, begins_terminator, control_len, command_len}
-use Rattle.miette_runs.specs.rules.Sequences.{after_escape_len, sequence_len, are_settled}
+use Rattle.miette_runs.specs.rules.Sequences.{after_escape_len, sequence_len, are_canonical}
 use Rattle.miette_style.specs.rules.Escapes.{is_escape}
 use Rattle.miette_runs.specs.rules.Colours.{is_colour}
 use Rattle.miette_style.specs.rules.Escapes.{no_escape}
@@ -149,14 +149,14 @@ start-whole s = colour-whole (colour_start s) (start_colour s)
 
 -- ---- exactly those are settled
 
-settled-front : (ms : List Tag) (ts : List Token) → are_settled (map tag_token ms ++ ts)
-    ≡ (are_whole ms && are_settled ts)
+settled-front : (ms : List Tag) (ts : List Token) → are_canonical (map tag_token ms ++ ts)
+    ≡ (are_whole ms && are_canonical ts)
 settled-front [] ts = refl
 settled-front (m ∷ ms) ts =
     ap (λ b. is_whole (tag_text m) && b) (settled-front ms ts)
-    ∙ sym (and_assoc (is_whole (tag_text m)) (are_whole ms) (are_settled ts))
+    ∙ sym (and_assoc (is_whole (tag_text m)) (are_whole ms) (are_canonical ts))
 
-settled-tags_alone : (ms : List Tag) → are_settled (map tag_token ms) ≡ are_whole ms
+settled-tags_alone : (ms : List Tag) → are_canonical (map tag_token ms) ≡ are_whole ms
 settled-tags_alone [] = refl
 settled-tags_alone (m ∷ ms) = ap (λ b. is_whole (tag_text m) && b) (settled-tags_alone ms)
 
@@ -176,7 +176,7 @@ between false true true d = refl
 between false true false d = refl
 between false false c d = refl
 
-pub settled-exact : (p : ℕ) (cs : List ℕ) (ms : List Tag) → are_settled (interleaving p cs ms)
+pub settled-exact : (p : ℕ) (cs : List ℕ) (ms : List Tag) → are_canonical (interleaving p cs ms)
     ≡ (no_escape cs && are_whole ms)
 settled-exact p [] ms = settled-tags_alone ms
 settled-exact p (c ∷ cs) ms =

@@ -5,7 +5,7 @@ use Rattle.std.proofs.lemmas.List.{take_at}
 use Rattle.miette_runs.specs.rules.Sequences.{Token, Character, Sequence, tokens, tokens_after, spell, one_more}
 use Rattle.miette_runs.specs.rules.Sequences.{control_len, sequence_len}
 use Rattle.miette_runs.specs.rules.Colours.{is_colour, is_colour_end}
-use Rattle.miette_basics.specs.rules.Lists.{is_nil}
+use Rattle.miette_lines.specs.rules.Lists.{is_nil}
 
 pub one_more_pos : (n : ℕ) → 0 < n → one_more n ≡ suc n
 one_more_pos zero h = omega arith

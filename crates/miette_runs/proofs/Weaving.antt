@@ -5,8 +5,8 @@ use Rattle.std.proofs.Common.{◌∙◌, arith, append_assoc, append-nil, leb-tr
 use Rattle.std.proofs.lemmas.Bool.Decides.{nat_tests}
 use Rattle.std.proofs.lemmas.List.{drop_more, drop_all, take_all}
 use Rattle.std.specs.List.{concat}
-use Rattle.miette_runs.specs.steps.Cells.{plain_cell, plain_cells}
-use Rattle.miette_runs.specs.rules.Cells.{tags_text, piece_text, Cell}
+use Rattle.miette_runs.specs.steps.Cells.{plain_cell, bare_cells}
+use Rattle.miette_runs.specs.rules.Cells.{tags_text, piece_text, TaggedChar}
 use Rattle.miette_runs.specs.rules.Sequences.{Token, Character, spell}
 use Rattle.miette_runs.specs.views.Interleaving.{tag_text, tag_token, upto, beyond, interleaving, cells_at, left_at}
 use Rattle.miette_runs.specs.views.Interleaving.{tags_spelled}
@@ -29,7 +29,7 @@ beyond-near p m ms h = grind (arith, nat_tests)
 -- ---- the characters up to the next tag
 
 pub cells-gap : (k p : ℕ) (cs : List ℕ) (m : Tag) (ms : List Tag) → k ≤ m.at - p → cells_at p cs (m ∷ ms)
-    ≡ plain_cells (take k cs) ++ cells_at (p + k) (drop k cs) (m ∷ ms)
+    ≡ bare_cells (take k cs) ++ cells_at (p + k) (drop k cs) (m ∷ ms)
 cells-gap zero p cs m ms h = ap (λ q. cells_at q cs (m ∷ ms)) (omega arith)
 cells-gap (suc k) p [] m ms h = refl
 cells-gap (suc k) p (c ∷ cs) m ms h =
@@ -38,7 +38,7 @@ cells-gap (suc k) p (c ∷ cs) m ms h =
     ap₂ (λ us vs. record { tags = map tag_text us; code = c } ∷ cells_at (suc p) cs vs) (upto-far p m ms far)
     (beyond-far p m ms far)
     ∙ ap (λ xs. plain_cell c ∷ xs) (cells-gap k (suc p) cs m ms (omega arith)
-    ∙ ap (λ q. plain_cells (take k cs) ++ cells_at q (drop k cs) (m ∷ ms)) next)
+    ∙ ap (λ q. bare_cells (take k cs) ++ cells_at q (drop k cs) (m ∷ ms)) next)
 
 pub left-gap : (k p : ℕ) (cs : List ℕ) (m : Tag) (ms : List Tag) → k ≤ m.at - p → left_at p cs (m ∷ ms)
     ≡ left_at (p + k) (drop k cs) (m ∷ ms)
@@ -87,7 +87,7 @@ woven-near p (c ∷ cs) m ms h =
 
 -- ---- plain characters
 
-text-plain : (xs : List ℕ) (cs : List Cell) → piece_text (plain_cells xs ++ cs) ≡ xs ++ piece_text cs
+text-plain : (xs : List ℕ) (cs : List TaggedChar) → piece_text (bare_cells xs ++ cs) ≡ xs ++ piece_text cs
 text-plain [] cs = refl
 text-plain (x ∷ xs) cs = ap (λ us. x ∷ us) (text-plain xs cs)
 

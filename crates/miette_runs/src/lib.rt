@@ -1,4 +1,4 @@
-//! Runs: texts in styles, with links and the sequences that they brought along, as they are read, appended and printed.
+//! Runs: styled text with links and escape sequences, read from texts, appended and printed.
 #![tactic(auto)]
 
 pub mod runs;

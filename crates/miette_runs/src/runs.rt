@@ -1,5 +1,5 @@
-//! Runs: texts in styles, links, and the sequences that a text brought along, kept apart from the characters
-//! between them until they are printed.
+//! Runs: styled text. Style changes, links and other escape sequences are stored separately from the characters until
+//! they are printed.
 
 ghost use Rattle.std.specs.Prelude.{◌≡◌, ◌++◌, ◌∷◌, [], List, IfOk, OnOk, chars, map, true};
 ghost use Rattle.miette_runs.specs.rules.Runs.{link_start, printed_run};
@@ -11,28 +11,29 @@ pub mod cells;
 pub mod codes;
 pub mod columns;
 mod cut;
-pub mod cutting;
 pub mod output;
 pub mod reading;
 mod sequences;
 pub mod sign;
 pub mod sink;
 pub mod tags;
+pub mod trimming;
 
 use crate::runs::sequences::sequence_at;
 use crate::runs::sign::{Sign, Tag, shared_sign};
 use crate::runs::sink::Sink;
-use miette_page::canvas::Canvas;
-use miette_style::codes::begun_style;
+use miette_style::canvas::Canvas;
+use miette_style::codes::style_of_codes;
 use miette_style::style::Style;
 use std::alloc::{AllocError, Global};
 use std::marker::Model;
 use std::rc::Rc;
 
-/// Characters, and in order the signs that stand between them, each with how many characters are before it.
+/// A list of characters, and the signs between them, in order. A sign is a style change or an escape sequence; it has
+/// an index into the characters.
 ///
-/// A run in a style is what stands between the sign that begins the style and the one that ends it. Where memory is
-/// wanting, what the runs hold is open: they are to be dropped.
+/// A run is the text between the sign that begins a style and the one that ends it. After an allocation failure the
+/// content is unspecified; drop it.
 #[derive(Debug, Drop)]
 pub struct Runs {
     codes: Vec<char>,
@@ -52,7 +53,7 @@ impl Model for Runs {
 }
 
 impl Runs {
-    /// No runs.
+    /// Creates empty runs.
     pub fn new(alloc: Global) -> Self
         ensures { result ≡ [] }
     {
@@ -62,7 +63,7 @@ impl Runs {
         }
     }
 
-    /// Characters alone.
+    /// Creates runs of characters without signs.
     pub(crate) fn of_characters(alloc: Global, codes: Vec<char>) -> Self
         ensures { result ≡ map Character codes.items }
     {
@@ -75,7 +76,7 @@ impl Runs {
     /// Appends a character.
     ///
     /// # Errors
-    /// `AllocError` where memory is refused.
+    /// `AllocError` if allocation fails.
     pub fn push(&mut self, c: char) -> Result<(), AllocError>
         ensures tokens { OnOk result (self.new ≡ self.old ++ Character c ∷ []) }
         ensures text { OnOk result (spell self.new ≡ spell self.old ++ c ∷ []) }
@@ -87,7 +88,7 @@ impl Runs {
     /// Appends characters.
     ///
     /// # Errors
-    /// `AllocError` where memory is refused.
+    /// `AllocError` if allocation fails.
     pub fn push_chars(&mut self, codes: &[char]) -> Result<(), AllocError>
         ensures tokens { OnOk result (self.new ≡ self.old ++ map Character codes.now) }
         ensures text { OnOk result (spell self.new ≡ spell self.old ++ codes.now) }
@@ -98,7 +99,7 @@ impl Runs {
     /// Appends the characters of a text.
     ///
     /// # Errors
-    /// `AllocError` where memory is refused.
+    /// `AllocError` if allocation fails.
     pub fn push_str(&mut self, text: &str) -> Result<(), AllocError>
         ensures tokens { OnOk result (self.new ≡ self.old ++ map Character (chars text.now)) }
         ensures text { OnOk result (spell self.new ≡ spell self.old ++ chars text.now) }
@@ -109,7 +110,7 @@ impl Runs {
         Ok(())
     }
 
-    // A sign after the last character.
+    // Appends a sign after the last character.
     fn push_tag(&mut self, sign: Rc<Sign>) -> Result<(), AllocError>
         ensures tokens { OnOk result (self.new ≡ self.old ++ Sequence (sign_text sign.value) ∷ []) }
         ensures text { OnOk result (spell self.new ≡ spell self.old ++ sign_text sign.value) }
@@ -119,7 +120,7 @@ impl Runs {
         Ok(())
     }
 
-    // A sign that no other runs have.
+    // Appends a sign that isn't shared yet.
     fn push_own(&mut self, sign: Sign) -> Result<(), AllocError>
         ensures tokens { OnOk result (self.new ≡ self.old ++ Sequence (sign_text sign) ∷ []) }
         ensures text { OnOk result (spell self.new ≡ spell self.old ++ sign_text sign) }
@@ -128,7 +129,7 @@ impl Runs {
         self.push_tag(shared)
     }
 
-    /// Appends a sign of other runs, which these share then.
+    /// Appends a sign of other runs, which both share afterwards.
     pub(crate) fn push_sign(&mut self, sign: &Rc<Sign>) -> Result<(), AllocError>
         ensures tokens { OnOk result (self.new ≡ self.old ++ Sequence (sign_text sign.now.value) ∷ []) }
         ensures text { OnOk result (spell self.new ≡ spell self.old ++ sign_text sign.now.value) }
@@ -137,7 +138,7 @@ impl Runs {
         self.push_tag(shared)
     }
 
-    /// Appends codes as one sign.
+    /// Appends codes as a single sign.
     pub(crate) fn push_codes_as_sign(&mut self, codes: &[char]) -> Result<(), AllocError>
         ensures tokens { OnOk result (self.new ≡ self.old ++ Sequence codes.now ∷ []) }
         ensures text { OnOk result (spell self.new ≡ spell self.old ++ codes.now) }
@@ -145,7 +146,7 @@ impl Runs {
         if is_end(codes) {
             return self.push_own(Sign::End);
         }
-        if let Some(style) = begun_style(codes) {
+        if let Some(style) = style_of_codes(codes) {
             return self.push_own(Sign::Begin(style));
         }
         let alloc = *self.codes.allocator();
@@ -153,10 +154,10 @@ impl Runs {
         self.push_own(Sign::Sequence(copy))
     }
 
-    /// Begins a style, in which what is appended next is printed.
+    /// Begins a style. It applies to what is appended next.
     ///
     /// # Errors
-    /// `AllocError` where memory is refused.
+    /// `AllocError` if allocation fails.
     pub fn begin(&mut self, style: Style) -> Result<(), AllocError>
         ensures tokens { OnOk result (self.new ≡ self.old ++ Sequence (colour_start style) ∷ []) }
         ensures text { OnOk result (spell self.new ≡ spell self.old ++ colour_start style) }
@@ -167,7 +168,7 @@ impl Runs {
     /// Ends the style.
     ///
     /// # Errors
-    /// `AllocError` where memory is refused.
+    /// `AllocError` if allocation fails.
     pub fn end(&mut self) -> Result<(), AllocError>
         ensures tokens { OnOk result (self.new ≡ self.old ++ Sequence colour_stop ∷ []) }
         ensures text { OnOk result (spell self.new ≡ spell self.old ++ colour_stop) }
@@ -178,7 +179,7 @@ impl Runs {
     /// Appends a text in a style.
     ///
     /// # Errors
-    /// `AllocError` where memory is refused.
+    /// `AllocError` if allocation fails.
     pub fn push_run(&mut self, style: Style, text: &str) -> Result<(), AllocError>
         ensures text { OnOk result (spell self.new ≡ spell self.old ++ printed_run style (chars text.now)) }
     {
@@ -188,7 +189,7 @@ impl Runs {
     /// Appends characters in a style.
     ///
     /// # Errors
-    /// `AllocError` where memory is refused.
+    /// `AllocError` if allocation fails.
     pub fn push_run_chars(&mut self, style: Style, text: &[char]) -> Result<(), AllocError>
         ensures text { OnOk result (spell self.new ≡ spell self.old ++ printed_run style text.now) }
     {
@@ -200,7 +201,7 @@ impl Runs {
         self.end()
     }
 
-    // A sequence as a sign, or its characters where it isn't a whole one.
+    // Appends an escape sequence as a sign, or as characters if it isn't complete.
     fn push_sequence(&mut self, codes: Vec<char>) -> Result<(), AllocError>
         ensures text { OnOk result (spell self.new ≡ spell self.old ++ codes.items) }
     {
@@ -214,7 +215,7 @@ impl Runs {
     /// Begins a link to a URL.
     ///
     /// # Errors
-    /// `AllocError` where memory is refused.
+    /// `AllocError` if allocation fails.
     pub fn push_link(&mut self, url: &str) -> Result<(), AllocError>
         ensures text { OnOk result (spell self.new ≡ spell self.old ++ link_start (chars url.now)) }
     {
@@ -225,7 +226,7 @@ impl Runs {
     /// Ends the link.
     ///
     /// # Errors
-    /// `AllocError` where memory is refused.
+    /// `AllocError` if allocation fails.
     pub fn push_link_end(&mut self) -> Result<(), AllocError>
         ensures text { OnOk result (spell self.new ≡ spell self.old ++ link_start []) }
     {
@@ -235,7 +236,7 @@ impl Runs {
     /// Appends other runs.
     ///
     /// # Errors
-    /// `AllocError` where memory is refused.
+    /// `AllocError` if allocation fails.
     pub fn append(&mut self, more: &Runs) -> Result<(), AllocError>
         ensures tokens { OnOk result (self.new ≡ self.old ++ more.now) }
         ensures text { OnOk result (spell self.new ≡ spell self.old ++ spell more.now) }
@@ -252,7 +253,7 @@ impl Runs {
         self.push_chars(&parts.codes[start..])
     }
 
-    /// The characters, and the signs between them.
+    /// Returns the characters and signs.
     pub fn parts(&self) -> RunsSlice<'_>
         ensures { interleaving 0 result.codes.now result.tags.now ≡ self.now }
     {
@@ -309,7 +310,7 @@ impl Sink for Runs {
     }
 }
 
-// What begins a link.
+// Returns the codes that begin a link.
 fn link_codes(alloc: Global, url: &str) -> Result<Vec<char>, AllocError>
     ensures { IfOk result (λ v. v.items ≡ link_start (chars url.now)) }
 {
@@ -331,18 +332,18 @@ fn is_end(codes: &[char]) -> bool
     }
 }
 
-/// Whether codes are one whole sequence.
+/// Whether codes are exactly one complete escape sequence.
 pub(crate) fn is_whole(codes: &[char]) -> bool
     ensures { result ≡ is_whole codes.now }
 {
     !codes.is_empty() && sequence_at(codes, 0, false) == codes.len()
 }
 
-/// The characters of runs, and the signs between them.
+/// Borrowed characters and signs of runs.
 #[derive(Clone, Copy)]
 pub struct RunsSlice<'a> {
     /// The characters.
     pub codes: &'a [char],
-    /// The signs between them, in order.
+    /// The signs, in order.
     pub tags: &'a [Tag],
 }

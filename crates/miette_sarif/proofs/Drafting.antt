@@ -2,13 +2,13 @@
 use Rattle.std.proofs.Common.{◌≡◌, ℕ, true, false, List, [], ◌∷◌, ◌++◌, map, refl, sym, ap, ◌∙◌, append_assoc}
 use Rattle.std.proofs.Common.{append-nil}
 use Rattle.std.specs.Prelude.{slice_range}
-use Rattle.miette_basics.proofs.Cases.{by_cases}
+use Rattle.miette_lines.proofs.Cases.{by_cases}
 use Rattle.miette_fixes.specs.rules.Edits.{Replacement, end_of}
-use Rattle.miette_positions.specs.declared.place.Stretch.{Stretch}
-use Rattle.miette_sarif.specs.rules.Findings.{Replaced}
+use Rattle.miette_positions.specs.declared.position.Stretch.{Stretch}
+use Rattle.miette_sarif.specs.rules.Findings.{ReplacementValue}
 use Rattle.miette_sarif.specs.rules.Proposals.{Joined, joined, joined_from, later_end, meets, replaced, text_between}
 use Rattle.miette_sarif.specs.rules.Proposals.{widened}
-use Rattle.miette_sarif.specs.steps.Drafts.{Drafted, begun, drafts, drafts_from, finished, with_edit}
+use Rattle.miette_sarif.specs.steps.Drafts.{DraftValue, begun, drafts, drafts_from, finished, with_edit}
 
 -- the text of edits up to the end of the last one, and that end
 abbrev text_to : List ℕ → ℕ → List Replacement → List ℕ
@@ -19,7 +19,7 @@ abbrev reached : ℕ → List Replacement → ℕ
 reached at [] = at
 reached at (e ∷ es) = reached (end_of e) es
 
-abbrev draft : List ℕ → Joined → Drafted
+abbrev draft : List ℕ → Joined → DraftValue
 draft bytes j = record {
   deleted = j.deleted;
   text = text_to bytes j.deleted.start.offset j.edits;
@@ -46,7 +46,7 @@ reached_more : (at : ℕ) (es : List Replacement) (e : Replacement) → reached 
 reached_more at [] e = refl
 reached_more at (f ∷ es) e = reached_more (end_of f) es e
 
-abbrev made : Stretch → List ℕ → ℕ → Drafted
+abbrev made : Stretch → List ℕ → ℕ → DraftValue
 made s text end = record { deleted = s; text = text; reached = end }
 
 one_begun : (bytes : List ℕ) (s : Stretch) (e : Replacement)
@@ -67,7 +67,7 @@ one_more bytes s j e =
 
 finish : (bytes : List ℕ) (j : Joined) → finished bytes (draft bytes j) ≡ replaced bytes j
 finish bytes j =
-    let it : List ℕ → Replaced = λ text. record { deleted = j.deleted; text = text } in
+    let it : List ℕ → ReplacementValue = λ text. record { deleted = j.deleted; text = text } in
     ap it (text_split bytes j.deleted.start.offset j.deleted.end.offset j.edits)
 
 from_draft : (bytes : List ℕ) (j : Joined) (es : List Replacement)
@@ -94,8 +94,8 @@ drafts_are bytes (e ∷ es) =
     ∙ from_draft bytes (record { deleted = widened bytes e; edits = e ∷ [] }) es
 
 -- one more edit: it is joined, or begins a draft of its own
-pub draft_joined : (bytes : List ℕ) (done : List Drafted) (d new : Drafted) (e : Replacement)
-    (es left : List Replacement) (s : Stretch) (all : List Drafted) → es ≡ e ∷ left → s ≡ widened bytes e
+pub draft_joined : (bytes : List ℕ) (done : List DraftValue) (d new : DraftValue) (e : Replacement)
+    (es left : List Replacement) (s : Stretch) (all : List DraftValue) → es ≡ e ∷ left → s ≡ widened bytes e
     → meets d.deleted s ≡ true → new ≡ with_edit bytes s d e → done ++ drafts_from bytes d es ≡ all
     → done ++ drafts_from bytes new left ≡ all
 draft_joined bytes done d new e es left s all more wide t is h =
@@ -105,8 +105,8 @@ draft_joined bytes done d new e es left s all more wide t is h =
     ap (λ x. done ++ drafts_from bytes x left) (is ∙ ap (λ x. with_edit bytes x d e) wide)
     ∙ ap (λ ds. done ++ ds) (sym step) ∙ ap (λ x. done ++ drafts_from bytes d x) (sym more) ∙ h
 
-pub draft_next : (bytes : List ℕ) (done pushed : List Drafted) (d new : Drafted) (e : Replacement)
-    (es left : List Replacement) (s : Stretch) (all : List Drafted) → es ≡ e ∷ left → s ≡ widened bytes e
+pub draft_next : (bytes : List ℕ) (done pushed : List DraftValue) (d new : DraftValue) (e : Replacement)
+    (es left : List Replacement) (s : Stretch) (all : List DraftValue) → es ≡ e ∷ left → s ≡ widened bytes e
     → meets d.deleted s ≡ false → new ≡ begun bytes s e → pushed ≡ done ++ d ∷ []
     → done ++ drafts_from bytes d es ≡ all → pushed ++ drafts_from bytes new left ≡ all
 draft_next bytes done pushed d new e es left s all more wide f is put h =

@@ -9,16 +9,17 @@ use Rattle.miette_tree.specs.rules.Diagnosis.{Diagnosis, Section}
 use Rattle.miette_tree.specs.rules.Reads.{MayMeet}
 use Rattle.miette_tree.specs.rules.Tree.{Cause, diagnostic, texts, Tree, tree, Trees, trees, more_trees, no_trees}
 use Rattle.miette_tree.specs.rules.Tree.{cause_of, head, related_of, source_of}
-use Rattle.miette_sarif.specs.rules.Findings.{Finding, SeenSource}
-use Rattle.miette_sarif.specs.rules.Gathered.{all_findings, cause_marks, cause_proposals, cause_refused, finding}
-use Rattle.miette_sarif.specs.rules.Gathered.{AreFindingsOf, findings}
-use Rattle.miette_sarif.specs.rules.Marks.{groups_of, marks_of, seen_further}
+use Rattle.miette_sarif.specs.rules.Findings.{Finding, SnapshotValue}
+use Rattle.miette_sarif.specs.rules.FindingList.{all_findings, cause_marks, cause_proposals, cause_refused, finding}
+use Rattle.miette_sarif.specs.rules.FindingList.{AreFindingsOf, findings}
+use Rattle.miette_sarif.specs.rules.Marks.{source_labels_of, marks_of, further_snapshots}
 use Rattle.miette_sarif.specs.rules.Proposals.{proposals, refused}
-use Rattle.miette_sarif.specs.rules.Seen.{count_all, count_causes, count_in, count_own, seen, seen_or}
+use Rattle.miette_sarif.specs.rules.SourceSnapshot.{count_all, count_causes, count_in, count_own, seen, snapshot_or}
 use Rattle.miette_sarif.specs.rules.SourceAnswers.{AllAnswers, AreOfCauses, Faults, RelatedSourceAnswers}
 use Rattle.miette_sarif.specs.rules.SourceAnswers.{SourceFaults}
-use Rattle.miette_sarif.specs.steps.Gathering.{Adds, AddsAll, AddsCause, AddsCauses, AddsOver, Found, IsFound, Kept}
-use Rattle.miette_sarif.specs.steps.Sees.{Sees, SeesFurther, SeesOwn, seen_first}
+use Rattle.miette_sarif.specs.steps.Gathering.{AddsFindings, AddsAllFindings, AddsCause, AddsCauses, AddsOver, Findings}
+use Rattle.miette_sarif.specs.steps.Gathering.{IsFindingOf, FindingPartsValue}
+use Rattle.miette_sarif.specs.steps.SnapshotReads.{IsSnapshot, AreFurtherSnapshots, IsOwnSnapshot, seen_first}
 use Rattle.miette_sarif.proofs.Reading.{own_first}
 
 -- ---- lists
@@ -37,42 +38,43 @@ none_in f xs i h = ap (map f) (drop_all i xs h)
 
 -- ---- further sources
 
-pub record FurtherSoFar (n : ℕ) (all left : List Section) (k : ℕ) (its : List SeenSource) : Type 0 where
+pub record FurtherSoFar (n : ℕ) (all left : List Section) (k : ℕ) (its : List SnapshotValue) : Type 0 where
   pub with_rest : List Bool → List Bool
   pub possible : (more : List Bool) → AreFurther more left → AreFurther (with_rest more) all
-  pub seen : (more : List Bool) → its ++ seen_further more k left ≡ seen_further (with_rest more) n all
+  pub seen : (more : List Bool) → its ++ further_snapshots more k left ≡ further_snapshots (with_rest more) n all
   pub counted : k + length left ≡ n + length all
 
-pub no_further : (n : ℕ) (all : List Section) (its : List SeenSource) → its ≡ [] → FurtherSoFar n all all n its
+pub no_further : (n : ℕ) (all : List Section) (its : List SnapshotValue) → its ≡ [] → FurtherSoFar n all all n its
 no_further n all its e = record {
   with_rest = λ more. more;
   possible = λ more p. p;
-  seen = λ more. ap (λ l. l ++ seen_further more n all) e;
+  seen = λ more. ap (λ l. l ++ further_snapshots more n all) e;
   counted = refl;
 }
 
 further_added : (n : ℕ) (all : List Section) (s : Section) (ss : List Section) (k next : ℕ)
-    (its new : List SeenSource) (it : SeenSource) → FurtherSoFar n all (s ∷ ss) k its → Sees k s.source it
+    (its new : List SnapshotValue) (it : SnapshotValue) → FurtherSoFar n all (s ∷ ss) k its → IsSnapshot k s.source it
     → next ≡ k + 1 → new ≡ its ++ it ∷ [] → FurtherSoFar n all ss next new
 further_added n all s ss k next its new it r h e f = record {
   with_rest = λ more. r.with_rest (h.fault ∷ more);
   possible = λ more p. r.possible (h.fault ∷ more) (h.possible, p);
-  seen = λ more. ap₂ (λ xs m. xs ++ seen_further more m ss) f e
-      ∙ append_assoc its (it ∷ []) (seen_further more (k + 1) ss)
-      ∙ ap (λ x. its ++ x ∷ seen_further more (k + 1) ss) h.is
+  seen = λ more. ap₂ (λ xs m. xs ++ further_snapshots more m ss) f e
+      ∙ append_assoc its (it ∷ []) (further_snapshots more (k + 1) ss)
+      ∙ ap (λ x. its ++ x ∷ further_snapshots more (k + 1) ss) h.is
       ∙ r.seen (h.fault ∷ more);
   counted = omega (arith, e, r.counted);
 }
 
 pub one_further : (n : ℕ) (all left : List Section) (s : Section) (ss : List Section) (source : Source) (k next : ℕ)
-    (its new : List SeenSource) (it : SeenSource) → left ≡ s ∷ ss → FurtherSoFar n all left k its → Sees k source it
+    (its new : List SnapshotValue) (it : SnapshotValue) → left ≡ s ∷ ss → FurtherSoFar n all left k its
+    → IsSnapshot k source it
     → source ≡ s.source → next ≡ k + 1 → new ≡ its ++ it ∷ [] → FurtherSoFar n all ss next new
 one_further n all left s ss source k next its new it is r h from e f =
     further_added n all s ss k next its new it (subst (λ l. FurtherSoFar n all l k its) is r)
-    (subst (λ x. Sees k x it) from h) e f
+    (subst (λ x. IsSnapshot k x it) from h) e f
 
-pub all_further : (n : ℕ) (all left : List Section) (k : ℕ) (its : List SeenSource) → left ≡ []
-    → FurtherSoFar n all left k its → SeesFurther n all its × (k ≡ n + length all)
+pub all_further : (n : ℕ) (all left : List Section) (k : ℕ) (its : List SnapshotValue) → left ≡ []
+    → FurtherSoFar n all left k its → AreFurtherSnapshots n all its × (k ≡ n + length all)
 all_further n all left k its e r =
     let ended : FurtherSoFar n all [] k its = subst (λ l. FurtherSoFar n all l k its) e r in (
       record {
@@ -85,22 +87,24 @@ all_further n all left k its e r =
 
 -- ---- causes
 
-pub record CausesSoFar (over : Option SeenSource) (n : ℕ) (all left : Cause) (k : ℕ) (old now : Kept) : Type 0 where
+pub record CausesSoFar (over : Option SnapshotValue) (n : ℕ) (all left : Cause) (k : ℕ) (old now : FindingPartsValue)
+    : Type 0 where
   pub with_rest : List Faults → List Faults
   pub possible : (more : List Faults) → AreOfCauses more left → AreOfCauses (with_rest more) all
-  pub marks : (more : List Faults)
-      → now.marks ++ cause_marks over more k left ≡ old.marks ++ cause_marks over (with_rest more) n all
+  pub locations : (more : List Faults)
+      → now.locations ++ cause_marks over more k left ≡ old.locations ++ cause_marks over (with_rest more) n all
   pub fixes : (more : List Faults)
       → now.fixes ++ cause_proposals over more k left ≡ old.fixes ++ cause_proposals over (with_rest more) n all
   pub unapplied : (more : List Faults)
       → now.unapplied ++ cause_refused over more k left ≡ old.unapplied ++ cause_refused over (with_rest more) n all
   pub counted : k + count_causes left ≡ n + count_causes all
 
-pub no_causes : (over : Option SeenSource) (n : ℕ) (all : Cause) (old : Kept) → CausesSoFar over n all all n old old
+pub no_causes : (over : Option SnapshotValue) (n : ℕ) (all : Cause) (old : FindingPartsValue)
+    → CausesSoFar over n all all n old old
 no_causes over n all old = record {
   with_rest = λ more. more;
   possible = λ more p. p;
-  marks = λ more. refl;
+  locations = λ more. refl;
   fixes = λ more. refl;
   unapplied = λ more. refl;
   counted = refl;
@@ -109,10 +113,10 @@ no_causes over n all old = record {
 joined : {A : Type 0} (b c now new goal : List A) → new ≡ now ++ b → now ++ (b ++ c) ≡ goal → new ++ c ≡ goal
 joined b c now new goal e f = ap (λ l. l ++ c) e ∙ append_assoc now b c ∙ f
 
-cause_added : (over : Option SeenSource) (n : ℕ) (all : Cause) (m : Diagnosis) (s : Option Source) (c : Cause)
-    (r : Trees) (k : ℕ) (old now new : Kept) (fault : Bool) (possible : MayMeet s fault)
+cause_added : (over : Option SnapshotValue) (n : ℕ) (all : Cause) (m : Diagnosis) (s : Option Source) (c : Cause)
+    (r : Trees) (k : ℕ) (old now new : FindingPartsValue) (fault : Bool) (possible : MayMeet s fault)
     → CausesSoFar over n all (diagnostic (tree m s c r)) k old now
-    → AddsOver (seen_or fault k s over) (k + count_own s) m now new
+    → AddsOver (snapshot_or fault k s over) (k + count_own s) m now new
     → CausesSoFar over n all c (k + (count_own s + length m.snippets)) old new
 cause_added over n all m s c r k old now new fault possible so_far h =
     let faults : Faults = record { own = fault; further = h.faults } in
@@ -120,22 +124,23 @@ cause_added over n all m s c r k old now new fault possible so_far h =
     record {
       with_rest = λ more. so_far.with_rest (faults ∷ more);
       possible = λ more p. so_far.possible (faults ∷ more) ((possible, h.possible), p);
-      marks = λ more. joined (marks_of (groups_of (seen_or fault k s over)
-          (seen_further h.faults (k + count_own s) m.snippets) m)) (cause_marks over more next c) now.marks new.marks _
-          h.marks (so_far.marks (faults ∷ more));
-      fixes = λ more. joined (proposals (seen_or fault k s over) m.fixes) (cause_proposals over more next c)
+      locations = λ more. joined (marks_of (source_labels_of (snapshot_or fault k s over)
+          (further_snapshots h.faults (k + count_own s) m.snippets) m)) (cause_marks over more next c) now.locations
+          new.locations _
+          h.locations (so_far.locations (faults ∷ more));
+      fixes = λ more. joined (proposals (snapshot_or fault k s over) m.fixes) (cause_proposals over more next c)
           now.fixes new.fixes _ h.fixes (so_far.fixes (faults ∷ more));
-      unapplied = λ more. joined (refused (seen_or fault k s over) m.fixes) (cause_refused over more next c)
+      unapplied = λ more. joined (refused (snapshot_or fault k s over) m.fixes) (cause_refused over more next c)
           now.unapplied new.unapplied _ h.unapplied (so_far.unapplied (faults ∷ more));
       counted = omega (arith, so_far.counted);
     }
 
 -- a cause over its own source as it was seen, else over this one
-pub cause_over : (over it here : Option SeenSource) (t : Tree) (n mid : ℕ) (old new : Kept)
-    → here ≡ seen_first it over → SeesOwn n (source_of t) it → mid ≡ n + count_own (source_of t)
+pub cause_over : (over it here : Option SnapshotValue) (t : Tree) (n mid : ℕ) (old new : FindingPartsValue)
+    → here ≡ seen_first it over → IsOwnSnapshot n (source_of t) it → mid ≡ n + count_own (source_of t)
     → AddsOver here mid (head t) old new → AddsCause over n t old new
 cause_over over it here t n mid old new is o e h =
-    let same : here ≡ seen_or o.fault n (source_of t) over =
+    let same : here ≡ snapshot_or o.fault n (source_of t) over =
     is ∙ ap (λ x. seen_first x over) o.is ∙ own_first o.fault n (source_of t) over in
     record {
       fault = o.fault;
@@ -144,7 +149,8 @@ cause_over over it here t n mid old new is o e h =
           (subst (λ x. AddsOver here x (head t) old new) e h);
     }
 
-pub one_cause : (over : Option SeenSource) (n : ℕ) (all : Cause) (t : Tree) (k next : ℕ) (old now new : Kept)
+pub one_cause : (over : Option SnapshotValue) (n : ℕ) (all : Cause) (t : Tree) (k next : ℕ)
+    (old now new : FindingPartsValue)
     → CausesSoFar over n all (diagnostic t) k old now → AddsCause over k t now new
     → next ≡ k + count_own (source_of t) + length (head t).snippets
     → CausesSoFar over n all (cause_of t) next old new
@@ -153,7 +159,8 @@ one_cause over n all (tree m s c r) k next old now new so_far h e =
     subst (λ x. CausesSoFar over n all c x old new) place
     (cause_added over n all m s c r k old now new h.fault h.possible so_far h.added)
 
-pub all_causes : (over : Option SeenSource) (n : ℕ) (all left : Cause) (ts : List (List ℕ)) (k : ℕ) (old now : Kept)
+pub all_causes : (over : Option SnapshotValue) (n : ℕ) (all left : Cause) (ts : List (List ℕ)) (k : ℕ)
+    (old now : FindingPartsValue)
     → texts ts ≡ left → CausesSoFar over n all left k old now
     → AddsCauses over n all old now × (k ≡ n + count_causes all)
 all_causes over n all left ts k old now e r =
@@ -162,7 +169,7 @@ all_causes over n all left ts k old now e r =
       record {
         faults = ended.with_rest [];
         possible = ended.possible [] tt;
-        marks = sym (append-nil now.marks) ∙ ended.marks [];
+        locations = sym (append-nil now.locations) ∙ ended.locations [];
         fixes = sym (append-nil now.fixes) ∙ ended.fixes [];
         unapplied = sym (append-nil now.unapplied) ∙ ended.unapplied [];
       },
@@ -171,14 +178,15 @@ all_causes over n all left ts k old now e r =
 
 -- ---- reports
 
-pub record ReportsSoFar (inherited : Option SeenSource) (all left : Trees) (old now : Found) : Type 0 where
+pub record ReportsSoFar (inherited : Option SnapshotValue) (all left : Trees) (old now : Findings) : Type 0 where
   pub with_rest : RelatedSourceAnswers → RelatedSourceAnswers
   pub possible : (more : RelatedSourceAnswers) → AllAnswers more left → AllAnswers (with_rest more) all
   pub found : (more : RelatedSourceAnswers) → now.findings ++ all_findings now.sources inherited more left
       ≡ old.findings ++ all_findings old.sources inherited (with_rest more) all
   pub counted : now.sources + count_all left ≡ old.sources + count_all all
 
-pub no_reports : (inherited : Option SeenSource) (all : Trees) (old : Found) → ReportsSoFar inherited all all old old
+pub no_reports : (inherited : Option SnapshotValue) (all : Trees) (old : Findings)
+    → ReportsSoFar inherited all all old old
 no_reports inherited all old = record {
   with_rest = λ more. more;
   possible = λ more p. p;
@@ -186,8 +194,8 @@ no_reports inherited all old = record {
   counted = refl;
 }
 
-pub one_report : (inherited : Option SeenSource) (all : Trees) (t : Tree) (ts : Trees) (old now new : Found)
-    → ReportsSoFar inherited all (more_trees t ts) old now → Adds inherited t now new
+pub one_report : (inherited : Option SnapshotValue) (all : Trees) (t : Tree) (ts : Trees) (old now new : Findings)
+    → ReportsSoFar inherited all (more_trees t ts) old now → AddsFindings inherited t now new
     → ReportsSoFar inherited all ts old new
 one_report inherited all t ts old now new r h = record {
   with_rest = λ more. r.with_rest (and_more h.answers more);
@@ -199,8 +207,8 @@ one_report inherited all t ts old now new r h = record {
   counted = omega (arith, h.counted, r.counted);
 }
 
-pub all_reports : (inherited : Option SeenSource) (all left : Trees) (old now : Found) → left ≡ no_trees
-    → ReportsSoFar inherited all left old now → AddsAll inherited all old now
+pub all_reports : (inherited : Option SnapshotValue) (all left : Trees) (old now : Findings) → left ≡ no_trees
+    → ReportsSoFar inherited all left old now → AddsAllFindings inherited all old now
 all_reports inherited all left old now e r =
     let ended : ReportsSoFar inherited all no_trees old now = subst (λ ts. ReportsSoFar inherited all ts old now) e r in
     record {
@@ -211,22 +219,23 @@ all_reports inherited all left old now e r =
     }
 
 -- a report, and those that are related to it
-pub report_gathered : (inherited it seen : Option SeenSource) (t : Tree) (related : Trees) (found : Finding) (first : ℕ)
-    (old mid new : Found)
-    → seen ≡ seen_first it inherited → SeesOwn old.sources (source_of t) it
-    → first ≡ old.sources + count_own (source_of t) → IsFound seen first t found
+pub report_gathered : (inherited it seen : Option SnapshotValue) (t : Tree) (related : Trees) (found : Finding)
+    (first : ℕ)
+    (old mid new : Findings)
+    → seen ≡ seen_first it inherited → IsOwnSnapshot old.sources (source_of t) it
+    → first ≡ old.sources + count_own (source_of t) → IsFindingOf seen first t found
     → mid.findings ≡ old.findings ++ found ∷ []
     → mid.sources ≡ first + length (head t).snippets + count_causes (cause_of t) → related ≡ related_of t
-    → AddsAll seen related mid new → Adds inherited t old new
+    → AddsAllFindings seen related mid new → AddsFindings inherited t old new
 report_gathered inherited it seen (tree m s c r) related found first old mid new is o e f g k er h =
-    let over : Option SeenSource = seen_or o.fault old.sources s inherited in
+    let over : Option SnapshotValue = snapshot_or o.fault old.sources s inherited in
     let same : seen ≡ over =
     is ∙ ap (λ x. seen_first x inherited) o.is ∙ own_first o.fault old.sources s inherited in
-    let here : IsFound over (old.sources + count_own s) (tree m s c r) found =
-    subst (λ x. IsFound x (old.sources + count_own s) (tree m s c r) found) same
-    (subst (λ x. IsFound seen x (tree m s c r) found) e f) in
-    let below : AddsAll over r mid new = subst (λ x. AddsAll x r mid new) same
-    (subst (λ x. AddsAll seen x mid new) er h) in
+    let here : IsFindingOf over (old.sources + count_own s) (tree m s c r) found =
+    subst (λ x. IsFindingOf x (old.sources + count_own s) (tree m s c r) found) same
+    (subst (λ x. IsFindingOf seen x (tree m s c r) found) e f) in
+    let below : AddsAllFindings over r mid new = subst (λ x. AddsAllFindings x r mid new) same
+    (subst (λ x. AddsAllFindings seen x mid new) er h) in
     let faults : SourceFaults =
     record { report = record { own = o.fault; further = here.further }; causes = here.causes } in
     let place : mid.sources ≡ old.sources + (count_own s + length m.snippets) + count_causes c =
@@ -244,7 +253,8 @@ report_gathered inherited it seen (tree m s c r) related found first old mid new
     }
 
 -- all of them, from none on
-pub all_found : (ts : Trees) (old new : Found) → old.findings ≡ [] → old.sources ≡ 0 → AddsAll None ts old new
+pub all_found : (ts : Trees) (old new : Findings) → old.findings ≡ [] → old.sources ≡ 0
+    → AddsAllFindings None ts old new
     → AreFindingsOf ts new.findings
 all_found ts old new e f h = record {
   answers = h.answers;
@@ -253,7 +263,7 @@ all_found ts old new e f h = record {
 }
 
 -- those of one report
-pub one_found : (t : Tree) (old new : Found) → old.findings ≡ [] → old.sources ≡ 0 → Adds None t old new
+pub one_found : (t : Tree) (old new : Findings) → old.findings ≡ [] → old.sources ≡ 0 → AddsFindings None t old new
     → AreFindingsOf (trees (t ∷ [])) new.findings
 one_found t old new e f h = record {
   answers = and_more h.answers no_more;

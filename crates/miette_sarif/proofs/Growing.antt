@@ -3,12 +3,12 @@ use Rattle.std.proofs.Common.{◌≡◌, ℕ, ◌<◌, ◌^◌, List, [], ◌∷
 use Rattle.std.proofs.Common.{sym, ap, ◌∙◌, append_assoc, append-nil, arith, eqb-true}
 use Rattle.std.specs.Fmt.{decimal}
 use Rattle.std.specs.Prelude.{◌==◌}
-use Rattle.miette_basics.specs.rules.Lists.{is_nil}
+use Rattle.miette_lines.specs.rules.Lists.{is_nil}
 use Rattle.miette_json.proofs.JsonSpelled.{numeral_decimal}
 use Rattle.miette_json.specs.rules.Json.{Json, Items, item, no_items, json_text, items_text, more_items_text}
 use Rattle.miette_json.specs.rules.Json.{more_members_text, number, quoted_text, string}
 use Rattle.miette_sarif.specs.rules.Objects.{Pairs, array_of, items_of, members_of, object_of, pair}
-use Rattle.miette_sarif.specs.steps.Members.{further, more_texts_listed, opened, rest_texts, texts_listed}
+use Rattle.miette_sarif.specs.steps.Members.{further, more_texts_listed, open_object, rest_texts, texts_listed}
 use Rattle.miette_sarif.specs.views.Values.{rest_items}
 
 -- ---- one text after the other
@@ -73,7 +73,7 @@ further_all ps qs rs = further_both ps (qs ++ rs) ∙ ap (λ l. further ps ++ l)
 
 -- an object's beginning, and further members
 pub opened_then : (ps : Pairs) (k : List ℕ) (v : Json) (qs : Pairs)
-    → json_text (object_of ((ps ++ pair k v) ++ qs)) ≡ opened (ps ++ pair k v) ++ more_members_text (members_of qs)
+    → json_text (object_of ((ps ++ pair k v) ++ qs)) ≡ open_object (ps ++ pair k v) ++ more_members_text (members_of qs)
 opened_then [] k v qs = one_member 123 (quoted_text k) (json_text v) [] (more_members_text (members_of qs))
 opened_then (m ∷ ms) k v qs =
     ap (λ l. 123 ∷ (quoted_text m.0 ++ (58 ∷ 32 ∷ (json_text m.1 ++ l)))) (further_then (ms ++ pair k v) qs)

@@ -15,3 +15,12 @@ pub mod Shown
 pub mod Spelling
 pub mod Taken
 pub mod Written
+pub mod Lists
+pub mod Parts
+pub mod LogLabels
+pub mod Fixes
+pub mod LogRows
+pub mod Addresses
+pub mod LogPlaces
+pub mod Listed
+pub mod LogResults

@@ -4,7 +4,7 @@ use Rattle.std.proofs.lemmas.Result.{IfOk-weaker}
 use Rattle.std.specs.Prelude.{Result, IfOk, codes}
 use Rattle.std.specs.Str.{bytes_eq}
 use denote.Ref.{Bor}
-use Rattle.miette_sarif.specs.rules.Artifacts.{index_of, located_at}
+use Rattle.miette_sarif.specs.rules.Artifacts.{index_of, artifact_location_at}
 use Rattle.miette_json.specs.rules.Json.{Json, number, string, array, object, member}
 use Rattle.miette_sarif.specs.declared.value.Value.{Value, Number, Text, List as Listed, Object, the_lemmas}
 use Rattle.miette_sarif.specs.rules.Objects.{Pairs, members_of as plain_members, object_of, pair}
@@ -45,7 +45,7 @@ one_more r a b c h e = equal_pairs r (a ++ b) (a ++ c) h (ap (λ l. a ++ l) e)
 -- a source by its uri and its index
 pub located_is : (whole : Json) (uri wanted : List ℕ) (uris : List (List ℕ)) (i : ℕ)
     → whole ≡ object_of (pair (codes "uri") (string uri) ++ pair (codes "index") (number i))
-    → i ≡ index_of (bytes_eq uri) uris → uri ≡ wanted → whole ≡ located_at uris wanted
+    → i ≡ index_of (bytes_eq uri) uris → uri ≡ wanted → whole ≡ artifact_location_at uris wanted
 located_is whole uri wanted uris i is index named =
     is ∙ ap (λ n. object_of (pair (codes "uri") (string uri) ++ pair (codes "index") (number n))) index
-    ∙ ap (located_at uris) named
+    ∙ ap (artifact_location_at uris) named

@@ -7,7 +7,7 @@ use Rattle.std.specs.Prelude.{not, ◌&&◌, ◌==◌, Option, Some, None, is_so
 use Rattle.std.specs.Str.{bytes_eq}
 use Rattle.indexmap.specs.IndexMap.{IndexMap, IsEmpty, UpdatesBy, get_by}
 use Rattle.std.specs.Map.{lookup}
-use Rattle.miette_basics.specs.rules.Lists.{is_nil}
+use Rattle.miette_lines.specs.rules.Lists.{is_nil}
 use Rattle.miette_sarif.specs.rules.Codes.{Rules, absolute_uri, first_or, has_code, help_uri}
 use Rattle.miette_sarif.specs.rules.Findings.{Finding}
 use Rattle.miette_sarif.specs.views.Rules.{option_text, uri_at}

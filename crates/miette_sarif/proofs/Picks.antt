@@ -8,13 +8,14 @@ use Rattle.std.specs.Ordering.{nat_cmp}
 use Rattle.std.proofs.lemmas.Bool.{ltb-false}
 use Rattle.std.proofs.lemmas.List.{map-append}
 use Rattle.std.proofs.lemmas.List.Quantifiers.{position-Some}
-use Rattle.miette_label_rules.specs.rules.Groups.{in_order}
+use Rattle.miette_labels.specs.rules.Groups.{in_order}
 use Rattle.miette_labels.proofs.SortedLabels.{sort_is, sorted_mapped}
 use Rattle.miette_protocol.specs.views.Meaning.{Label}
 use Rattle.miette_tree.specs.rules.Diagnosis.{Section}
-use Rattle.miette_sarif.specs.declared.labels.Group.{Group as GroupHere}
-use Rattle.miette_sarif.specs.rules.Findings.{Mark, SeenSource}
-use Rattle.miette_sarif.specs.rules.Marks.{Group, Picked, further_groups, marks_in, marks_of, pick_label, picked_or}
+use Rattle.miette_sarif.specs.declared.labels.SourceLabels.{SourceLabels as GroupHere}
+use Rattle.miette_sarif.specs.rules.Findings.{SarifLocation, SnapshotValue}
+use Rattle.miette_sarif.specs.rules.Marks.{SourceLabels, PrimaryPick, further_groups, marks_in, marks_of, pick_label}
+use Rattle.miette_sarif.specs.rules.Marks.{picked_or}
 use Rattle.miette_sarif.specs.views.Grouped.{group_of, groups_in, labels_in}
 use denote.Ref.{Bor}
 
@@ -66,18 +67,18 @@ no_label test xs e =
 -- ---- in those of several sources
 
 -- what is picked after some groups
-abbrev pub after_groups : List Group → Option Picked → Option Picked
+abbrev pub after_groups : List SourceLabels → Option PrimaryPick → Option PrimaryPick
 after_groups gs found = option_map (λ it. record { mark = it.mark; others = gs ++ it.others }) found
 
-pub after_none : (found : Option Picked) → after_groups [] found ≡ found
+pub after_none : (found : Option PrimaryPick) → after_groups [] found ≡ found
 after_none None = refl
 after_none (Some it) = refl
 
-pub after_one : (gs : List Group) (g : Group) (hs : List Group) (found : Option Picked)
+pub after_one : (gs : List SourceLabels) (g : SourceLabels) (hs : List SourceLabels) (found : Option PrimaryPick)
     → after_groups gs (picked_or None g hs found) ≡ after_groups (gs ++ g ∷ []) found
 after_one gs g hs None = refl
 after_one gs g hs (Some it) =
-    let made : List Group → Option Picked = λ others. Some (record { mark = it.mark; others = others }) in
+    let made : List SourceLabels → Option PrimaryPick = λ others. Some (record { mark = it.mark; others = others }) in
     ap made (sym (append_assoc gs (g ∷ []) it.others))
 
 -- ---- by offset
@@ -95,23 +96,23 @@ sorted_labels xs ys up stable =
 
 -- ---- where no source is left
 
-no_groups : (its : List SeenSource) → further_groups its [] ≡ []
+no_groups : (its : List SnapshotValue) → further_groups its [] ≡ []
 no_groups [] = refl
 no_groups (it ∷ its) = refl
 
-pub groups_end : (gs all : List Group) (its : List SeenSource) (ss : List Section) → ss ≡ []
+pub groups_end : (gs all : List SourceLabels) (its : List SnapshotValue) (ss : List Section) → ss ≡ []
     → gs ++ further_groups its ss ≡ all → gs ≡ all
 groups_end gs all its ss e h =
     sym (append-nil gs) ∙ ap (λ l. gs ++ l) (sym (no_groups its)) ∙ ap (λ l. gs ++ further_groups its l) (sym e) ∙ h
 
 -- ---- marks of one more group
 
-marks_more : (gs : List Group) (g : Group) → marks_of (gs ++ g ∷ []) ≡ marks_of gs ++ marks_in g
+marks_more : (gs : List SourceLabels) (g : SourceLabels) → marks_of (gs ++ g ∷ []) ≡ marks_of gs ++ marks_in g
 marks_more [] g = append-nil (marks_in g)
 marks_more (h ∷ hs) g =
     ap (λ l. marks_in h ++ l) (marks_more hs g) ∙ sym (append_assoc (marks_in h) (marks_of hs) (marks_in g))
 
-pub marks_pushed : (old now new : List Mark) (xs : List GroupHere) (x : GroupHere)
+pub marks_pushed : (old now new : List SarifLocation) (xs : List GroupHere) (x : GroupHere)
     → now ≡ old ++ marks_of (groups_in xs) → new ≡ now ++ marks_in (group_of x)
     → new ≡ old ++ marks_of (groups_in (xs ++ x ∷ []))
 marks_pushed old now new xs x e f =

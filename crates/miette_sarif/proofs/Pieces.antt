@@ -8,20 +8,23 @@ use Rattle.indexmap.specs.IndexSet.{insert_all, insert_key}
 use Rattle.std.specs.List.{list_any}
 use Rattle.json.specs.Print.{escape_byte}
 use Rattle.miette_json.specs.rules.Json.{Json, items_text, json_text, more_members_text, number, quoted_text, string}
-use Rattle.miette_positions.specs.declared.place.Stretch.{Stretch}
-use Rattle.miette_sarif.specs.rules.Artifacts.{Artifacts, all_named, artifact, artifact_values, artifacts_in, located}
+use Rattle.miette_positions.specs.declared.position.Stretch.{Stretch}
+use Rattle.miette_sarif.specs.rules.Artifacts.{Artifacts, all_named, artifact, artifact_values, artifacts_in}
+use Rattle.miette_sarif.specs.rules.Artifacts.{artifact_location}
 use Rattle.miette_sarif.specs.rules.Codes.{Rules, rule_pairs, rule_values, rules_in}
-use Rattle.miette_sarif.specs.rules.Findings.{Area, Finding, Mark, Proposed}
+use Rattle.miette_sarif.specs.rules.Findings.{SarifRegion, Finding, SarifLocation, ApplicableFix}
 use Rattle.miette_sarif.specs.rules.Log.{ToolName, log, run, run_with, schema, tool_of}
 use Rattle.miette_sarif.specs.rules.Messages.{doubled}
-use Rattle.miette_sarif.specs.rules.Objects.{Pairs, array_of, items_of, listed, maybe_text, members_of, message_of}
+use Rattle.miette_sarif.specs.rules.Objects.{Pairs, array_of, items_of, listed, optional_text_pairs, members_of}
+use Rattle.miette_sarif.specs.rules.Objects.{message_of}
 use Rattle.miette_sarif.specs.rules.Objects.{object_of, pair}
 use Rattle.miette_sarif.specs.rules.Places.{byte_pairs, line_pairs, location, place_pairs, position_pairs, region}
 use Rattle.miette_sarif.specs.rules.Places.{primary_locations, snippet_pairs, text_pairs}
-use Rattle.miette_sarif.specs.rules.Results.{change, first_values, fix_value, inserted, message_text, one_first}
-use Rattle.miette_sarif.specs.rules.Results.{replacement, result_of, results, tail_pairs}
+use Rattle.miette_sarif.specs.rules.Results.{change, first_values, sarif_fix_value, inserted, result_message_text}
+use Rattle.miette_sarif.specs.rules.Results.{one_first}
+use Rattle.miette_sarif.specs.rules.Results.{replacement, result_of, results, result_tail_pairs}
 use Rattle.miette_sarif.specs.rules.Uris.{address_uri}
-use Rattle.miette_sarif.specs.steps.Members.{further, opened, texts_listed}
+use Rattle.miette_sarif.specs.steps.Members.{further, open_object, texts_listed}
 use Rattle.miette_sarif.proofs.Growing.{five_put, four_put, further_end, further_then, list_put, opened_then}
 use Rattle.miette_sarif.proofs.Growing.{texts_of_items, three_further, three_put, two_further, two_put}
 
@@ -71,7 +74,7 @@ pub lines_put : (s : Stretch) (old one two three new : List ℕ)
     → two ≡ one ++ (codes ",\"startColumn\": " ++ json_text (number (s.start.position.column + 1)))
     → three ≡ two ++ (codes ",\"endLine\": " ++ json_text (number (s.end.position.line + 1)))
     → new ≡ three ++ (codes ",\"endColumn\": " ++ json_text (number (s.end.position.column + 1)))
-    → new ≡ old ++ opened (line_pairs s)
+    → new ≡ old ++ open_object (line_pairs s)
 unfolding escape_byte
 lines_put s old one two three new e f g h =
     let a : List ℕ = codes "{\"startLine\": " ++ json_text (number (s.start.position.line + 1)) in
@@ -82,25 +85,26 @@ lines_put s old one two three new e f g h =
     ∙ ap (λ l. old ++ (a ++ (b ++ (c ++ (codes ",\"endColumn\": " ++ l))))) (sym (append-nil last))
 
 lines_then : (s : Stretch) (qs : Pairs) (rest : List ℕ) → more_members_text (members_of qs) ≡ rest
-    → json_text (object_of (line_pairs s ++ qs)) ≡ opened (line_pairs s) ++ rest
+    → json_text (object_of (line_pairs s ++ qs)) ≡ open_object (line_pairs s) ++ rest
 lines_then s qs rest e =
     opened_then (line_start s) (codes "endColumn") (number (s.end.position.column + 1)) qs
-    ∙ ap (λ l. opened (line_pairs s) ++ l) e
+    ∙ ap (λ l. open_object (line_pairs s) ++ l) e
 
-pub stretch_put : (s : Stretch) (old one new : List ℕ) → one ≡ old ++ opened (line_pairs s) → new ≡ one ++ codes "}"
+pub stretch_put : (s : Stretch) (old one new : List ℕ) → one ≡ old ++ open_object (line_pairs s) → new ≡ one
+    ++ codes "}"
     → new ≡ old ++ json_text (object_of (line_pairs s))
 stretch_put s old one new e f =
-    two_put old one new (opened (line_pairs s)) (codes "}") e f
+    two_put old one new (open_object (line_pairs s)) (codes "}") e f
     ∙ ap (λ l. old ++ l) (sym (lines_then s [] (codes "}") refl))
 
-pub area_put : (a : Area) (old one two three four new : List ℕ) → one ≡ old ++ opened (line_pairs a.stretch)
+pub area_put : (a : SarifRegion) (old one two three four new : List ℕ) → one ≡ old ++ open_object (line_pairs a.stretch)
     → two ≡ one ++ (codes ",\"byteOffset\": " ++ json_text (number a.stretch.start.offset))
     → three ≡ two ++ (codes ",\"byteLength\": "
     ++ json_text (number (a.stretch.end.offset - a.stretch.start.offset)))
     → four ≡ three ++ further (snippet_pairs a.snippet) → new ≡ four ++ codes "}" → new ≡ old ++ json_text (region a)
 unfolding escape_byte
 area_put a old one two three four new e f g h i =
-    let lines : List ℕ = opened (line_pairs a.stretch) in
+    let lines : List ℕ = open_object (line_pairs a.stretch) in
     let start : List ℕ = codes ",\"byteOffset\": " ++ json_text (number a.stretch.start.offset) in
     let size : List ℕ = codes ",\"byteLength\": "
     ++ json_text (number (a.stretch.end.offset - a.stretch.start.offset)) in
@@ -111,7 +115,7 @@ area_put a old one two three four new e f g h i =
 
 -- ---- locations
 
-pub numbered_put : (a : Artifacts) (id : ℕ) (m : Mark) (old one two three new : List ℕ)
+pub numbered_put : (a : Artifacts) (id : ℕ) (m : SarifLocation) (old one two three new : List ℕ)
     → one ≡ old ++ (codes "{\"id\": " ++ json_text (number id)) → two ≡ one ++ further (place_pairs a m.place)
     → three ≡ two ++ further (text_pairs m.text) → new ≡ three ++ codes "}"
     → new ≡ old ++ json_text (location a (pair (codes "id") (number id)) m)
@@ -160,20 +164,20 @@ located_put uri index old one two new e f g =
 
 -- ---- fixes
 
-pub change_put : (a : Artifacts) (fix : Proposed) (old one two three four new : List ℕ)
-    → one ≡ old ++ codes "{\"artifactLocation\": " → two ≡ one ++ json_text (located a fix.source)
+pub change_put : (a : Artifacts) (fix : ApplicableFix) (old one two three four new : List ℕ)
+    → one ≡ old ++ codes "{\"artifactLocation\": " → two ≡ one ++ json_text (artifact_location a fix.source)
     → three ≡ two ++ codes ",\"replacements\": ["
     → four ≡ three ++ items_text (items_of (map replacement fix.replacements)) → new ≡ four ++ codes "}"
     → new ≡ old ++ json_text (change a fix)
 unfolding escape_byte
 change_put a fix old one two three four new e f g h i =
-    five_put old one two three four new (codes "{\"artifactLocation\": ") (json_text (located a fix.source))
+    five_put old one two three four new (codes "{\"artifactLocation\": ") (json_text (artifact_location a fix.source))
     (codes ",\"replacements\": [") (items_text (items_of (map replacement fix.replacements))) (codes "}") e f g h i
 
-pub fix_put : (a : Artifacts) (fix : Proposed) (old one two three four new : List ℕ)
+pub fix_put : (a : Artifacts) (fix : ApplicableFix) (old one two three four new : List ℕ)
     → one ≡ old ++ codes "{\"description\": " → two ≡ one ++ json_text (message_of (doubled fix.message))
     → three ≡ two ++ codes ",\"artifactChanges\": [" → four ≡ three ++ json_text (change a fix)
-    → new ≡ four ++ codes "]}" → new ≡ old ++ json_text (fix_value a fix)
+    → new ≡ four ++ codes "]}" → new ≡ old ++ json_text (sarif_fix_value a fix)
 unfolding escape_byte
 fix_put a fix old one two three four new e f g h i =
     let told : List ℕ = json_text (message_of (doubled fix.message)) in
@@ -208,7 +212,8 @@ fixes_listed texts before vs e f =
 
 -- ---- results
 
-pub primary_put : (a : Artifacts) (m : Mark) (old one two new : List ℕ) → one ≡ old ++ codes ",\"locations\": ["
+pub primary_put : (a : Artifacts) (m : SarifLocation) (old one two new : List ℕ) → one ≡ old
+    ++ codes ",\"locations\": ["
     → two ≡ one ++ json_text (location a [] m) → new ≡ two ++ codes "]"
     → new ≡ old ++ further (listed (codes "locations") (primary_locations a (Some m)))
 unfolding escape_byte
@@ -221,7 +226,7 @@ pub begun_put : (r : Rules) (code level : List ℕ) (index : ℕ) (old one two n
     → one ≡ old ++ (codes "{\"ruleId\": " ++ json_text (string code))
     → two ≡ one ++ (codes ",\"ruleIndex\": " ++ json_text (number index))
     → new ≡ two ++ (codes ",\"level\": " ++ json_text (string level))
-    → new ≡ old ++ opened (rule_pairs r code ++ pair (codes "level") (string level))
+    → new ≡ old ++ open_object (rule_pairs r code ++ pair (codes "level") (string level))
 unfolding escape_byte
 begun_put r code level index old one two new is e f g =
     let a : List ℕ = codes "{\"ruleId\": " ++ json_text (string code) in
@@ -229,28 +234,29 @@ begun_put r code level index old one two new is e f g =
     let last : List ℕ = json_text (string level) in
     three_put old one two new a b (codes ",\"level\": " ++ last) e f g
     ∙ ap (λ l. old ++ (a ++ (b ++ (codes ",\"level\": " ++ l)))) (sym (append-nil last))
-    ∙ ap (λ ps. old ++ opened (ps ++ pair (codes "level") (string level))) (sym is)
+    ∙ ap (λ ps. old ++ open_object (ps ++ pair (codes "level") (string level))) (sym is)
 
 pub level_put : (r : Rules) (code level old new : List ℕ) → rule_pairs r code ≡ []
     → new ≡ old ++ (codes "{\"level\": " ++ json_text (string level))
-    → new ≡ old ++ opened (rule_pairs r code ++ pair (codes "level") (string level))
+    → new ≡ old ++ open_object (rule_pairs r code ++ pair (codes "level") (string level))
 unfolding escape_byte
 level_put r code level old new is e =
     e ∙ ap (λ l. old ++ (codes "{\"level\": " ++ l)) (sym (append-nil (json_text (string level))))
-    ∙ ap (λ ps. old ++ opened (ps ++ pair (codes "level") (string level))) (sym is)
+    ∙ ap (λ ps. old ++ open_object (ps ++ pair (codes "level") (string level))) (sym is)
 
 pub result_put : (r : Rules) (a : Artifacts) (f : Finding) (old one two three four new : List ℕ)
-    → one ≡ old ++ opened (rule_pairs r f.code ++ pair (codes "level") (string f.level))
-    → two ≡ one ++ codes ",\"message\": " → three ≡ two ++ json_text (message_of (message_text r f))
-    → four ≡ three ++ further (tail_pairs a f) → new ≡ four ++ codes "}" → new ≡ old ++ json_text (result_of r a f)
+    → one ≡ old ++ open_object (rule_pairs r f.code ++ pair (codes "level") (string f.level))
+    → two ≡ one ++ codes ",\"message\": " → three ≡ two ++ json_text (message_of (result_message_text r f))
+    → four ≡ three ++ further (result_tail_pairs a f) → new ≡ four ++ codes "}" → new ≡ old
+    ++ json_text (result_of r a f)
 unfolding escape_byte
 result_put r a f old one two three four new d e g h i =
     let rule : Pairs = rule_pairs r f.code in
     let level : Pairs = pair (codes "level") (string f.level) in
-    let told : Pairs = pair (codes "message") (message_of (message_text r f)) in
-    let tail : Pairs = tail_pairs a f in
-    let begun : List ℕ = opened (rule ++ level) in
-    let text : List ℕ = json_text (message_of (message_text r f)) in
+    let told : Pairs = pair (codes "message") (message_of (result_message_text r f)) in
+    let tail : Pairs = result_tail_pairs a f in
+    let begun : List ℕ = open_object (rule ++ level) in
+    let text : List ℕ = json_text (message_of (result_message_text r f)) in
     five_put old one two three four new begun (codes ",\"message\": ") text (further tail) (codes "}") d e g h i
     ∙ ap (λ l. old ++ (begun ++ (codes ",\"message\": " ++ (text ++ l)))) (sym (further_end tail))
     ∙ ap (λ l. old ++ l) (sym (opened_then rule (codes "level") (string f.level) (told ++ tail)))
@@ -268,16 +274,16 @@ two_ends a b c d = sym (append_assoc a (b ++ (c ++ (d ++ codes "}"))) (codes "}"
 
 pub tool_put : (t : ToolName) (r : Rules) (old one two three four new : List ℕ)
     → one ≡ old ++ (codes "{\"driver\": {\"name\": " ++ json_text (string t.name))
-    → two ≡ one ++ further (maybe_text (codes "version") t.version)
-    → three ≡ two ++ further (maybe_text (codes "informationUri") (option_map address_uri t.information))
+    → two ≡ one ++ further (optional_text_pairs (codes "version") t.version)
+    → three ≡ two ++ further (optional_text_pairs (codes "informationUri") (option_map address_uri t.information))
     → four ≡ three ++ further (listed (codes "rules") (rule_values r)) → new ≡ four ++ codes "}}"
     → new ≡ old ++ json_text (tool_of t r)
 unfolding escape_byte
 tool_put t r old one two three four new e f g h i =
     let name : List ℕ = json_text (string t.name) in
     let start : List ℕ = codes "{\"driver\": {\"name\": " in
-    let version : Pairs = maybe_text (codes "version") t.version in
-    let page : Pairs = maybe_text (codes "informationUri") (option_map address_uri t.information) in
+    let version : Pairs = optional_text_pairs (codes "version") t.version in
+    let page : Pairs = optional_text_pairs (codes "informationUri") (option_map address_uri t.information) in
     let rules : Pairs = listed (codes "rules") (rule_values r) in
     five_put old one two three four new (start ++ name) (further version) (further page) (further rules) (codes "}}")
     e f g h i

@@ -7,12 +7,12 @@ use denote.Ref.{Bor}
 use Rattle.std.proofs.lemmas.Bool.{cases_lt}
 use Rattle.std.proofs.lemmas.List.{length-take, nil_from_length, take_all}
 use Rattle.miette_protocol.specs.declared.error.MietteError.{MietteError}
-use Rattle.miette_protocol.specs.rules.Outcome.{Refuses}
+use Rattle.miette_protocol.specs.rules.Outcome.{IsReadError}
 use Rattle.miette_protocol.specs.rules.Reading.{Source}
 use Rattle.miette_tree.proofs.WholeReads.{fault_met, nowhere}
-use Rattle.miette_sarif.specs.rules.Findings.{SeenSource}
-use Rattle.miette_sarif.specs.rules.Seen.{seen, seen_or}
-use Rattle.miette_sarif.specs.steps.Sees.{Sees, SeesOwn, seen_first}
+use Rattle.miette_sarif.specs.rules.Findings.{SnapshotValue}
+use Rattle.miette_sarif.specs.rules.SourceSnapshot.{seen, snapshot_or}
+use Rattle.miette_sarif.specs.steps.SnapshotReads.{IsSnapshot, IsOwnSnapshot, seen_first}
 
 -- ---- what is seen
 
@@ -21,19 +21,19 @@ pub unwrapped : (o : Option (Bor (List ℕ))) (d : Bor (List ℕ)) → d.now ≡
 unwrapped None d e = e
 unwrapped (Some name) d e = refl
 
-abbrev source_read : ℕ → List ℕ → List ℕ → SeenSource
+abbrev source_read : ℕ → List ℕ → List ℕ → SnapshotValue
 source_read n name bytes = record { source = record { name = name; number = n }; text = Some bytes }
 
 pub seen_read : (s : Source) (n : ℕ) (name bytes : List ℕ) → name ≡ unwrap_or s.name [] → bytes ≡ s.bytes
-    → Sees n s (record { source = record { name = name; number = n }; text = Some bytes })
+    → IsSnapshot n s (record { source = record { name = name; number = n }; text = Some bytes })
 seen_read s n name bytes e f = record {
   fault = false;
   possible = λ t. (let no : false ≡ true = t in cc);
   is = ap (λ a. source_read n a bytes) e ∙ ap (source_read n (unwrap_or s.name [])) f;
 }
 
-pub seen_unread : (s : Source) (n : ℕ) (e : MietteError) → Refuses s nowhere e
-    → Sees n s (record { source = record { name = []; number = n }; text = None })
+pub seen_unread : (s : Source) (n : ℕ) (e : MietteError) → IsReadError s nowhere e
+    → IsSnapshot n s (record { source = record { name = []; number = n }; text = None })
 seen_unread s n e h = record { fault = true; possible = λ t. fault_met s e h; is = refl }
 
 -- ---- parts of a text
@@ -53,9 +53,9 @@ cut_none xs from to end e h =
 
 -- ---- the source of a report
 
-pub seen_own : (s : Source) (n : ℕ) (own : Option Source) (it : SeenSource) → Some s ≡ own → Sees n s it
-    → SeesOwn n own (Some it)
-seen_own s n own it e h = elim own as (λ o. Some s ≡ o → SeesOwn n o (Some it)) [
+pub seen_own : (s : Source) (n : ℕ) (own : Option Source) (it : SnapshotValue) → Some s ≡ own → IsSnapshot n s it
+    → IsOwnSnapshot n own (Some it)
+seen_own s n own it e h = elim own as (λ o. Some s ≡ o → IsOwnSnapshot n o (Some it)) [
   | None ↦ λ e. (let no : Some s ≡ None = e in cc)
   | Some other ↦ λ e. (let same : s ≡ other = cc in
       record {
@@ -65,11 +65,11 @@ seen_own s n own it e h = elim own as (λ o. Some s ≡ o → SeesOwn n o (Some 
       })
 ] e
 
-pub seen_none : (n : ℕ) (own : Option Source) → None ≡ own → SeesOwn n own None
-seen_none n own e = subst (λ o. SeesOwn n o None) e (record { fault = false; possible = refl; is = refl })
+pub seen_none : (n : ℕ) (own : Option Source) → None ≡ own → IsOwnSnapshot n own None
+seen_none n own e = subst (λ o. IsOwnSnapshot n o None) e (record { fault = false; possible = refl; is = refl })
 
 -- the own source, else the one that is inherited
-pub own_first : (fault : Bool) (n : ℕ) (s : Option Source) (inherited : Option SeenSource)
-    → seen_first (seen_or fault n s None) inherited ≡ seen_or fault n s inherited
+pub own_first : (fault : Bool) (n : ℕ) (s : Option Source) (inherited : Option SnapshotValue)
+    → seen_first (snapshot_or fault n s None) inherited ≡ snapshot_or fault n s inherited
 own_first fault n None inherited = refl
 own_first fault n (Some own) inherited = refl

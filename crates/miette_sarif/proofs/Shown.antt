@@ -4,12 +4,12 @@ use Rattle.std.proofs.Common.{◌∙◌, eq-eqb}
 use Rattle.std.specs.Prelude.{IsUtf8, slice_range, if◌then◌else◌}
 use Rattle.std.specs.Str.{is_utf8}
 use Rattle.std.proofs.lemmas.Str.{IsUtf8-from_is_utf8, is_utf8-from_IsUtf8}
-use Rattle.miette_basics.proofs.Cases.{by_cases}
-use Rattle.miette_basics.specs.rules.Lists.{is_nil}
-use Rattle.miette_positions.specs.declared.place.Stretch.{Stretch}
-use Rattle.miette_sarif.specs.rules.Findings.{Replaced}
-use Rattle.miette_sarif.specs.rules.Marks.{is_shown, text_of}
-use Rattle.miette_sarif.specs.steps.Drafts.{Drafted, finished, finished_one}
+use Rattle.miette_lines.proofs.Cases.{by_cases}
+use Rattle.miette_lines.specs.rules.Lists.{is_nil}
+use Rattle.miette_positions.specs.declared.position.Stretch.{Stretch}
+use Rattle.miette_sarif.specs.rules.Findings.{ReplacementValue}
+use Rattle.miette_sarif.specs.rules.Marks.{shows_snippet, text_of}
+use Rattle.miette_sarif.specs.steps.Drafts.{DraftValue, finished, finished_one}
 
 some_bytes : (xs : List ℕ) → (length xs ≡ 0 → ⊥) → is_nil xs ≡ false
 some_bytes [] h = absurd (h refl)
@@ -21,7 +21,7 @@ not_utf8 xs h = by_cases {C = is_utf8 xs ≡ false} (is_utf8 xs) (λ t. absurd (
 -- a stretch whose text is shown, and those whose text isn't
 pub shown : (bytes part : List ℕ) (s : Stretch) → part ≡ text_of bytes s
     → s.start.position.line ≡ s.end.position.line → (length part ≡ 0 → ⊥) → IsUtf8 part
-    → Some part ≡ (if is_shown bytes s then Some (text_of bytes s) else None)
+    → Some part ≡ (if shows_snippet bytes s then Some (text_of bytes s) else None)
 shown bytes part s e same some utf8 =
     let line = eq-eqb s.start.position.line s.end.position.line same in
     let full : is_nil (text_of bytes s) ≡ false = ap is_nil (sym e) ∙ some_bytes part some in
@@ -30,7 +30,7 @@ shown bytes part s e same some utf8 =
 
 pub not_shown : (bytes part : List ℕ) (s : Stretch) → part ≡ text_of bytes s
     → s.start.position.line ≡ s.end.position.line → (length part ≡ 0 → ⊥) → (IsUtf8 part → ⊥)
-    → ◌≡◌ {A = Option (List ℕ)} None (if is_shown bytes s then Some (text_of bytes s) else None)
+    → ◌≡◌ {A = Option (List ℕ)} None (if shows_snippet bytes s then Some (text_of bytes s) else None)
 not_shown bytes part s e same some broken =
     let line = eq-eqb s.start.position.line s.end.position.line same in
     let full : is_nil (text_of bytes s) ≡ false = ap is_nil (sym e) ∙ some_bytes part some in
@@ -38,16 +38,17 @@ not_shown bytes part s e same some broken =
     rw (line, full, text) refl
 
 -- a draft that can be finished, and one that can't
-pub draft_read : (bytes text : List ℕ) (d : Drafted) → text ≡ d.text ++ slice_range bytes d.reached d.deleted.end.offset
+pub draft_read : (bytes text : List ℕ) (d : DraftValue) → text ≡ d.text
+    ++ slice_range bytes d.reached d.deleted.end.offset
     → IsUtf8 text → Some (record { deleted = d.deleted; text = text }) ≡ finished_one (finished bytes d)
 draft_read bytes text d e utf8 =
-    let it : List ℕ → Replaced = λ t. record { deleted = d.deleted; text = t } in
+    let it : List ℕ → ReplacementValue = λ t. record { deleted = d.deleted; text = t } in
     let all : is_utf8 (finished bytes d).text ≡ true = ap is_utf8 (sym e) ∙ is_utf8-from_IsUtf8 text utf8 in
     rw all (ap (λ t. Some (it t)) e)
 
-pub draft_unread : (bytes text : List ℕ) (d : Drafted)
+pub draft_unread : (bytes text : List ℕ) (d : DraftValue)
     → text ≡ d.text ++ slice_range bytes d.reached d.deleted.end.offset → (IsUtf8 text → ⊥)
-    → ◌≡◌ {A = Option Replaced} None (finished_one (finished bytes d))
+    → ◌≡◌ {A = Option ReplacementValue} None (finished_one (finished bytes d))
 draft_unread bytes text d e broken =
     let all : is_utf8 (finished bytes d).text ≡ false = ap is_utf8 (sym e) ∙ not_utf8 text broken in
     rw all refl

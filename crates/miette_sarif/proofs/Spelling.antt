@@ -8,7 +8,7 @@ use Rattle.miette_tree.specs.rules.Reads.{AllAlwaysRead}
 use Rattle.miette_tree.specs.rules.Tree.{Trees}
 use Rattle.miette_tree.specs.views.Handler.{AppendsOne}
 use Rattle.miette_sarif.specs.rules.Findings.{Finding}
-use Rattle.miette_sarif.specs.rules.Gathered.{AreFindingsOf, read_findings}
+use Rattle.miette_sarif.specs.rules.FindingList.{AreFindingsOf, read_findings}
 use Rattle.miette_sarif.specs.rules.Log.{ToolName, log}
 use Rattle.miette_sarif.specs.rules.LogText.{IsLogOf, log_text}
 use Rattle.miette_sarif.proofs.Always.{trees_read}

@@ -9,7 +9,7 @@ use Rattle.miette_sarif.specs.declared.value.Value.{Value}
 use Rattle.miette_sarif.specs.rules.Codes.{Rules}
 use Rattle.miette_sarif.specs.rules.Findings.{Finding}
 use Rattle.miette_sarif.specs.rules.Messages.{doubled, maybe_row, rows}
-use Rattle.miette_sarif.specs.rules.Results.{message_text, see_row}
+use Rattle.miette_sarif.specs.rules.Results.{result_message_text, see_row}
 use Rattle.miette_sarif.specs.views.Values.{items_view, members_view}
 
 pub number_written : (v : Json) (n : ℕ) (old new : List ℕ) → n < 2 ^ 64 → v ≡ number n → new ≡ old ++ decimal n
@@ -40,12 +40,13 @@ added_after old mid new text more e f = f ∙ ap (λ l. l ++ more) e ∙ append_
 pub message_written : (r : Rules) (f : Finding) (old own caused helped fixed new : List ℕ)
     → own ≡ old ++ doubled f.message → caused ≡ own ++ rows (codes "caused by: ") f.causes
     → helped ≡ caused ++ maybe_row (codes "help: ") f.help → fixed ≡ helped ++ rows (codes "fix: ") f.unapplied
-    → new ≡ fixed ++ see_row (r.uri f.code) f.url → new ≡ old ++ message_text r f
+    → new ≡ fixed ++ see_row (r.uri f.code) f.url → new ≡ old ++ result_message_text r f
 message_written r f old own caused helped fixed new a b c d e =
     let causes : List ℕ = rows (codes "caused by: ") f.causes in
     let help : List ℕ = maybe_row (codes "help: ") f.help in
     let fixes : List ℕ = rows (codes "fix: ") f.unapplied in
-    let see : List ℕ = see_row (r.uri f.code) f.url in
-    added_after old own new (doubled f.message) (causes ++ (help ++ (fixes ++ see))) a
-    (added_after own caused new causes (help ++ (fixes ++ see)) b
-    (added_after caused helped new help (fixes ++ see) c (added_after helped fixed new fixes see d e)))
+    let take_snapshot : List ℕ = see_row (r.uri f.code) f.url in
+    added_after old own new (doubled f.message) (causes ++ (help ++ (fixes ++ take_snapshot))) a
+    (added_after own caused new causes (help ++ (fixes ++ take_snapshot)) b
+    (added_after caused helped new help (fixes ++ take_snapshot) c (added_after helped fixed new fixes take_snapshot d
+    e)))

@@ -1,2 +1,4 @@
--- What laws and worked rows say.
-pub mod Worked
+-- Definitions that theorems and examples use.
+pub mod Examples
+pub mod ReportTexts
+pub mod Values

@@ -1,8 +1,8 @@
--- What users rely on, in the words of docs/RULES.md.
+-- The definitions that users rely on, named as in docs/RULES.md.
 pub mod Artifacts
 pub mod Codes
 pub mod Findings
-pub mod Gathered
+pub mod FindingList
 pub mod Log
 pub mod LogText
 pub mod Marks
@@ -11,6 +11,6 @@ pub mod Objects
 pub mod Places
 pub mod Proposals
 pub mod Results
-pub mod Seen
+pub mod SourceSnapshot
 pub mod SourceAnswers
 pub mod Uris

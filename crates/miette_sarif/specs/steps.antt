@@ -1,6 +1,6 @@
--- How the code comes to what the rules say.
+-- Helper definitions of the code.
 pub mod Drafts
 pub mod Gathering
 pub mod Members
 pub mod Picking
-pub mod Sees
+pub mod SnapshotReads

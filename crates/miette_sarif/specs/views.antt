@@ -1,8 +1,8 @@
--- What values of the code stand for.
+-- Values of the code, as the rules represent them.
 pub mod Artifacts
-pub mod Collected
-pub mod Drafted
-pub mod Found
+pub mod FindingParts
+pub mod DraftValue
+pub mod Findings
 pub mod Grouped
 pub mod Handled
 pub mod Rules

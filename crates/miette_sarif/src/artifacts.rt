@@ -1,30 +1,32 @@
-//! The sources that results name, each uri once, in the order in which they are named.
+//! The artifacts of a log: the sources that results name, as URIs. Each is listed once, in the order of its first use.
 
 ghost use Rattle.std.specs.Prelude.{◌≡◌, ◌++◌, ◌∷◌, [], ◌+◌, IfOk, OnOk, codes, decimal, map, string_bytes};
 ghost use Rattle.std.specs.Option.{option_map};
 ghost use Rattle.std.specs.Str.{bytes_eq};
 ghost use Rattle.indexmap.specs.IndexSet.{insert_all};
-ghost use Rattle.miette_sarif.specs.rules.Artifacts.{all_named, artifact, artifact_values, artifacts_in, located};
+ghost use Rattle.miette_sarif.specs.rules.Artifacts.{all_named, artifact, artifact_values, artifacts_in};
+ghost use Rattle.miette_sarif.specs.rules.Artifacts.{artifact_location};
 ghost use Rattle.miette_sarif.specs.rules.Artifacts.{named_in, named_in_fixes, named_in_marks};
 ghost use Rattle.miette_sarif.specs.rules.Artifacts.{named_in_place, named_in_primary, untitled_after, uri_of};
 ghost use Rattle.miette_json.specs.rules.Json.{items_text, json_text, number, string};
 ghost use Rattle.miette_sarif.specs.rules.Objects.{items_of, listed, object_of, pair};
 ghost use Rattle.miette_sarif.specs.steps.Members.{further};
-ghost use Rattle.miette_sarif.specs.views.Found.{finding_of, findings_of, mark_of, name_of, names_of, place_of};
-ghost use Rattle.miette_sarif.specs.views.Found.{proposed_of, texts_of};
+ghost use Rattle.miette_sarif.specs.views.Findings.{finding_of, sarif_findings_of, mark_of, source_name_of};
+ghost use Rattle.miette_sarif.specs.views.Findings.{source_names_of, place_of};
+ghost use Rattle.miette_sarif.specs.views.Findings.{applicable_fix_of, texts_of};
 ghost use Rattle.miette_sarif.specs.views.Artifacts.{artifacts_view};
 
-use crate::finding::{Finding, Mark, Named, Place, Proposal};
+use crate::finding::{Finding, PhysicalLocation, Proposal, SarifLocation, SourceId};
 use crate::members::{push_count, push_plain, push_string};
 use crate::texts::insert_text;
 use crate::uri::name_uri;
 use crate::write::push_comma;
 use indexmap::IndexSet;
-use miette_basics::numbers::push_number;
-use miette_basics::sums::sum;
+use miette_lines::numbers::push_number;
+use miette_lines::sums::sum;
 use std::alloc::{AllocError, Global};
 
-/// The sources without a name, by their numbers, and the uris.
+/// The numbers of the sources without a name, and the URIs of all sources.
 #[derive(Drop)]
 pub struct Artifacts {
     untitled: IndexSet<usize>,
@@ -32,17 +34,21 @@ pub struct Artifacts {
 }
 
 // Adds a source.
-fn push_source<'a>(names: &mut Vec<Named<'a>>, source: Named<'a>) -> Result<(), AllocError>
-    ensures { OnOk result (names_of names.new.items ≡ names_of names.old.items ++ name_of source.entry ∷ []) }
+fn push_source<'a>(names: &mut Vec<SourceId<'a>>, source: SourceId<'a>) -> Result<(), AllocError>
+    ensures { OnOk result (source_names_of names.new.items ≡ source_names_of names.old.items
+        ++ source_name_of source.entry ∷ []) }
 {
     names.push(source)?;
     Ok(())
 }
 
-// Adds the source of a place.
-fn push_place<'a>(names: &mut Vec<Named<'a>>, place: &Option<Place<'a>>) -> Result<(), AllocError>
-    ensures { OnOk result (names_of names.new.items
-        ≡ names_of names.old.items ++ named_in_place (option_map place_of place.now)) }
+// Adds the source of a location.
+fn push_place<'a>(
+    names: &mut Vec<SourceId<'a>>,
+    place: &Option<PhysicalLocation<'a>>,
+) -> Result<(), AllocError>
+    ensures { OnOk result (source_names_of names.new.items
+        ≡ source_names_of names.old.items ++ named_in_place (option_map place_of place.now)) }
 {
     match place {
         Some(place) => push_source(names, place.source),
@@ -52,11 +58,11 @@ fn push_place<'a>(names: &mut Vec<Named<'a>>, place: &Option<Place<'a>>) -> Resu
 
 // Adds the source of the primary label.
 fn push_primary<'a>(
-    names: &mut Vec<Named<'a>>,
-    primary: &Option<Mark<'a>>,
+    names: &mut Vec<SourceId<'a>>,
+    primary: &Option<SarifLocation<'a>>,
 ) -> Result<(), AllocError>
-    ensures { OnOk result (names_of names.new.items
-        ≡ names_of names.old.items ++ named_in_primary (option_map mark_of primary.now)) }
+    ensures { OnOk result (source_names_of names.new.items
+        ≡ source_names_of names.old.items ++ named_in_primary (option_map mark_of primary.now)) }
 {
     match primary {
         Some(mark) => push_place(names, &mark.place),
@@ -65,20 +71,23 @@ fn push_primary<'a>(
 }
 
 // Adds the sources of labels.
-fn push_marks<'a>(names: &mut Vec<Named<'a>>, marks: &[Mark<'a>]) -> Result<(), AllocError>
-    ensures { OnOk result (names_of names.new.items
-        ≡ names_of names.old.items ++ named_in_marks (map mark_of marks.now)) }
+fn push_marks<'a>(
+    names: &mut Vec<SourceId<'a>>,
+    locations: &[SarifLocation<'a>],
+) -> Result<(), AllocError>
+    ensures { OnOk result (source_names_of names.new.items
+        ≡ source_names_of names.old.items ++ named_in_marks (map mark_of locations.now)) }
 {
-    for mark in marks {
+    for mark in locations {
         push_place(names, &mark.place)?;
     }
     Ok(())
 }
 
 // Adds the sources of fixes.
-fn push_fixes<'a>(names: &mut Vec<Named<'a>>, fixes: &[Proposal<'a>]) -> Result<(), AllocError>
-    ensures { OnOk result (names_of names.new.items
-        ≡ names_of names.old.items ++ named_in_fixes (map proposed_of fixes.now)) }
+fn push_fixes<'a>(names: &mut Vec<SourceId<'a>>, fixes: &[Proposal<'a>]) -> Result<(), AllocError>
+    ensures { OnOk result (source_names_of names.new.items
+        ≡ source_names_of names.old.items ++ named_in_fixes (map applicable_fix_of fixes.now)) }
 {
     for fix in fixes {
         push_source(names, fix.source)?;
@@ -86,23 +95,23 @@ fn push_fixes<'a>(names: &mut Vec<Named<'a>>, fixes: &[Proposal<'a>]) -> Result<
     Ok(())
 }
 
-// Adds the sources that a result names.
-fn push_named<'a>(names: &mut Vec<Named<'a>>, finding: &Finding<'a>) -> Result<(), AllocError>
-    ensures { OnOk result (names_of names.new.items
-        ≡ names_of names.old.items ++ named_in (finding_of finding.now)) }
+// Adds the sources that a result names, by its locations and fixes.
+fn push_named<'a>(names: &mut Vec<SourceId<'a>>, finding: &Finding<'a>) -> Result<(), AllocError>
+    ensures { OnOk result (source_names_of names.new.items
+        ≡ source_names_of names.old.items ++ named_in (finding_of finding.now)) }
 {
     push_primary(names, &finding.primary)?;
-    push_marks(names, &finding.marks)?;
+    push_marks(names, &finding.locations)?;
     push_fixes(names, &finding.fixes)
 }
 
 // Adds the sources that results name.
 fn push_all_named<'a>(
-    names: &mut Vec<Named<'a>>,
+    names: &mut Vec<SourceId<'a>>,
     findings: &[Finding<'a>],
 ) -> Result<(), AllocError>
-    ensures { OnOk result (names_of names.new.items
-        ≡ names_of names.old.items ++ all_named (findings_of findings.now)) }
+    ensures { OnOk result (source_names_of names.new.items
+        ≡ source_names_of names.old.items ++ all_named (sarif_findings_of findings.now)) }
 {
     for finding in findings {
         push_named(names, finding)?;
@@ -110,9 +119,9 @@ fn push_all_named<'a>(
     Ok(())
 }
 
-// Adds the numbers of the sources without a name.
-fn insert_untitled(untitled: &mut IndexSet<usize>, names: &[Named<'_>]) -> Result<(), AllocError>
-    ensures { OnOk result (untitled.new.keys ≡ untitled_after untitled.old.keys (names_of names.now)) }
+// Adds the numbers of sources without a name.
+fn insert_untitled(untitled: &mut IndexSet<usize>, names: &[SourceId<'_>]) -> Result<(), AllocError>
+    ensures { OnOk result (untitled.new.keys ≡ untitled_after untitled.old.keys (source_names_of names.now)) }
 {
     for source in names {
         if source.name.is_empty() {
@@ -131,13 +140,13 @@ fn untitled_uri(alloc: Global, number: usize) -> Result<String, AllocError>
     Ok(uri)
 }
 
-// The uri of a source.
+// Returns the URI of a source.
 fn uri_of(
     alloc: Global,
     untitled: &IndexSet<usize>,
-    source: &Named<'_>,
+    source: &SourceId<'_>,
 ) -> Result<String, AllocError>
-    ensures { IfOk result (λ uri. string_bytes uri ≡ uri_of untitled.now.keys (name_of source.now)) }
+    ensures { IfOk result (λ uri. string_bytes uri ≡ uri_of untitled.now.keys (source_name_of source.now)) }
 {
     if !source.name.is_empty() {
         return name_uri(alloc, source.name);
@@ -146,15 +155,15 @@ fn uri_of(
     untitled_uri(alloc, sum(before, 1)?)
 }
 
-// Adds the uris of sources.
+// Adds the URIs of sources.
 fn insert_uris(
     uris: &mut IndexSet<String>,
     alloc: Global,
     untitled: &IndexSet<usize>,
-    names: &[Named<'_>],
+    names: &[SourceId<'_>],
 ) -> Result<(), AllocError>
     ensures { OnOk result (texts_of uris.new.keys
-        ≡ insert_all bytes_eq (texts_of uris.old.keys) (map (uri_of untitled.now.keys) (names_of names.now))) }
+        ≡ insert_all bytes_eq (texts_of uris.old.keys) (map (uri_of untitled.now.keys) (source_names_of names.now))) }
 {
     for source in names {
         let uri = uri_of(alloc, untitled, source)?;
@@ -163,9 +172,9 @@ fn insert_uris(
     Ok(())
 }
 
-// The artifacts of sources.
-fn artifacts_of(alloc: Global, names: &[Named<'_>]) -> Result<Artifacts, AllocError>
-    ensures { IfOk result (λ it. artifacts_view it ≡ artifacts_in (names_of names.now)) }
+// Returns the artifacts of sources.
+fn artifacts_of(alloc: Global, names: &[SourceId<'_>]) -> Result<Artifacts, AllocError>
+    ensures { IfOk result (λ it. artifacts_view it ≡ artifacts_in (source_names_of names.now)) }
 {
     let mut untitled = IndexSet::new(alloc);
     insert_untitled(&mut untitled, names)?;
@@ -174,9 +183,9 @@ fn artifacts_of(alloc: Global, names: &[Named<'_>]) -> Result<Artifacts, AllocEr
     Ok(Artifacts { untitled, uris })
 }
 
-/// The artifacts of findings.
+/// Returns the artifacts of findings.
 pub fn artifacts_in(alloc: Global, findings: &[Finding<'_>]) -> Result<Artifacts, AllocError>
-    ensures { IfOk result (λ it. artifacts_view it ≡ artifacts_in (all_named (findings_of findings.now))) }
+    ensures { IfOk result (λ it. artifacts_view it ≡ artifacts_in (all_named (sarif_findings_of findings.now))) }
 {
     let mut names = Vec::new(alloc);
     push_all_named(&mut names, findings)?;
@@ -191,7 +200,7 @@ fn push_artifact(out: &mut String, uri: &str) -> Result<(), AllocError>
     push_plain(out, "}}")
 }
 
-// Appends the artifact of each uri, and the end of their list.
+// Appends an artifact for each URI, then the closing bracket.
 fn push_artifacts(out: &mut String, uris: &[String]) -> Result<(), AllocError>
     ensures { OnOk result (string_bytes out.new
         ≡ string_bytes out.old ++ items_text (items_of (map artifact (texts_of uris.now)))) }
@@ -206,7 +215,7 @@ fn push_artifacts(out: &mut String, uris: &[String]) -> Result<(), AllocError>
 }
 
 // `{"uri": "a.rs","index": 0}`
-fn push_located_at(out: &mut String, uri: &str, index: usize) -> Result<(), AllocError>
+fn push_artifact_location_at(out: &mut String, uri: &str, index: usize) -> Result<(), AllocError>
     ensures { OnOk result (string_bytes out.new ≡ string_bytes out.old
         ++ json_text (object_of (pair (codes "uri") (string uri.now) ++ pair (codes "index") (number index)))) }
 {
@@ -216,26 +225,30 @@ fn push_located_at(out: &mut String, uri: &str, index: usize) -> Result<(), Allo
 }
 
 impl Artifacts {
-    /// The uri of a source.
-    pub fn uri(&self, alloc: Global, source: Named<'_>) -> Result<String, AllocError>
+    /// Returns the URI of a source.
+    pub fn uri(&self, alloc: Global, source: SourceId<'_>) -> Result<String, AllocError>
         ensures { IfOk result (λ uri. string_bytes uri ≡ uri_of (artifacts_view self.now).untitled
-            (name_of source.entry)) }
+            (source_name_of source.entry)) }
     {
         uri_of(alloc, &self.untitled, &source)
     }
 
-    /// Appends `{"uri": "a.rs","index": 0}`: a source by its uri, and by the index of the artifact that has it.
-    pub(crate) fn push_located(&self, out: &mut String, source: Named<'_>) -> Result<(), AllocError>
+    /// Appends `{"uri": "a.rs","index": 0}`: the URI of a source, and the index of its artifact.
+    pub(crate) fn push_artifact_location(
+        &self,
+        out: &mut String,
+        source: SourceId<'_>,
+    ) -> Result<(), AllocError>
         ensures { OnOk result (string_bytes out.new ≡ string_bytes out.old
-            ++ json_text (located (artifacts_view self.now) (name_of source.entry))) }
+            ++ json_text (artifact_location (artifacts_view self.now) (source_name_of source.entry))) }
     {
         let uri = uri_of(*out.allocator(), &self.untitled, &source)?;
         let text = uri.as_str();
         let index = self.uris.get_index_of(text).unwrap_or(0);
-        push_located_at(out, text, index)
+        push_artifact_location_at(out, text, index)
     }
 
-    /// Appends `,"artifacts": [{"location": {"uri": "a.rs"}}]`, where there is one.
+    /// Appends `,"artifacts": [{"location": {"uri": "a.rs"}}]`, or nothing without artifacts.
     pub(crate) fn push_all(&self, out: &mut String) -> Result<(), AllocError>
         ensures { OnOk result (string_bytes out.new ≡ string_bytes out.old
             ++ further (listed (codes "artifacts") (artifact_values (artifacts_view self.now)))) }

@@ -1,4 +1,5 @@
-//! The edits of a fix as replacements: widened to whole characters and terminators, and joined where they meet.
+//! Converts the edits of a fix to SARIF replacements. Edits are widened to whole characters and line terminators, and
+//! joined if they touch.
 
 ghost use Rattle.std.specs.Prelude.{◌≡◌, ◌++◌, ◌∷◌, ◌&&◌, List, None, Some, IfOk, OnOk, length, map, is_none};
 ghost use Rattle.std.specs.Prelude.{if◌then◌else◌, slice_range};
@@ -10,20 +11,20 @@ ghost use Rattle.miette_fixes.specs.views.Ordered.{edits_of};
 ghost use Rattle.miette_sarif.specs.rules.Proposals.{applicable, later_end, meets, proposal_over, widened};
 ghost use Rattle.miette_sarif.specs.steps.Drafts.{begun, drafts, drafts_from, finished, finished_one, made_of};
 ghost use Rattle.miette_sarif.specs.steps.Drafts.{with_edit};
-ghost use Rattle.miette_sarif.specs.views.Drafted.{draft_of};
-ghost use Rattle.miette_sarif.specs.views.Found.{proposed_of, replaced_of};
+ghost use Rattle.miette_sarif.specs.views.DraftValue.{draft_of};
+ghost use Rattle.miette_sarif.specs.views.Findings.{applicable_fix_of, replacement_value_of};
 ghost use Rattle.miette_sarif.specs.views.Sources.{over_of};
 
 use crate::finding::{Proposal, Replacement};
-use crate::seen::Seen;
+use crate::snapshots::SourceSnapshot;
 use crate::whole::{WholeText, between};
-use miette_basics::sums::sum;
-use miette_fixes::apply::checked;
+use miette_fixes::apply::check_edits;
 use miette_fixes::fix::{Edit, Fix, FixError};
-use miette_positions::place::Stretch;
+use miette_lines::sums::sum;
+use miette_positions::position::Stretch;
 use std::alloc::{AllocError, Global};
 
-// What takes the place of a stretch so far: the source is in it up to an offset.
+// A replacement under construction. `text` has the source up to the offset `reached`.
 #[derive(Drop)]
 struct Draft {
     deleted: Stretch,
@@ -31,14 +32,14 @@ struct Draft {
     reached: usize,
 }
 
-// Where an edit ends.
+// End offset of an edit.
 fn end_of(edit: &Edit) -> Result<usize, AllocError>
     ensures { IfOk result (λ end. end ≡ end_of edit.now) }
 {
     sum(edit.offset(), edit.len())
 }
 
-// The edit of a source widened to whole characters and terminators.
+// Range of an edit, widened to whole characters and line terminators.
 fn widened(text: &WholeText<'_>, edit: &Edit) -> Result<Stretch, AllocError>
     ensures { IfOk result (λ it. it ≡ widened text.now edit.now) }
 {
@@ -49,14 +50,14 @@ fn widened(text: &WholeText<'_>, edit: &Edit) -> Result<Stretch, AllocError>
     })
 }
 
-// Whether a stretch overlaps one before it, or begins where it does.
+// Whether a range overlaps the one before it, or begins at the same offset.
 fn meets(before: Stretch, stretch: Stretch) -> bool
     ensures { result ≡ meets before stretch }
 {
     stretch.start.offset < before.end.offset || stretch.start.offset == before.start.offset
 }
 
-// A stretch up to the end of another one, where that ends after it.
+// Extends a range to the end of another one, if that ends later.
 fn later_end(before: Stretch, stretch: Stretch) -> Stretch
     ensures { result ≡ later_end before stretch }
 {
@@ -70,7 +71,7 @@ fn later_end(before: Stretch, stretch: Stretch) -> Stretch
     }
 }
 
-// Appends the source from an offset up to an edit, and what the edit puts there.
+// Appends the source from `from` up to an edit, and the edit's text.
 fn push_edit(text: &mut Vec<u8>, bytes: &[u8], from: usize, edit: &Edit) -> Result<(), AllocError>
     ensures { OnOk result (text.new.items
         ≡ text.old.items ++ slice_range bytes.now from edit.now.span.offset ++ edit.now.text) }
@@ -79,7 +80,7 @@ fn push_edit(text: &mut Vec<u8>, bytes: &[u8], from: usize, edit: &Edit) -> Resu
     text.extend_from_slice(edit.text().as_bytes())
 }
 
-// A draft with one edit.
+// Starts a draft with one edit.
 fn begun(alloc: Global, bytes: &[u8], deleted: Stretch, edit: &Edit) -> Result<Draft, AllocError>
     ensures { IfOk result (λ it. draft_of it ≡ begun bytes.now deleted edit.now) }
 {
@@ -93,7 +94,7 @@ fn begun(alloc: Global, bytes: &[u8], deleted: Stretch, edit: &Edit) -> Result<D
     })
 }
 
-// A draft with one more edit.
+// Adds an edit to a draft.
 fn with_edit(draft: Draft, bytes: &[u8], stretch: Stretch, edit: &Edit) -> Result<Draft, AllocError>
     ensures { IfOk result (λ it. draft_of it ≡ with_edit bytes.now stretch (draft_of draft) edit.now) }
 {
@@ -111,7 +112,7 @@ fn with_edit(draft: Draft, bytes: &[u8], stretch: Stretch, edit: &Edit) -> Resul
     })
 }
 
-// The draft before an edit with this edit, or, where they don't meet, the edit's own: the one before it is done.
+// Adds an edit to the draft before it, if they touch. Else moves that draft to `done` and starts a new one.
 fn next_draft(
     done: &mut Vec<Draft>,
     alloc: Global,
@@ -131,7 +132,7 @@ fn next_draft(
     begun(alloc, text.bytes(), stretch, edit)
 }
 
-// Appends the drafts of edits by offset: those that meet are joined.
+// Appends the drafts of edits sorted by offset. Edits that touch share a draft.
 fn push_drafts(
     done: &mut Vec<Draft>,
     alloc: Global,
@@ -150,7 +151,7 @@ fn push_drafts(
     Ok(())
 }
 
-// The drafts of edits by offset.
+// Returns the drafts of edits sorted by offset.
 fn drafts(alloc: Global, text: &WholeText<'_>, edits: &[&Edit]) -> Result<Vec<Draft>, AllocError>
     ensures { IfOk result (λ list. map draft_of list.items ≡ drafts text.now (edits_of edits.now)) }
 {
@@ -162,9 +163,10 @@ fn drafts(alloc: Global, text: &WholeText<'_>, edits: &[&Edit]) -> Result<Vec<Dr
     Ok(done)
 }
 
-// The replacement of a draft, none where its text is no UTF-8.
+// Finishes a draft. Returns `None` if its text is not UTF-8.
 fn finished(draft: Draft, bytes: &[u8]) -> Result<Option<Replacement>, AllocError>
-    ensures { IfOk result (λ made. option_map replaced_of made ≡ finished_one (finished bytes.now (draft_of draft))) }
+    ensures { IfOk result (λ made. option_map replacement_value_of made
+        ≡ finished_one (finished bytes.now (draft_of draft))) }
 {
     let Draft {
         deleted,
@@ -178,13 +180,13 @@ fn finished(draft: Draft, bytes: &[u8]) -> Result<Option<Replacement>, AllocErro
     }
 }
 
-// The replacements of drafts, none where the text of one is no UTF-8.
+// Finishes all drafts. Returns `None` if the text of one is not UTF-8.
 fn replacements(
     alloc: Global,
     bytes: &[u8],
     drafts: Vec<Draft>,
 ) -> Result<Option<Vec<Replacement>>, AllocError>
-    ensures { IfOk result (λ made. option_map (λ list. map replaced_of list.items) made
+    ensures { IfOk result (λ made. option_map (λ list. map replacement_value_of list.items) made
         ≡ made_of bytes.now (map draft_of drafts.items)) }
 {
     let mut list = Vec::with_capacity(alloc, drafts.len())?;
@@ -197,16 +199,16 @@ fn replacements(
     Ok(Some(list))
 }
 
-// The replacements of edits, none where they can't be applied, or a text is no UTF-8.
+// Returns the replacements of edits. Returns `None` if they can't be applied or if a text is not UTF-8.
 fn applicable(
     alloc: Global,
     text: &WholeText<'_>,
     edits: &[Edit],
 ) -> Result<Option<Vec<Replacement>>, AllocError>
-    ensures { IfOk result (λ made. option_map (λ list. map replaced_of list.items) made
+    ensures { IfOk result (λ made. option_map (λ list. map replacement_value_of list.items) made
         ≡ applicable text.now edits.now) }
 {
-    match checked(alloc, text.bytes().len(), edits) {
+    match check_edits(alloc, text.bytes().len(), edits) {
         Ok(list) => replacements(alloc, text.bytes(), drafts(alloc, text, &list)?),
         Err(FixError::Memory) => Err(AllocError),
         Err(FixError::OutOfBounds) => Ok(None),
@@ -214,14 +216,14 @@ fn applicable(
     }
 }
 
-/// What a fix proposes over a source. None without edits, where they can't be applied, and where what takes the place
-/// of whole characters is no UTF-8.
+/// Returns a fix as a log has it. Returns `None` if the fix has no edits, if they can't be applied, or if the text of a
+/// replacement is not UTF-8.
 pub(crate) fn proposal_over<'a>(
     alloc: Global,
     fix: &'a Fix,
-    seen: Option<&Seen<'a>>,
+    seen: Option<&SourceSnapshot<'a>>,
 ) -> Result<Option<Proposal<'a>>, AllocError>
-    ensures { IfOk result (λ made. option_map proposed_of made ≡ proposal_over (over_of seen.entry) fix.now) }
+    ensures { IfOk result (λ made. option_map applicable_fix_of made ≡ proposal_over (over_of seen.entry) fix.now) }
 {
     let Some(seen) = seen else {
         return Ok(None);

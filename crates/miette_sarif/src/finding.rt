@@ -1,37 +1,37 @@
-//! What a log tells of a report, before sources and rules have their numbers.
+//! The findings of a log: all that results and rules need from a report.
 
 use miette_fixes::fix::Applicability;
-use miette_positions::place::Stretch;
+use miette_positions::position::Stretch;
 
-/// Which source: its name, empty where it has none, and how many sources of the reports stand before it.
+/// Identifies a source: its name (empty if it has none), and the number of sources read before it.
 #[derive(Clone, Copy)]
-pub struct Named<'a> {
+pub struct SourceId<'a> {
     pub name: &'a str,
     pub number: usize,
 }
 
-/// A part of a source, and its text where that is shown.
+/// A region of a source, and its text if the log shows it.
 #[derive(Clone, Copy)]
-pub struct Area<'a> {
+pub struct SarifRegion<'a> {
     pub stretch: Stretch,
     pub snippet: Option<&'a str>,
 }
 
-/// A place in a source, which has no area where the label is refused.
+/// A location in a source. It has no region if the label is refused.
 #[derive(Clone, Copy)]
-pub struct Place<'a> {
-    pub source: Named<'a>,
-    pub area: Option<Area<'a>>,
+pub struct PhysicalLocation<'a> {
+    pub source: SourceId<'a>,
+    pub area: Option<SarifRegion<'a>>,
 }
 
-/// A place with a text, which is empty where there is none.
+/// A location with a message. The message is empty if there is none.
 #[derive(Clone, Copy)]
-pub struct Mark<'a> {
-    pub place: Option<Place<'a>>,
+pub struct SarifLocation<'a> {
+    pub place: Option<PhysicalLocation<'a>>,
     pub text: &'a str,
 }
 
-/// What takes the place of a part of a source.
+/// Text that replaces a region of a source.
 #[derive(Drop)]
 pub struct Replacement {
     pub deleted: Stretch,
@@ -43,13 +43,13 @@ pub struct Replacement {
 pub struct Proposal<'a> {
     pub message: &'a str,
     pub applicability: Applicability,
-    pub source: Named<'a>,
+    pub source: SourceId<'a>,
     pub replacements: Vec<Replacement>,
 }
 
-/// What is said of a report beside its places.
+/// The texts of a report: everything except locations and fixes.
 #[derive(Drop)]
-pub struct Told<'a> {
+pub struct ReportTexts<'a> {
     pub code: &'a str,
     pub level: &'static str,
     pub message: &'a str,
@@ -58,13 +58,13 @@ pub struct Told<'a> {
     pub url: Option<&'a str>,
 }
 
-/// What a log tells of a report.
+/// A finding: what the log has for one report.
 #[derive(Drop)]
 pub struct Finding<'a> {
-    pub told: Told<'a>,
-    pub primary: Option<Mark<'a>>,
-    pub marks: Vec<Mark<'a>>,
+    pub report_texts: ReportTexts<'a>,
+    pub primary: Option<SarifLocation<'a>>,
+    pub locations: Vec<SarifLocation<'a>>,
     pub fixes: Vec<Proposal<'a>>,
-    /// The messages of fixes that can't be applied.
+    /// Messages of the fixes that can't be applied.
     pub unapplied: Vec<&'a str>,
 }

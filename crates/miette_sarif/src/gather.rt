@@ -1,25 +1,26 @@
-//! Findings of reports: of each one and of each that is related to it, depth first.
+//! Collects the findings of reports and of their related reports, depth first.
 
 ghost use Rattle.std.specs.Prelude.{◌≡◌, ◌+◌, ◌++◌, ◌∷◌, [], IfOk, OnOk, length, map};
 ghost use Rattle.std.specs.Option.{option_map};
 ghost use Rattle.miette_tree.specs.rules.Tree.{cause_of, head, source_of, trees};
 ghost use Rattle.miette_tree.specs.views.Report.{tree_of};
-ghost use Rattle.miette_sarif.specs.rules.Gathered.{AreFindingsOf};
-ghost use Rattle.miette_sarif.specs.rules.Marks.{group_over, groups_of};
+ghost use Rattle.miette_sarif.specs.rules.FindingList.{AreFindingsOf};
+ghost use Rattle.miette_sarif.specs.rules.Marks.{group_over, source_labels_of};
 ghost use Rattle.miette_sarif.specs.rules.Proposals.{proposal_over};
-ghost use Rattle.miette_sarif.specs.rules.Seen.{count_causes, count_own};
-ghost use Rattle.miette_sarif.specs.steps.Gathering.{Adds, AddsAll, AddsCause, AddsCauses, AddsMarks, AddsOver};
-ghost use Rattle.miette_sarif.specs.steps.Gathering.{IsFound, with_fix, with_fixes};
-ghost use Rattle.miette_sarif.specs.views.Collected.{collected_of, gathered_of};
-ghost use Rattle.miette_sarif.specs.views.Found.{finding_of, findings_of, mark_of};
+ghost use Rattle.miette_sarif.specs.rules.SourceSnapshot.{count_causes, count_own};
+ghost use Rattle.miette_sarif.specs.steps.Gathering.{AddsFindings, AddsAllFindings, AddsCause, AddsCauses, AddsMarks};
+ghost use Rattle.miette_sarif.specs.steps.Gathering.{AddsOver};
+ghost use Rattle.miette_sarif.specs.steps.Gathering.{IsFindingOf, with_fix, with_fixes};
+ghost use Rattle.miette_sarif.specs.views.FindingParts.{collected_of, gathered_of};
+ghost use Rattle.miette_sarif.specs.views.Findings.{finding_of, sarif_findings_of, mark_of};
 ghost use Rattle.miette_sarif.specs.views.Grouped.{groups_in, labels_in};
-ghost use Rattle.miette_sarif.specs.views.Sources.{over_of, seen_of};
+ghost use Rattle.miette_sarif.specs.views.Sources.{over_of, snapshot_of};
 
 use crate::edits::proposal_over;
-use crate::finding::{Finding, Mark, Proposal};
-use crate::labels::{Group, primary_or, push_groups, sort, take_primary};
-use crate::seen::{Seen, own_or, see_further, see_own};
-use crate::told::told_of;
+use crate::finding::{Finding, Proposal, SarifLocation};
+use crate::labels::{SourceLabels, primary_or, push_groups, sort, take_primary};
+use crate::report_texts::report_texts_of;
+use crate::snapshots::{SourceSnapshot, own_or, take_further_snapshots, take_own_snapshot};
 use miette_fixes::fix::Fix;
 use miette_protocol::protocol::{Diagnostic, LabeledSpan};
 use miette_protocol::source::SourceCode;
@@ -27,22 +28,22 @@ use miette_tree::parts::labels_of;
 use miette_tree::report::{Cause, Report};
 use std::alloc::{AllocError, Global};
 
-// Findings, and how many sources were read for them.
+// Findings, and the number of sources that were read for them.
 #[derive(Drop)]
-struct Gathered<'a> {
+struct FindingList<'a> {
     findings: Vec<Finding<'a>>,
     sources: usize,
 }
 
-// What is told of the places of a report and its causes.
+// Locations and fixes of a report and its causes.
 #[derive(Drop)]
-struct Collected<'a> {
-    marks: Vec<Mark<'a>>,
+struct FindingParts<'a> {
+    locations: Vec<SarifLocation<'a>>,
     fixes: Vec<Proposal<'a>>,
     unapplied: Vec<&'a str>,
 }
 
-// References to labels, in the order given.
+// Returns references to labels, in the given order.
 fn listed<'a>(alloc: Global, labels: &'a [LabeledSpan]) -> Result<Vec<&'a LabeledSpan>, AllocError>
     ensures { IfOk result (λ list. labels_in list.items ≡ labels.now) }
 {
@@ -53,11 +54,11 @@ fn listed<'a>(alloc: Global, labels: &'a [LabeledSpan]) -> Result<Vec<&'a Labele
     Ok(list)
 }
 
-// Appends a group of labels over a source, or over none, by offset.
+// Appends the labels of a source (or of none), sorted by offset.
 fn push_labels<'s, 'a>(
-    groups: &mut Vec<Group<'s, 'a>>,
+    groups: &mut Vec<SourceLabels<'s, 'a>>,
     alloc: Global,
-    seen: Option<&'s Seen<'a>>,
+    seen: Option<&'s SourceSnapshot<'a>>,
     labels: &'a [LabeledSpan],
 ) -> Result<(), AllocError>
     ensures { OnOk result (groups_in groups.new.items ≡ groups_in groups.old.items
@@ -65,19 +66,19 @@ fn push_labels<'s, 'a>(
 {
     let mut labels = listed(alloc, labels)?;
     sort(&mut labels)?;
-    groups.push(Group { seen, labels })?;
+    groups.push(SourceLabels { seen, labels })?;
     Ok(())
 }
 
-// The labels of a report over a source, and over its further ones, in each by offset.
-fn groups_of<'s, 'a, D: Diagnostic, S: SourceCode>(
+// Returns the labels of a report: those of its source, then those of each further one, each sorted by offset.
+fn source_labels_of<'s, 'a, D: Diagnostic, S: SourceCode>(
     alloc: Global,
     report: &'a Report<D, S>,
-    seen: Option<&'s Seen<'a>>,
-    further: &'s [Seen<'a>],
-) -> Result<Vec<Group<'s, 'a>>, AllocError>
-    ensures { IfOk result (λ groups. groups_in groups.items ≡ groups_of (over_of seen.entry)
-        (map seen_of further.now) (head (tree_of D.meaning S.source report.now))) }
+    seen: Option<&'s SourceSnapshot<'a>>,
+    further: &'s [SourceSnapshot<'a>],
+) -> Result<Vec<SourceLabels<'s, 'a>>, AllocError>
+    ensures { IfOk result (λ groups. groups_in groups.items ≡ source_labels_of (over_of seen.entry)
+        (map snapshot_of further.now) (head (tree_of D.meaning S.source report.now))) }
 {
     let sections = report.further_snippets();
     let mut groups = Vec::with_capacity(alloc, sections.len())?;
@@ -93,12 +94,12 @@ fn groups_of<'s, 'a, D: Diagnostic, S: SourceCode>(
     Ok(groups)
 }
 
-// Appends what a fix over a source proposes, or its message where it can't be proposed.
+// Appends a fix, or its message if it can't be applied.
 fn push_fix<'a>(
-    collected: &mut Collected<'a>,
+    collected: &mut FindingParts<'a>,
     alloc: Global,
     fix: &'a Fix,
-    seen: Option<&Seen<'a>>,
+    seen: Option<&SourceSnapshot<'a>>,
 ) -> Result<(), AllocError>
     ensures { OnOk result (collected_of collected.new
         ≡ with_fix (proposal_over (over_of seen.entry) fix.now) fix.now.message (collected_of collected.old)) }
@@ -110,12 +111,12 @@ fn push_fix<'a>(
     Ok(())
 }
 
-// Appends what fixes over a source propose, and the messages of those that can't be proposed.
+// Appends fixes, and the messages of those that can't be applied.
 fn push_fixes<'a>(
-    collected: &mut Collected<'a>,
+    collected: &mut FindingParts<'a>,
     alloc: Global,
     fixes: &'a [Fix],
-    seen: Option<&Seen<'a>>,
+    seen: Option<&SourceSnapshot<'a>>,
 ) -> Result<(), AllocError>
     ensures { OnOk result (collected_of collected.new
         ≡ with_fixes (over_of seen.entry) fixes.now (collected_of collected.old)) }
@@ -126,12 +127,12 @@ fn push_fixes<'a>(
     Ok(())
 }
 
-// Adds the labels and fixes of a report that is a cause, over a source.
+// Adds the labels and fixes of a cause over this source.
 fn push_cause<'a, D: Diagnostic, S: SourceCode>(
-    collected: &mut Collected<'a>,
+    collected: &mut FindingParts<'a>,
     alloc: Global,
     cause: &'a Report<D, S>,
-    seen: Option<&Seen<'a>>,
+    seen: Option<&SourceSnapshot<'a>>,
     sources: &mut usize,
 ) -> Result<(), AllocError>
     ensures added { OnOk result (AddsOver (over_of seen.entry) sources.old
@@ -139,18 +140,18 @@ fn push_cause<'a, D: Diagnostic, S: SourceCode>(
     ensures counted { OnOk result (sources.new
         ≡ sources.old + length (head (tree_of D.meaning S.source cause.now)).snippets) }
 {
-    let further = see_further(alloc, sources, cause.further_snippets())?;
-    let groups = groups_of(alloc, cause, seen, &further)?;
-    push_groups(&mut collected.marks, groups)?;
+    let further = take_further_snapshots(alloc, sources, cause.further_snippets())?;
+    let groups = source_labels_of(alloc, cause, seen, &further)?;
+    push_groups(&mut collected.locations, groups)?;
     push_fixes(collected, alloc, cause.fixes(), seen)
 }
 
-// Adds those of a cause over its own source, or else over this one.
+// Adds the labels and fixes of a cause. It uses its own source, else `seen`.
 fn push_own_cause<'a, D: Diagnostic, S: SourceCode>(
-    collected: &mut Collected<'a>,
+    collected: &mut FindingParts<'a>,
     alloc: Global,
     cause: &'a Report<D, S>,
-    seen: Option<&Seen<'a>>,
+    seen: Option<&SourceSnapshot<'a>>,
     sources: &mut usize,
 ) -> Result<(), AllocError>
     ensures added { OnOk result (AddsCause (over_of seen.entry) sources.old (tree_of D.meaning S.source cause.now)
@@ -159,17 +160,17 @@ fn push_own_cause<'a, D: Diagnostic, S: SourceCode>(
         + count_own (source_of (tree_of D.meaning S.source cause.now))
         + length (head (tree_of D.meaning S.source cause.now)).snippets) }
 {
-    let own = see_own(alloc, sources, cause)?;
+    let own = take_own_snapshot(alloc, sources, cause)?;
     let over = own_or(&own, seen);
     push_cause(collected, alloc, cause, over, sources)
 }
 
-// Adds those of the causes of a report over a source, each over its own or else over this one.
+// Adds the labels and fixes of all causes of a report. Each uses its own source, else `seen`.
 fn push_causes<'a, D: Diagnostic, S: SourceCode>(
-    collected: &mut Collected<'a>,
+    collected: &mut FindingParts<'a>,
     alloc: Global,
     report: &'a Report<D, S>,
-    seen: Option<&Seen<'a>>,
+    seen: Option<&SourceSnapshot<'a>>,
     sources: &mut usize,
 ) -> Result<(), AllocError>
     ensures added { OnOk result (AddsCauses (over_of seen.entry) sources.old
@@ -186,90 +187,90 @@ fn push_causes<'a, D: Diagnostic, S: SourceCode>(
     Ok(())
 }
 
-// Appends the marks of a report over a source, but for its primary one, which it gives.
+// Appends the locations of a report's labels, without the primary one. Returns the primary location.
 fn push_own_marks<'a, D: Diagnostic, S: SourceCode>(
-    marks: &mut Vec<Mark<'a>>,
+    locations: &mut Vec<SarifLocation<'a>>,
     alloc: Global,
     report: &'a Report<D, S>,
-    seen: Option<&Seen<'a>>,
+    seen: Option<&SourceSnapshot<'a>>,
     sources: &mut usize,
-) -> Result<Option<Mark<'a>>, AllocError>
+) -> Result<Option<SarifLocation<'a>>, AllocError>
     ensures added { IfOk result (λ primary. AddsMarks (over_of seen.entry) sources.old
         (head (tree_of D.meaning S.source report.now)) (option_map mark_of primary)
-        (map mark_of marks.old.items) (map mark_of marks.new.items)) }
+        (map mark_of locations.old.items) (map mark_of locations.new.items)) }
     ensures counted { OnOk result (sources.new
         ≡ sources.old + length (head (tree_of D.meaning S.source report.now)).snippets) }
 {
-    let further = see_further(alloc, sources, report.further_snippets())?;
-    let mut groups = groups_of(alloc, report, seen, &further)?;
+    let further = take_further_snapshots(alloc, sources, report.further_snippets())?;
+    let mut groups = source_labels_of(alloc, report, seen, &further)?;
     let primary = primary_or(take_primary(&mut groups), seen);
-    push_groups(marks, groups)?;
+    push_groups(locations, groups)?;
     Ok(primary)
 }
 
-// The finding of a report over a source.
+// Returns the finding of a report with this source.
 fn finding_of<'a, D: Diagnostic, S: SourceCode>(
     alloc: Global,
     report: &'a Report<D, S>,
-    seen: Option<&Seen<'a>>,
+    seen: Option<&SourceSnapshot<'a>>,
     sources: &mut usize,
 ) -> Result<Finding<'a>, AllocError>
-    ensures found { IfOk result (λ it. IsFound (over_of seen.entry) sources.old
+    ensures found { IfOk result (λ it. IsFindingOf (over_of seen.entry) sources.old
         (tree_of D.meaning S.source report.now) (finding_of it)) }
     ensures counted { OnOk result (sources.new
         ≡ sources.old + length (head (tree_of D.meaning S.source report.now)).snippets
         + count_causes (cause_of (tree_of D.meaning S.source report.now))) }
 {
-    let mut collected = Collected {
-        marks: Vec::new(alloc),
+    let mut collected = FindingParts {
+        locations: Vec::new(alloc),
         fixes: Vec::new(alloc),
         unapplied: Vec::new(alloc),
     };
-    let primary = push_own_marks(&mut collected.marks, alloc, report, seen, sources)?;
+    let primary = push_own_marks(&mut collected.locations, alloc, report, seen, sources)?;
     push_fixes(&mut collected, alloc, report.fixes(), seen)?;
     push_causes(&mut collected, alloc, report, seen, sources)?;
-    let told = told_of(alloc, report)?;
-    let Collected {
-        marks,
+    let report_texts = report_texts_of(alloc, report)?;
+    let FindingParts {
+        locations,
         fixes,
         unapplied,
     } = collected;
     Ok(Finding {
-        told,
+        report_texts,
         primary,
-        marks,
+        locations,
         fixes,
         unapplied,
     })
 }
 
-// Adds the findings of a report that inherits a source, or none.
+// Adds the findings of a report and its related reports. `inherited` is the source of the report above.
 #[cycle(related)]
 fn gather<'a, D: Diagnostic, S: SourceCode>(
-    gathered: &mut Gathered<'a>,
+    gathered: &mut FindingList<'a>,
     alloc: Global,
     report: &'a Report<D, S>,
-    inherited: Option<&Seen<'a>>,
+    inherited: Option<&SourceSnapshot<'a>>,
 ) -> Result<(), AllocError>
-    ensures { OnOk result (Adds (over_of inherited.entry) (tree_of D.meaning S.source report.now)
+    ensures { OnOk result (AddsFindings (over_of inherited.entry) (tree_of D.meaning S.source report.now)
         (gathered_of gathered.old) (gathered_of gathered.new)) }
 {
-    let own = see_own(alloc, &mut gathered.sources, report)?;
+    let own = take_own_snapshot(alloc, &mut gathered.sources, report)?;
     let seen = own_or(&own, inherited);
     let finding = finding_of(alloc, report, seen, &mut gathered.sources)?;
     gathered.findings.push(finding)?;
     gather_all(gathered, alloc, report.related(), seen)
 }
 
-// Adds the findings of reports that inherit a source, or none.
+// Adds the findings of reports and their related reports. `inherited` is the source of the report above.
 #[cycle(related)]
 fn gather_all<'a, D: Diagnostic, S: SourceCode>(
-    gathered: &mut Gathered<'a>,
+    gathered: &mut FindingList<'a>,
     alloc: Global,
     reports: &'a [Report<D, S>],
-    inherited: Option<&Seen<'a>>,
+    inherited: Option<&SourceSnapshot<'a>>,
 ) -> Result<(), AllocError>
-    ensures { OnOk result (AddsAll (over_of inherited.entry)
+    ensures { OnOk result (AddsAllFindings (over_of inherited.entry)
         (trees (map (tree_of D.meaning S.source) reports.now))
         (gathered_of gathered.old) (gathered_of gathered.new)) }
 {
@@ -279,15 +280,15 @@ fn gather_all<'a, D: Diagnostic, S: SourceCode>(
     Ok(())
 }
 
-/// The findings of reports.
-pub fn findings_of<'a, D: Diagnostic, S: SourceCode>(
+/// Returns the findings of reports and their related reports, depth first.
+pub fn sarif_findings_of<'a, D: Diagnostic, S: SourceCode>(
     alloc: Global,
     reports: &'a [Report<D, S>],
 ) -> Result<Vec<Finding<'a>>, AllocError>
     ensures { IfOk result (λ list. AreFindingsOf (trees (map (tree_of D.meaning S.source) reports.now))
-        (findings_of list.items)) }
+        (sarif_findings_of list.items)) }
 {
-    let mut gathered = Gathered {
+    let mut gathered = FindingList {
         findings: Vec::new(alloc),
         sources: 0,
     };
@@ -295,15 +296,15 @@ pub fn findings_of<'a, D: Diagnostic, S: SourceCode>(
     Ok(gathered.findings)
 }
 
-/// The findings of one report.
-pub fn findings_in<'a, D: Diagnostic, S: SourceCode>(
+/// Returns the findings of one report and its related reports, depth first.
+pub fn sarif_findings_of_one<'a, D: Diagnostic, S: SourceCode>(
     alloc: Global,
     report: &'a Report<D, S>,
 ) -> Result<Vec<Finding<'a>>, AllocError>
     ensures { IfOk result (λ list. AreFindingsOf (trees (tree_of D.meaning S.source report.now ∷ []))
-        (findings_of list.items)) }
+        (sarif_findings_of list.items)) }
 {
-    let mut gathered = Gathered {
+    let mut gathered = FindingList {
         findings: Vec::new(alloc),
         sources: 0,
     };

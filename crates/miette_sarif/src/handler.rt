@@ -1,18 +1,18 @@
-//! The handler of SARIF logs.
+//! The SARIF handler.
 
 ghost use Rattle.std.specs.Prelude.{◌≡◌, ◌++◌, ◌∷◌, [], None, Some, IfOk, OnOk, OnErr, map, string_bytes};
 ghost use Rattle.miette_tree.specs.rules.Reads.{AllAlwaysRead};
 ghost use Rattle.miette_tree.specs.rules.Tree.{Trees, trees};
 ghost use Rattle.miette_tree.specs.views.Handler.{AppendsOne};
 ghost use Rattle.miette_tree.specs.views.Report.{tree_of};
-ghost use Rattle.miette_sarif.specs.rules.Gathered.{AreFindingsOf};
+ghost use Rattle.miette_sarif.specs.rules.FindingList.{AreFindingsOf};
 ghost use Rattle.miette_sarif.specs.rules.LogText.{IsLogOf, log_text};
-ghost use Rattle.miette_sarif.specs.views.Found.{findings_of};
+ghost use Rattle.miette_sarif.specs.views.Findings.{sarif_findings_of};
 ghost use Rattle.miette_sarif.specs.views.Handled.{tool_in};
 ghost use Rattle.miette_sarif.specs.views.Tool.{tool_view};
 
 use crate::finding::Finding;
-use crate::gather::{findings_in, findings_of};
+use crate::gather::{sarif_findings_of, sarif_findings_of_one};
 use crate::log::{Tool, log_text};
 use miette_json::laws;
 use miette_protocol::error::RenderError;
@@ -23,8 +23,8 @@ use miette_tree::text_handler::TextHandler;
 use std::alloc::{AllocError, Global};
 use std::slice;
 
-/// Gives reports as a SARIF log (OASIS, version 2.1.0), for code reviews and build servers: one run of a tool, with a
-/// result for each report and for each one that is related to it.
+/// Renders reports as a SARIF log (OASIS, version 2.1.0) for code reviews and build servers. The log has one run of a
+/// tool, with a result for each report and each related report.
 #[derive(Debug, Drop)]
 pub struct SarifReportHandler {
     tool: String,
@@ -33,10 +33,10 @@ pub struct SarifReportHandler {
 }
 
 impl SarifReportHandler {
-    /// A handler for the logs of a tool of this name.
+    /// Creates a handler for logs of a tool with this name.
     ///
     /// # Errors
-    /// `AllocError` where memory for the name is refused.
+    /// `AllocError` if allocation fails.
     pub fn new(alloc: Global, tool: &str) -> Result<Self, AllocError>
         ensures { IfOk result (λ it. tool_in it ≡ record { name = tool.now; version = None; information = None }) }
     {
@@ -47,10 +47,10 @@ impl SarifReportHandler {
         })
     }
 
-    /// With the tool's version.
+    /// Sets the tool's version.
     ///
     /// # Errors
-    /// `AllocError` where memory for it is refused; the handler is dropped.
+    /// `AllocError` if allocation fails; the handler is dropped.
     pub fn with_version(self, alloc: Global, version: &str) -> Result<Self, AllocError>
         ensures { IfOk result (λ it. tool_in it ≡ record (tool_in self) { version = Some version.now }) }
     {
@@ -60,10 +60,10 @@ impl SarifReportHandler {
         })
     }
 
-    /// With the address of a page on the tool.
+    /// Sets the address of a page about the tool.
     ///
     /// # Errors
-    /// `AllocError` where memory for it is refused; the handler is dropped.
+    /// `AllocError` if allocation fails; the handler is dropped.
     pub fn with_information_uri(self, alloc: Global, uri: &str) -> Result<Self, AllocError>
         ensures { IfOk result (λ it. tool_in it ≡ record (tool_in self) { information = Some uri.now }) }
     {
@@ -73,7 +73,7 @@ impl SarifReportHandler {
         })
     }
 
-    // What is said of the tool.
+    // Name, version and address of the tool.
     fn told(&self) -> Tool<'_>
         ensures { tool_view result ≡ tool_in self.now }
     {
@@ -84,15 +84,14 @@ impl SarifReportHandler {
         }
     }
 
-    /// Appends the log of a report. After an error, where memory is refused, `out` is as before.
+    /// Appends the log of a report. If allocation fails, `out` is unchanged.
     pub fn render_report(&self, report: &Report, out: &mut String) -> Result<(), RenderError>
-        // The text is the spelling of the log, for some answers of the sources; it stands for that value, and for no
-        // other.
+        // The text spells the log, for some answers of the sources. It denotes that value and no other.
         ensures text { let tree = tree_of ⟦<Box<dyn Diagnostic> as Diagnostic>⟧.meaning
             ⟦<Box<dyn SourceCode> as SourceCode>⟧.source report.now in
             OnOk result (AppendsOne (IsLogOf (tool_in self.now) (trees (tree ∷ [])))
             (string_bytes out.old) (string_bytes out.new)) }
-        // Where all sources of the report always read, there is one such log.
+        // If all sources of the report always read, there is exactly one such log.
         ensures value { let tree = tree_of ⟦<Box<dyn Diagnostic> as Diagnostic>⟧.meaning
             ⟦<Box<dyn SourceCode> as SourceCode>⟧.source report.now in
             OnOk result (AllAlwaysRead (trees (tree ∷ []))
@@ -103,18 +102,17 @@ impl SarifReportHandler {
         self.render_reports(slice::from_ref(report), out)
     }
 
-    /// Appends the log of reports, in their order. After an error, where memory is refused, `out` is as before.
+    /// Appends one log of all reports, in order. If allocation fails, `out` is unchanged.
     pub fn render_reports<D: Diagnostic, S: SourceCode>(
         &self,
         reports: &[Report<D, S>],
         out: &mut String,
     ) -> Result<(), RenderError>
-        // The text is the spelling of the log, for some answers of the sources; it stands for that value, and for no
-        // other.
+        // The text spells the log, for some answers of the sources. It denotes that value and no other.
         ensures text { let tree = tree_of D.meaning S.source in
             OnOk result (AppendsOne (IsLogOf (tool_in self.now) (trees (map tree reports.now)))
             (string_bytes out.old) (string_bytes out.new)) }
-        // Where all sources of the reports always read, there is one such log.
+        // If all sources of the reports always read, there is exactly one such log.
         ensures value { let tree = tree_of D.meaning S.source in let ts = trees (map tree reports.now) in
             OnOk result (AllAlwaysRead ts
             → string_bytes out.new ≡ string_bytes out.old ++ log_text (tool_in self.now) ts) }
@@ -132,7 +130,7 @@ impl SarifReportHandler {
     }
 }
 
-/// One report's log: the handler is a `ReportHandler` too.
+/// The handler is also a `ReportHandler`: it gives the log of one report.
 impl TextHandler for SarifReportHandler {
     ghost texts = { λ it tree. IsLogOf (tool_in it) (trees (tree ∷ [])) };
 
@@ -143,13 +141,13 @@ impl TextHandler for SarifReportHandler {
         alloc: Global,
         report: &Report<D, S>,
     ) -> Result<String, RenderError> {
-        let findings = findings_in(alloc, report)?;
+        let findings = sarif_findings_of_one(alloc, report)?;
         let text = spelled_log(alloc, &self.told(), findings)?;
         Ok(text)
     }
 }
 
-// The text of the log of reports.
+// Returns the log of reports as text.
 fn log_of<D: Diagnostic, S: SourceCode>(
     alloc: Global,
     tool: &Tool<'_>,
@@ -158,20 +156,20 @@ fn log_of<D: Diagnostic, S: SourceCode>(
     ensures { IfOk result (λ text. IsLogOf (tool_view tool.now) (trees (map (tree_of D.meaning S.source) reports.now))
         (string_bytes text)) }
 {
-    let findings = findings_of(alloc, reports)?;
+    let findings = sarif_findings_of(alloc, reports)?;
     spelled_log(alloc, tool, findings)
 }
 
-// The text of the log of findings.
+// Returns the log of findings as text.
 fn spelled_log(
     alloc: Global,
     tool: &Tool<'_>,
     findings: Vec<Finding<'_>>,
 ) -> Result<String, AllocError>
-    ensures { IfOk result (λ text. (ts : Trees) → AreFindingsOf ts (findings_of findings.entry.items)
+    ensures { IfOk result (λ text. (ts : Trees) → AreFindingsOf ts (sarif_findings_of findings.entry.items)
         → IsLogOf (tool_view tool.now) ts (string_bytes text)) }
 {
-    laws::the_spelling_denotes_its_value();
-    laws::a_text_denotes_one_value();
+    laws::json_spelling_denotes_its_value();
+    laws::json_text_denotes_one_value();
     log_text(alloc, tool, &findings)
 }

@@ -1,21 +1,21 @@
-//! Parts of a log, each with the text that stands before it.
+//! Members of a JSON object, each after the text that precedes its value.
 
 ghost use Rattle.std.specs.Prelude.{◌≡◌, ◌+◌, ◌++◌, OnOk, string_bytes};
 ghost use Rattle.miette_json.specs.rules.Json.{json_text, number, string};
 
-use miette_basics::numbers::push_number;
-use miette_basics::sums::sum;
-use miette_json::text::push_quoted;
+use miette_json::text::push_json_string;
+use miette_lines::numbers::push_number;
+use miette_lines::sums::sum;
 use std::alloc::AllocError;
 
-/// Appends a text as it is.
+/// Appends a text unchanged.
 pub(crate) fn push_plain(out: &mut String, text: &str) -> Result<(), AllocError>
     ensures { OnOk result (string_bytes out.new ≡ string_bytes out.old ++ text.now) }
 {
     out.push_str(text)
 }
 
-/// Appends a text as it is, and a number.
+/// Appends a text unchanged, then a number.
 pub(crate) fn push_count(out: &mut String, before: &str, count: usize) -> Result<(), AllocError>
     ensures { OnOk result (string_bytes out.new ≡ string_bytes out.old ++ (before.now ++ json_text (number count))) }
 {
@@ -23,7 +23,7 @@ pub(crate) fn push_count(out: &mut String, before: &str, count: usize) -> Result
     push_number(out, count)
 }
 
-/// Appends a text as it is, and the number of what has this index, counted from 1.
+/// Appends a text unchanged, then an index counted from 1.
 pub(crate) fn push_ordinal(out: &mut String, before: &str, index: usize) -> Result<(), AllocError>
     ensures { OnOk result (string_bytes out.new
         ≡ string_bytes out.old ++ (before.now ++ json_text (number (index + 1)))) }
@@ -32,11 +32,11 @@ pub(crate) fn push_ordinal(out: &mut String, before: &str, index: usize) -> Resu
     push_count(out, before, number)
 }
 
-/// Appends a text as it is, and one in quotes.
+/// Appends a text unchanged, then a JSON string.
 pub(crate) fn push_string(out: &mut String, before: &str, text: &str) -> Result<(), AllocError>
     ensures { OnOk result (string_bytes out.new
         ≡ string_bytes out.old ++ (before.now ++ json_text (string text.now))) }
 {
     push_plain(out, before)?;
-    push_quoted(out, text)
+    push_json_string(out, text)
 }

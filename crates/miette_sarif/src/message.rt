@@ -1,12 +1,12 @@
-//! Messages: rows of text, in which braces are doubled, since single ones are placeholders of a message's arguments.
+//! Messages. Braces are doubled, since SARIF uses single ones for placeholders.
 
 ghost use Rattle.std.specs.Prelude.{◌≡◌, ◌++◌, true, map, OnOk, string_bytes, position};
 ghost use Rattle.std.specs.Option.{option_copied};
 ghost use Rattle.miette_json.specs.rules.Json.{json_text};
 ghost use Rattle.miette_sarif.specs.rules.Messages.{is_brace, double_byte, doubled, maybe_row, row, rows};
 ghost use Rattle.miette_sarif.specs.rules.Objects.{message_of};
-ghost use Rattle.miette_sarif.specs.rules.Results.{message_text, see_row};
-ghost use Rattle.miette_sarif.specs.views.Found.{finding_of};
+ghost use Rattle.miette_sarif.specs.rules.Results.{result_message_text, see_row};
+ghost use Rattle.miette_sarif.specs.views.Findings.{finding_of};
 ghost use Rattle.miette_sarif.specs.views.Rules.{rules_view};
 
 use crate::finding::Finding;
@@ -14,14 +14,14 @@ use crate::members::{push_plain, push_string};
 use crate::rules::Rules;
 use std::alloc::{AllocError, Global};
 
-// Whether a byte is doubled.
+// Whether a byte is a brace.
 fn is_brace(byte: u8) -> bool
     ensures { result ≡ is_brace byte }
 {
     byte == b'{' || byte == b'}'
 }
 
-// Where the first brace stands.
+// Index of the first brace.
 fn first_brace(text: &str) -> Option<usize>
     ensures { result ≡ position is_brace text.now }
 {
@@ -40,7 +40,7 @@ fn push_brace(out: &mut String, byte: u8) -> Result<(), AllocError>
     }
 }
 
-/// Appends a text with its braces doubled: what has none is copied at once.
+/// Appends a text with its braces doubled. Runs of bytes without braces are copied at once.
 pub(crate) fn push_doubled(out: &mut String, text: &str) -> Result<(), AllocError>
     ensures { OnOk result (string_bytes out.new ≡ string_bytes out.old ++ doubled text.now) }
 {
@@ -53,7 +53,7 @@ pub(crate) fn push_doubled(out: &mut String, text: &str) -> Result<(), AllocErro
     out.push_str(rest)
 }
 
-/// Appends a row below others: what names it, and its text.
+/// Appends a line: LF, a title, and a text with its braces doubled.
 pub(crate) fn push_row(out: &mut String, title: &str, text: &str) -> Result<(), AllocError>
     ensures { OnOk result (string_bytes out.new ≡ string_bytes out.old ++ row title.now text.now) }
 {
@@ -62,7 +62,7 @@ pub(crate) fn push_row(out: &mut String, title: &str, text: &str) -> Result<(), 
     push_doubled(out, text)
 }
 
-/// Appends rows below others, each with the same name.
+/// Appends such a line for each text, all with the same title.
 pub(crate) fn push_rows(out: &mut String, title: &str, texts: &[&str]) -> Result<(), AllocError>
     ensures { OnOk result (string_bytes out.new
         ≡ string_bytes out.old ++ rows title.now (map (λ text. text.now) texts.now)) }
@@ -73,8 +73,8 @@ pub(crate) fn push_rows(out: &mut String, title: &str, texts: &[&str]) -> Result
     Ok(())
 }
 
-/// Appends a row below others, where there is a text.
-pub(crate) fn push_maybe(
+/// Appends such a line if there is a text.
+pub(crate) fn push_optional_row(
     out: &mut String,
     title: &str,
     text: Option<&str>,
@@ -88,7 +88,7 @@ pub(crate) fn push_maybe(
     }
 }
 
-/// Appends the message of a text that stands as it is: `{"text": "1"}`
+/// Appends a message whose text is used unchanged: `{"text": "1"}`
 pub(crate) fn push_plain_message(out: &mut String, text: &str) -> Result<(), AllocError>
     ensures { OnOk result (string_bytes out.new ≡ string_bytes out.old ++ json_text (message_of text.now)) }
 {
@@ -96,7 +96,7 @@ pub(crate) fn push_plain_message(out: &mut String, text: &str) -> Result<(), All
     push_plain(out, "}")
 }
 
-/// Appends the message of a text, with its braces doubled.
+/// Appends a message, with braces doubled.
 pub(crate) fn push_doubled_message(out: &mut String, text: &str) -> Result<(), AllocError>
     ensures { OnOk result (string_bytes out.new
         ≡ string_bytes out.old ++ json_text (message_of (doubled text.now))) }
@@ -106,7 +106,7 @@ pub(crate) fn push_doubled_message(out: &mut String, text: &str) -> Result<(), A
     push_plain_message(out, doubled.as_str())
 }
 
-// Appends the url, where it isn't that of the rule.
+// Appends the url, unless it is the rule's help address.
 fn push_see<'a>(
     out: &mut String,
     alloc: Global,
@@ -116,16 +116,16 @@ fn push_see<'a>(
     ensures { OnOk result (string_bytes out.new ≡ string_bytes out.old
         ++ see_row ((rules_view rules.now).uri (finding_of finding.now).code) (finding_of finding.now).url) }
 {
-    let Some(url) = finding.told.url else {
+    let Some(url) = finding.report_texts.url else {
         return Ok(());
     };
-    if rules.has_uri(alloc, finding.told.code, url)? {
+    if rules.has_uri(alloc, finding.report_texts.code, url)? {
         return Ok(());
     }
     push_row(out, "see: ", url)
 }
 
-// Appends the rows of a message: its text, causes, help, fixes that can't be applied, and the url that its rule hasn't.
+// Appends the lines of a message: text, causes, help, fixes that can't be applied, and the url unless the rule has it.
 fn push_message<'a>(
     out: &mut String,
     alloc: Global,
@@ -133,23 +133,23 @@ fn push_message<'a>(
     finding: &Finding<'a>,
 ) -> Result<(), AllocError>
     ensures { OnOk result (string_bytes out.new ≡ string_bytes out.old
-        ++ message_text (rules_view rules.now) (finding_of finding.now)) }
+        ++ result_message_text (rules_view rules.now) (finding_of finding.now)) }
 {
-    push_doubled(out, finding.told.message)?;
-    push_rows(out, "caused by: ", &finding.told.causes)?;
-    push_maybe(out, "help: ", finding.told.help)?;
+    push_doubled(out, finding.report_texts.message)?;
+    push_rows(out, "caused by: ", &finding.report_texts.causes)?;
+    push_optional_row(out, "help: ", finding.report_texts.help)?;
     push_rows(out, "fix: ", &finding.unapplied)?;
     push_see(out, alloc, rules, finding)
 }
 
 /// Appends the message of a result: `{"text": "oops"}`
-pub(crate) fn push_told<'a>(
+pub(crate) fn push_result_message<'a>(
     out: &mut String,
     rules: &Rules<'a>,
     finding: &Finding<'a>,
 ) -> Result<(), AllocError>
     ensures { OnOk result (string_bytes out.new ≡ string_bytes out.old
-        ++ json_text (message_of (message_text (rules_view rules.now) (finding_of finding.now)))) }
+        ++ json_text (message_of (result_message_text (rules_view rules.now) (finding_of finding.now)))) }
 {
     let alloc = *out.allocator();
     let mut text = String::new(alloc);

@@ -1,4 +1,4 @@
-//! Places as text: regions, locations.
+//! Regions and locations as JSON.
 
 ghost use Rattle.std.specs.Prelude.{◌≡◌, ◌++◌, [], OnOk, codes, string_bytes};
 ghost use Rattle.std.specs.Option.{option_map, option_copied};
@@ -6,20 +6,20 @@ ghost use Rattle.miette_json.specs.rules.Json.{json_text, number};
 ghost use Rattle.miette_sarif.specs.rules.Objects.{object_of, pair};
 ghost use Rattle.miette_sarif.specs.rules.Places.{line_pairs, location, place_pairs, place_value};
 ghost use Rattle.miette_sarif.specs.rules.Places.{region, region_pairs, snippet_pairs, text_pairs};
-ghost use Rattle.miette_sarif.specs.steps.Members.{further, opened};
+ghost use Rattle.miette_sarif.specs.steps.Members.{further, open_object};
 ghost use Rattle.miette_sarif.specs.views.Artifacts.{artifacts_view};
-ghost use Rattle.miette_sarif.specs.views.Found.{area_of, mark_of, place_of};
+ghost use Rattle.miette_sarif.specs.views.Findings.{area_of, mark_of, place_of};
 
 use crate::artifacts::Artifacts;
-use crate::finding::{Area, Mark, Place};
+use crate::finding::{PhysicalLocation, SarifLocation, SarifRegion};
 use crate::members::{push_count, push_ordinal, push_plain};
 use crate::message::{push_doubled_message, push_plain_message};
-use miette_positions::place::Stretch;
+use miette_positions::position::Stretch;
 use std::alloc::AllocError;
 
 // `{"startLine": 1,"startColumn": 9,"endLine": 1,"endColumn": 10`
 fn push_lines(out: &mut String, stretch: &Stretch) -> Result<(), AllocError>
-    ensures { OnOk result (string_bytes out.new ≡ string_bytes out.old ++ opened (line_pairs stretch.now)) }
+    ensures { OnOk result (string_bytes out.new ≡ string_bytes out.old ++ open_object (line_pairs stretch.now)) }
 {
     push_ordinal(out, "{\"startLine\": ", stretch.start.position.line)?;
     push_ordinal(out, ",\"startColumn\": ", stretch.start.position.column)?;
@@ -27,7 +27,7 @@ fn push_lines(out: &mut String, stretch: &Stretch) -> Result<(), AllocError>
     push_ordinal(out, ",\"endColumn\": ", stretch.end.position.column)
 }
 
-/// Appends a region by its lines and columns alone.
+/// Appends a region with lines and columns only.
 pub(crate) fn push_stretch(out: &mut String, stretch: &Stretch) -> Result<(), AllocError>
     ensures { OnOk result (string_bytes out.new
         ≡ string_bytes out.old ++ json_text (object_of (line_pairs stretch.now))) }
@@ -50,8 +50,8 @@ fn push_snippet(out: &mut String, snippet: Option<&str>) -> Result<(), AllocErro
     }
 }
 
-// Appends a region: lines, columns and bytes, and the text where it is shown.
-fn push_area(out: &mut String, area: &Area<'_>) -> Result<(), AllocError>
+// Appends a region: lines, columns, bytes, and its text if the log shows it.
+fn push_area(out: &mut String, area: &SarifRegion<'_>) -> Result<(), AllocError>
     ensures { OnOk result (string_bytes out.new ≡ string_bytes out.old ++ json_text (region (area_of area.now))) }
 {
     let start = area.stretch.start.offset;
@@ -64,7 +64,7 @@ fn push_area(out: &mut String, area: &Area<'_>) -> Result<(), AllocError>
 }
 
 // `,"region": {..}`
-fn push_region(out: &mut String, area: &Option<Area<'_>>) -> Result<(), AllocError>
+fn push_region(out: &mut String, area: &Option<SarifRegion<'_>>) -> Result<(), AllocError>
     ensures { OnOk result (string_bytes out.new
         ≡ string_bytes out.old ++ further (region_pairs (option_map area_of area.now))) }
 {
@@ -78,12 +78,16 @@ fn push_region(out: &mut String, area: &Option<Area<'_>>) -> Result<(), AllocErr
 }
 
 // `{"artifactLocation": {..},"region": {..}}`
-fn push_place(out: &mut String, artifacts: &Artifacts, place: &Place<'_>) -> Result<(), AllocError>
+fn push_place(
+    out: &mut String,
+    artifacts: &Artifacts,
+    place: &PhysicalLocation<'_>,
+) -> Result<(), AllocError>
     ensures { OnOk result (string_bytes out.new
         ≡ string_bytes out.old ++ json_text (place_value (artifacts_view artifacts.now) (place_of place.now))) }
 {
     push_plain(out, "{\"artifactLocation\": ")?;
-    artifacts.push_located(out, place.source)?;
+    artifacts.push_artifact_location(out, place.source)?;
     push_region(out, &place.area)?;
     push_plain(out, "}")
 }
@@ -92,7 +96,7 @@ fn push_place(out: &mut String, artifacts: &Artifacts, place: &Place<'_>) -> Res
 fn push_further_place(
     out: &mut String,
     artifacts: &Artifacts,
-    place: &Option<Place<'_>>,
+    place: &Option<PhysicalLocation<'_>>,
 ) -> Result<(), AllocError>
     ensures { OnOk result (string_bytes out.new ≡ string_bytes out.old
         ++ further (place_pairs (artifacts_view artifacts.now) (option_map place_of place.now))) }
@@ -117,12 +121,12 @@ fn push_further_text(out: &mut String, text: &str) -> Result<(), AllocError>
     push_doubled_message(out, text)
 }
 
-/// Appends a location with a number: `{"id": 1,"physicalLocation": {..},"message": {..}}`
+/// Appends a related location: `{"id": 1,"physicalLocation": {..},"message": {..}}`
 pub(crate) fn push_numbered(
     out: &mut String,
     artifacts: &Artifacts,
     id: usize,
-    mark: &Mark<'_>,
+    mark: &SarifLocation<'_>,
 ) -> Result<(), AllocError>
     ensures { OnOk result (string_bytes out.new ≡ string_bytes out.old
         ++ json_text (location (artifacts_view artifacts.now) (pair (codes "id") (number id)) (mark_of mark.now))) }
@@ -133,7 +137,7 @@ pub(crate) fn push_numbered(
     push_plain(out, "}")
 }
 
-// A location without a place: `{"message": {..}}`
+// A location without a source: `{"message": {..}}`
 fn push_unplaced(out: &mut String, text: &str) -> Result<(), AllocError>
     ensures { OnOk result (string_bytes out.new ≡ string_bytes out.old ++ json_text (object_of (text_pairs text.now))) }
 {
@@ -145,11 +149,11 @@ fn push_unplaced(out: &mut String, text: &str) -> Result<(), AllocError>
     push_plain(out, "}")
 }
 
-// A location at a place: `{"physicalLocation": {..},"message": {..}}`
+// A location in a source: `{"physicalLocation": {..},"message": {..}}`
 fn push_placed(
     out: &mut String,
     artifacts: &Artifacts,
-    place: &Place<'_>,
+    place: &PhysicalLocation<'_>,
     text: &str,
 ) -> Result<(), AllocError>
     ensures { OnOk result (string_bytes out.new ≡ string_bytes out.old
@@ -162,11 +166,11 @@ fn push_placed(
     push_plain(out, "}")
 }
 
-/// Appends a location without a number.
+/// Appends a location without an id.
 pub(crate) fn push_location(
     out: &mut String,
     artifacts: &Artifacts,
-    mark: &Mark<'_>,
+    mark: &SarifLocation<'_>,
 ) -> Result<(), AllocError>
     ensures { OnOk result (string_bytes out.new ≡ string_bytes out.old
         ++ json_text (location (artifacts_view artifacts.now) [] (mark_of mark.now))) }

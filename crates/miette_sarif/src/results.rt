@@ -1,4 +1,4 @@
-//! Results, one for each finding, written one after the other.
+//! Results, one for each finding.
 
 ghost use Rattle.std.specs.Prelude.{◌≡◌, ◌++◌, IfOk, OnOk, codes, map, string_bytes};
 ghost use Rattle.std.specs.Option.{option_map};
@@ -7,33 +7,35 @@ ghost use Rattle.indexmap.specs.IndexSet.{insert_all, insert_key};
 ghost use Rattle.miette_json.specs.rules.Json.{items_text, json_text};
 ghost use Rattle.miette_sarif.specs.rules.Objects.{items_of, listed};
 ghost use Rattle.miette_sarif.specs.rules.Places.{primary_locations, related_from};
-ghost use Rattle.miette_sarif.specs.rules.Results.{change, fix_value, fix_values, inserted, one_first, replacement};
-ghost use Rattle.miette_sarif.specs.rules.Results.{result_of, results, tail_pairs};
+ghost use Rattle.miette_sarif.specs.rules.Results.{change, sarif_fix_value, sarif_fix_values, inserted, one_first};
+ghost use Rattle.miette_sarif.specs.rules.Results.{replacement};
+ghost use Rattle.miette_sarif.specs.rules.Results.{result_of, results, result_tail_pairs};
 ghost use Rattle.miette_sarif.specs.steps.Members.{further, texts_listed};
 ghost use Rattle.miette_sarif.specs.views.Artifacts.{artifacts_view};
-ghost use Rattle.miette_sarif.specs.views.Found.{finding_of, findings_of, mark_of, proposed_of, replaced_of};
-ghost use Rattle.miette_sarif.specs.views.Found.{texts_of};
+ghost use Rattle.miette_sarif.specs.views.Findings.{finding_of, sarif_findings_of, mark_of, applicable_fix_of};
+ghost use Rattle.miette_sarif.specs.views.Findings.{replacement_value_of};
+ghost use Rattle.miette_sarif.specs.views.Findings.{texts_of};
 ghost use Rattle.miette_sarif.specs.views.Rules.{rules_view};
 ghost use Rattle.miette_sarif.specs.views.Values.{json_of, values_of};
 
 use crate::artifacts::Artifacts;
-use crate::finding::{Finding, Mark, Proposal, Replacement};
+use crate::finding::{Finding, Proposal, Replacement, SarifLocation};
 use crate::members::push_plain;
-use crate::message::{push_doubled_message, push_plain_message, push_told};
+use crate::message::{push_doubled_message, push_plain_message, push_result_message};
 use crate::places::{push_location, push_numbered, push_stretch};
 use crate::rules::Rules;
 use crate::texts::insert_text;
 use crate::value::{Value, push_item};
 use crate::write::{push_comma, text_of};
 use indexmap::IndexSet;
-use miette_basics::sums::sum;
+use miette_lines::sums::sum;
 use std::alloc::{AllocError, Global};
 
-// `,"locations": [{..}]`: the location of the primary mark, where there is one.
+// `,"locations": [{..}]`: the primary location, or nothing without one.
 fn push_primary(
     out: &mut String,
     artifacts: &Artifacts,
-    primary: &Option<Mark<'_>>,
+    primary: &Option<SarifLocation<'_>>,
 ) -> Result<(), AllocError>
     ensures { OnOk result (string_bytes out.new ≡ string_bytes out.old ++ further (listed (codes "locations")
         (primary_locations (artifacts_view artifacts.now) (option_map mark_of primary.now)))) }
@@ -48,18 +50,18 @@ fn push_primary(
     }
 }
 
-// Appends locations with numbers from 1, and the end of their list.
+// Appends locations with ids from 1, then the closing bracket.
 fn push_related(
     out: &mut String,
     artifacts: &Artifacts,
-    marks: &[Mark<'_>],
+    locations: &[SarifLocation<'_>],
 ) -> Result<(), AllocError>
     ensures { OnOk result (string_bytes out.new ≡ string_bytes out.old
-        ++ items_text (items_of (related_from (artifacts_view artifacts.now) 1 (map mark_of marks.now)))) }
+        ++ items_text (items_of (related_from (artifacts_view artifacts.now) 1 (map mark_of locations.now)))) }
 {
     let mut first = true;
     let mut id = 1;
-    for mark in marks {
+    for mark in locations {
         push_comma(out, first)?;
         push_numbered(out, artifacts, id, mark)?;
         first = false;
@@ -68,20 +70,20 @@ fn push_related(
     push_plain(out, "]")
 }
 
-// `,"relatedLocations": [{..}]`, where there is one.
+// `,"relatedLocations": [{..}]`, or nothing without other labels.
 fn push_others(
     out: &mut String,
     artifacts: &Artifacts,
-    marks: &[Mark<'_>],
+    locations: &[SarifLocation<'_>],
 ) -> Result<(), AllocError>
     ensures { OnOk result (string_bytes out.new ≡ string_bytes out.old ++ further (listed (codes "relatedLocations")
-        (related_from (artifacts_view artifacts.now) 1 (map mark_of marks.now)))) }
+        (related_from (artifacts_view artifacts.now) 1 (map mark_of locations.now)))) }
 {
-    if marks.is_empty() {
+    if locations.is_empty() {
         return Ok(());
     }
     push_plain(out, ",\"relatedLocations\": [")?;
-    push_related(out, artifacts, marks)
+    push_related(out, artifacts, locations)
 }
 
 // `,"insertedContent": {"text": "1"}`
@@ -98,7 +100,7 @@ fn push_inserted(out: &mut String, text: &str) -> Result<(), AllocError>
 // `{"deletedRegion": {..},"insertedContent": {"text": "1"}}`
 fn push_replacement(out: &mut String, item: &Replacement) -> Result<(), AllocError>
     ensures { OnOk result (string_bytes out.new
-        ≡ string_bytes out.old ++ json_text (replacement (replaced_of item.now))) }
+        ≡ string_bytes out.old ++ json_text (replacement (replacement_value_of item.now))) }
 {
     push_plain(out, "{\"deletedRegion\": ")?;
     push_stretch(out, &item.deleted)?;
@@ -106,10 +108,10 @@ fn push_replacement(out: &mut String, item: &Replacement) -> Result<(), AllocErr
     push_plain(out, "}")
 }
 
-// Appends the replacements of a fix, and the end of their list.
+// Appends the replacements of a fix, then the closing bracket.
 fn push_replacements(out: &mut String, list: &[Replacement]) -> Result<(), AllocError>
     ensures { OnOk result (string_bytes out.new
-        ≡ string_bytes out.old ++ items_text (items_of (map replacement (map replaced_of list.now)))) }
+        ≡ string_bytes out.old ++ items_text (items_of (map replacement (map replacement_value_of list.now)))) }
 {
     let mut first = true;
     for item in list {
@@ -127,10 +129,10 @@ fn push_change(
     fix: &Proposal<'_>,
 ) -> Result<(), AllocError>
     ensures { OnOk result (string_bytes out.new
-        ≡ string_bytes out.old ++ json_text (change (artifacts_view artifacts.now) (proposed_of fix.now))) }
+        ≡ string_bytes out.old ++ json_text (change (artifacts_view artifacts.now) (applicable_fix_of fix.now))) }
 {
     push_plain(out, "{\"artifactLocation\": ")?;
-    artifacts.push_located(out, fix.source)?;
+    artifacts.push_artifact_location(out, fix.source)?;
     push_plain(out, ",\"replacements\": [")?;
     push_replacements(out, &fix.replacements)?;
     push_plain(out, "}")
@@ -139,7 +141,8 @@ fn push_change(
 // `{"description": {..},"artifactChanges": [{..}]}`
 fn push_fix(out: &mut String, artifacts: &Artifacts, fix: &Proposal<'_>) -> Result<(), AllocError>
     ensures { OnOk result (string_bytes out.new
-        ≡ string_bytes out.old ++ json_text (fix_value (artifacts_view artifacts.now) (proposed_of fix.now))) }
+        ≡ string_bytes out.old ++ json_text (sarif_fix_value (artifacts_view artifacts.now)
+        (applicable_fix_of fix.now))) }
 {
     push_plain(out, "{\"description\": ")?;
     push_doubled_message(out, fix.message)?;
@@ -148,17 +151,17 @@ fn push_fix(out: &mut String, artifacts: &Artifacts, fix: &Proposal<'_>) -> Resu
     push_plain(out, "]}")
 }
 
-// The text of a fix.
+// Returns a fix as JSON text.
 fn fix_text(alloc: Global, artifacts: &Artifacts, fix: &Proposal<'_>) -> Result<String, AllocError>
     ensures { IfOk result (λ text. string_bytes text
-        ≡ json_text (fix_value (artifacts_view artifacts.now) (proposed_of fix.now))) }
+        ≡ json_text (sarif_fix_value (artifacts_view artifacts.now) (applicable_fix_of fix.now))) }
 {
     let mut text = String::new(alloc);
     push_fix(&mut text, artifacts, fix)?;
     Ok(text)
 }
 
-// Adds the texts of fixes, of equal ones the first.
+// Adds the texts of fixes. Duplicates are skipped.
 fn insert_fixes(
     texts: &mut IndexSet<String>,
     alloc: Global,
@@ -166,7 +169,7 @@ fn insert_fixes(
     fixes: &[Proposal<'_>],
 ) -> Result<(), AllocError>
     ensures { OnOk result (texts_of texts.new.keys ≡ insert_all bytes_eq (texts_of texts.old.keys)
-        (map json_text (map (fix_value (artifacts_view artifacts.now)) (map proposed_of fixes.now)))) }
+        (map json_text (map (sarif_fix_value (artifacts_view artifacts.now)) (map applicable_fix_of fixes.now)))) }
 {
     for fix in fixes {
         let text = fix_text(alloc, artifacts, fix)?;
@@ -175,7 +178,7 @@ fn insert_fixes(
     Ok(())
 }
 
-// Appends texts as the items of a list, and its end.
+// Appends texts as list items, then the closing bracket.
 fn push_texts(out: &mut String, texts: &[String]) -> Result<(), AllocError>
     ensures { OnOk result (string_bytes out.new ≡ string_bytes out.old ++ texts_listed (texts_of texts.now)) }
 {
@@ -188,14 +191,14 @@ fn push_texts(out: &mut String, texts: &[String]) -> Result<(), AllocError>
     push_plain(out, "]")
 }
 
-// `,"fixes": [{..}]`: fixes, of equal ones the first, where there is one.
+// `,"fixes": [{..}]` without duplicates, or nothing without fixes.
 fn push_fixes(
     out: &mut String,
     artifacts: &Artifacts,
     fixes: &[Proposal<'_>],
 ) -> Result<(), AllocError>
     ensures { OnOk result (string_bytes out.new ≡ string_bytes out.old ++ further (listed (codes "fixes")
-        (fix_values (artifacts_view artifacts.now) (map proposed_of fixes.now)))) }
+        (sarif_fix_values (artifacts_view artifacts.now) (map applicable_fix_of fixes.now)))) }
 {
     if fixes.is_empty() {
         return Ok(());
@@ -207,8 +210,8 @@ fn push_fixes(
     push_texts(out, texts.as_slice())
 }
 
-/// Adds a value, where no equal one was before: `spelled` has the texts of those that were.
-pub fn push_first(
+/// Appends a value to a list unless an equal one is there. `spelled` has the texts of the list's values.
+pub fn push_unique_value(
     list: &mut Vec<Value>,
     spelled: &mut IndexSet<String>,
     alloc: Global,
@@ -226,17 +229,17 @@ pub fn push_first(
     Ok(())
 }
 
-// Appends the places and the fixes of a result.
+// Appends locations and fixes of a result.
 fn push_tail(
     out: &mut String,
     artifacts: &Artifacts,
     finding: &Finding<'_>,
 ) -> Result<(), AllocError>
     ensures { OnOk result (string_bytes out.new ≡ string_bytes out.old
-        ++ further (tail_pairs (artifacts_view artifacts.now) (finding_of finding.now))) }
+        ++ further (result_tail_pairs (artifacts_view artifacts.now) (finding_of finding.now))) }
 {
     push_primary(out, artifacts, &finding.primary)?;
-    push_others(out, artifacts, &finding.marks)?;
+    push_others(out, artifacts, &finding.locations)?;
     push_fixes(out, artifacts, &finding.fixes)
 }
 
@@ -250,14 +253,14 @@ fn push_result<'a>(
     ensures { OnOk result (string_bytes out.new ≡ string_bytes out.old
         ++ json_text (result_of (rules_view rules.now) (artifacts_view artifacts.now) (finding_of finding.now))) }
 {
-    rules.push_begun(out, finding.told.code, finding.told.level)?;
+    rules.push_result_start(out, finding.report_texts.code, finding.report_texts.level)?;
     push_plain(out, ",\"message\": ")?;
-    push_told(out, rules, finding)?;
+    push_result_message(out, rules, finding)?;
     push_tail(out, artifacts, finding)?;
     push_plain(out, "}")
 }
 
-/// Appends the results of findings, and the end of their list.
+/// Appends the results of findings, then the closing bracket.
 pub(crate) fn push_results<'a>(
     out: &mut String,
     rules: &Rules<'a>,
@@ -266,7 +269,7 @@ pub(crate) fn push_results<'a>(
 ) -> Result<(), AllocError>
     ensures { OnOk result (string_bytes out.new ≡ string_bytes out.old
         ++ items_text (items_of (results (rules_view rules.now) (artifacts_view artifacts.now)
-        (findings_of findings.now)))) }
+        (sarif_findings_of findings.now)))) }
 {
     let mut first = true;
     for finding in findings {

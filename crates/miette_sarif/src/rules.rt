@@ -1,47 +1,47 @@
-//! The rules of a log: one for each code, in the order of the first result with it.
+//! The rules of a log: one for each code, in the order of the first result with that code.
 
 ghost use Rattle.std.specs.Prelude.{◌≡◌, ◌++◌, ℕ, List, IfOk, OnOk, codes, if◌then◌else◌, string_bytes};
 ghost use Rattle.std.specs.Option.{option_copied};
 ghost use Rattle.std.specs.Str.{bytes_eq};
 ghost use Rattle.indexmap.specs.IndexSet.{insert_key};
-ghost use Rattle.miette_basics.specs.rules.Lists.{is_nil};
+ghost use Rattle.miette_lines.specs.rules.Lists.{is_nil};
 ghost use Rattle.miette_json.specs.rules.Json.{items_text, json_text, string};
 ghost use Rattle.miette_sarif.specs.rules.Codes.{absolute_uri, codes_after, first_or, has_code, help_uri};
 ghost use Rattle.miette_sarif.specs.rules.Codes.{is_uri_of_rule, rule_pairs};
-ghost use Rattle.miette_sarif.specs.rules.Objects.{items_of, listed, maybe_text, pair};
-ghost use Rattle.miette_sarif.specs.steps.Members.{further, opened};
+ghost use Rattle.miette_sarif.specs.rules.Objects.{items_of, listed, optional_text_pairs, pair};
+ghost use Rattle.miette_sarif.specs.steps.Members.{further, open_object};
 ghost use Rattle.miette_sarif.specs.rules.Codes.{rule_value, rule_values, rule_values_of, rules_in};
-ghost use Rattle.miette_sarif.specs.views.Found.{finding_of, findings_of};
+ghost use Rattle.miette_sarif.specs.views.Findings.{finding_of, sarif_findings_of};
 ghost use Rattle.miette_sarif.specs.views.Rules.{codes_seen, option_text, rules_view, uri_at};
 
 use crate::finding::Finding;
 use crate::members::{push_count, push_plain, push_string};
-use crate::uri::{address_uri, is_absolute};
+use crate::uri::{address_uri, is_absolute_uri};
 use crate::write::push_comma;
 use indexmap::{IndexMap, IndexSet};
 use std::alloc::{AllocError, Global};
 
-/// Codes, and of each that has one the first absolute url of a result with it, as a URI.
+/// The codes, and the help address of each as a URI. The address is the first absolute url of a result with that code.
 #[derive(Drop)]
 pub(crate) struct Rules<'a> {
     codes: IndexSet<&'a str>,
     uris: IndexMap<&'a str, String>,
 }
 
-// A url as a URI, where it is absolute.
+// Converts a url to a URI, if it is absolute.
 fn absolute_uri(alloc: Global, url: Option<&str>) -> Result<Option<String>, AllocError>
     ensures { IfOk result (λ uri. option_text uri ≡ absolute_uri (option_copied url.entry)) }
 {
     let Some(url) = url else {
         return Ok(None);
     };
-    if !is_absolute(url) {
+    if !is_absolute_uri(url) {
         return Ok(None);
     }
     Ok(Some(address_uri(alloc, url)?))
 }
 
-// Adds a code, where there is one.
+// Adds a code, unless it is empty.
 fn note_code<'a>(codes: &mut IndexSet<&'a str>, code: &'a str) -> Result<(), AllocError>
     ensures { OnOk result (codes_seen codes.new.keys
         ≡ (if is_nil code.now then codes_seen codes.old.keys
@@ -57,15 +57,15 @@ fn note_code<'a>(codes: &mut IndexSet<&'a str>, code: &'a str) -> Result<(), All
 // Adds the codes of findings.
 fn note_codes<'a>(codes: &mut IndexSet<&'a str>, findings: &[Finding<'a>]) -> Result<(), AllocError>
     ensures { OnOk result (codes_seen codes.new.keys
-        ≡ codes_after (codes_seen codes.old.keys) (findings_of findings.now)) }
+        ≡ codes_after (codes_seen codes.old.keys) (sarif_findings_of findings.now)) }
 {
     for finding in findings {
-        note_code(codes, finding.told.code)?;
+        note_code(codes, finding.report_texts.code)?;
     }
     Ok(())
 }
 
-// Adds the url of a finding with a code, where it is the first absolute one.
+// Adds the url of a finding to its code, if it is the first absolute one.
 fn note_uri<'a>(
     uris: &mut IndexMap<&'a str, String>,
     alloc: Global,
@@ -88,24 +88,29 @@ fn note_uri<'a>(
     Ok(())
 }
 
-// Adds the urls of findings, of each code the first absolute one.
+// Adds the urls of findings to their codes: the first absolute one of each.
 fn note_uris<'a>(
     uris: &mut IndexMap<&'a str, String>,
     alloc: Global,
     findings: &[Finding<'a>],
 ) -> Result<(), AllocError>
     ensures { OnOk result ((code : List ℕ) → uri_at uris.new code
-        ≡ first_or (uri_at uris.old code) (help_uri code (findings_of findings.now))) }
+        ≡ first_or (uri_at uris.old code) (help_uri code (sarif_findings_of findings.now))) }
 {
     for finding in findings {
-        note_uri(uris, alloc, finding.told.code, finding.told.url)?;
+        note_uri(
+            uris,
+            alloc,
+            finding.report_texts.code,
+            finding.report_texts.url,
+        )?;
     }
     Ok(())
 }
 
-/// The rules of findings.
+/// Returns the rules of findings.
 pub(crate) fn rules_in<'a>(alloc: Global, findings: &[Finding<'a>]) -> Result<Rules<'a>, AllocError>
-    ensures { IfOk result (λ rules. rules_view rules ≡ rules_in (findings_of findings.now)) }
+    ensures { IfOk result (λ rules. rules_view rules ≡ rules_in (sarif_findings_of findings.now)) }
 {
     let mut codes = IndexSet::new(alloc);
     note_codes(&mut codes, findings)?;
@@ -114,10 +119,10 @@ pub(crate) fn rules_in<'a>(alloc: Global, findings: &[Finding<'a>]) -> Result<Ru
     Ok(Rules { codes, uris })
 }
 
-// `,"helpUri": "https://x.org/oops"`, where there is one.
+// `,"helpUri": "https://x.org/oops"`, or nothing without an address.
 fn push_uri(out: &mut String, uri: Option<&String>) -> Result<(), AllocError>
     ensures { OnOk result (string_bytes out.new ≡ string_bytes out.old
-        ++ further (maybe_text (codes "helpUri") (option_text (option_copied uri.entry)))) }
+        ++ further (optional_text_pairs (codes "helpUri") (option_text (option_copied uri.entry)))) }
 {
     match uri {
         Some(uri) => push_string(out, ",\"helpUri\": ", uri.as_str()),
@@ -135,7 +140,7 @@ fn push_rule(out: &mut String, code: &str, uri: Option<&String>) -> Result<(), A
     push_plain(out, "}")
 }
 
-// Appends the rule of each code, and the end of their list.
+// Appends a rule for each code, then the closing bracket.
 fn push_rules(
     out: &mut String,
     codes: &[&str],
@@ -154,15 +159,15 @@ fn push_rules(
 }
 
 impl<'a> Rules<'a> {
-    /// Begins a result: `{"ruleId": "oops","ruleIndex": 0,"level": "error"`, the first two where there is a code.
-    pub(crate) fn push_begun(
+    /// Starts a result: `{"ruleId": "oops","ruleIndex": 0,"level": "error"`. Without a code it has only the level.
+    pub(crate) fn push_result_start(
         &self,
         out: &mut String,
         code: &str,
         level: &str,
     ) -> Result<(), AllocError>
         ensures { OnOk result (string_bytes out.new ≡ string_bytes out.old
-            ++ opened (rule_pairs (rules_view self.now) code.now ++ pair (codes "level") (string level.now))) }
+            ++ open_object (rule_pairs (rules_view self.now) code.now ++ pair (codes "level") (string level.now))) }
     {
         if code.is_empty() {
             return push_string(out, "{\"level\": ", level);
@@ -173,17 +178,17 @@ impl<'a> Rules<'a> {
         push_string(out, ",\"level\": ", level)
     }
 
-    /// Whether a url is the one of a code's rule.
+    /// Whether a url is the help address of a code's rule.
     pub(crate) fn has_uri(&self, alloc: Global, code: &str, url: &str) -> Result<bool, AllocError>
         ensures { IfOk result (λ is. is ≡ is_uri_of_rule ((rules_view self.now).uri code.now) url.now) }
     {
         let Some(uri) = self.uris.get(code) else {
             return Ok(false);
         };
-        Ok(is_absolute(url) && address_uri(alloc, url)? == *uri)
+        Ok(is_absolute_uri(url) && address_uri(alloc, url)? == *uri)
     }
 
-    /// Appends `,"rules": [{"id": "oops","helpUri": "https://x.org/oops"}]`, where there is one.
+    /// Appends `,"rules": [{"id": "oops","helpUri": "https://x.org/oops"}]`, or nothing without rules.
     pub(crate) fn push_all(&self, out: &mut String) -> Result<(), AllocError>
         ensures { OnOk result (string_bytes out.new ≡ string_bytes out.old
             ++ further (listed (codes "rules") (rule_values (rules_view self.now)))) }

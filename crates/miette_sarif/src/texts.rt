@@ -1,15 +1,15 @@
-//! Sets of texts.
+//! Sets of strings.
 
 ghost use Rattle.std.specs.Prelude.{◌≡◌, IfOk, OnOk, not, string_bytes};
 ghost use Rattle.std.specs.List.{list_any};
 ghost use Rattle.std.specs.Str.{bytes_eq};
 ghost use Rattle.indexmap.specs.IndexSet.{insert_key};
-ghost use Rattle.miette_sarif.specs.views.Found.{texts_of};
+ghost use Rattle.miette_sarif.specs.views.Findings.{texts_of};
 
 use indexmap::IndexSet;
 use std::alloc::AllocError;
 
-/// Adds a text, and tells whether no equal one was before.
+/// Adds a string. Returns whether it is new.
 #[tactic(auto, using(crate::proofs::Keys::first_texts))]
 pub(crate) fn insert_text(texts: &mut IndexSet<String>, text: String) -> Result<bool, AllocError>
     ensures first { IfOk result (λ is. is

@@ -7,13 +7,13 @@ ghost use Rattle.percent_encoding.specs.Percent.{percent_encode};
 ghost use Rattle.miette_sarif.specs.declared.uri.TheConstants.{ADDRESS};
 ghost use Rattle.miette_sarif.specs.rules.Uris.{address_uri, after_scheme, after_scheme_bytes, begins_with_hex};
 ghost use Rattle.miette_sarif.specs.rules.Uris.{begins_with_slash, begins_with_slashes, has_authority};
-ghost use Rattle.miette_sarif.specs.rules.Uris.{is_absolute, is_scheme_byte};
+ghost use Rattle.miette_sarif.specs.rules.Uris.{is_absolute_uri, is_scheme_byte};
 ghost use Rattle.miette_sarif.specs.rules.Uris.{name_uri, path_uri};
 
 use percent_encoding::{AsciiSet, NON_ALPHANUMERIC, ascii_set, percent_encode};
 use std::alloc::{AllocError, Global};
 
-/// All bytes but unreserved characters, `/`, sub-delimiters and `@`.
+/// Bytes that are escaped in a path segment: all except unreserved characters, `/`, sub-delimiters and `@`.
 pub const SEGMENT: AsciiSet = ascii_set!(
     NON_ALPHANUMERIC
         .remove(b'-')
@@ -35,10 +35,10 @@ pub const SEGMENT: AsciiSet = ascii_set!(
         .remove(b'@')
 );
 
-/// The same without `:`.
+/// Bytes that are escaped in a path: the same, except `:`.
 pub const PATH: AsciiSet = ascii_set!(SEGMENT.remove(b':'));
 
-/// All bytes that stand in no URI by themselves, and `%`.
+/// Bytes that are escaped in an address: those that no URI may have, and `%`.
 pub const ADDRESS: AsciiSet = ascii_set!(PATH.remove(b'?').remove(b'#').remove(b'[').remove(b']'));
 
 fn is_scheme_byte(byte: u8) -> bool
@@ -47,7 +47,7 @@ fn is_scheme_byte(byte: u8) -> bool
     byte.is_ascii_alphanumeric() || byte == b'+' || byte == b'-' || byte == b'.'
 }
 
-// The bytes after the `:` of a scheme, whose first byte was a letter.
+// Returns the bytes after the `:` of a scheme. The scheme's first letter is already skipped.
 fn after_scheme_bytes(bytes: &[u8]) -> Option<&[u8]>
     ensures { option_copied result ≡ after_scheme_bytes bytes.now }
 {
@@ -64,7 +64,7 @@ fn after_scheme_bytes(bytes: &[u8]) -> Option<&[u8]>
     None
 }
 
-// The bytes after the `:` of a scheme, none where a text begins with no scheme.
+// Returns the bytes after the `:` of a scheme, or `None` if there is no scheme.
 fn after_scheme(bytes: &[u8]) -> Option<&[u8]>
     ensures { option_copied result ≡ after_scheme bytes.now }
 {
@@ -75,9 +75,9 @@ fn after_scheme(bytes: &[u8]) -> Option<&[u8]>
     after_scheme_bytes(rest)
 }
 
-/// Whether a text is an absolute address: a scheme, and `:`.
-pub fn is_absolute(text: &str) -> bool
-    ensures { result ≡ is_absolute text.now }
+/// Whether a text is an absolute URI: it begins with a scheme and `:`.
+pub fn is_absolute_uri(text: &str) -> bool
+    ensures { result ≡ is_absolute_uri text.now }
 {
     after_scheme(text.as_bytes()).is_some()
 }
@@ -102,7 +102,7 @@ fn has_authority(text: &str) -> bool
     }
 }
 
-// Whether bytes begin with two digits in base 16.
+// Whether bytes begin with two hexadecimal digits.
 fn begins_with_hex(bytes: &[u8]) -> bool
     ensures { result ≡ begins_with_hex bytes.now }
 {
@@ -112,14 +112,14 @@ fn begins_with_hex(bytes: &[u8]) -> bool
     }
 }
 
-// Appends bytes, those of a set and those that are no ASCII escaped.
+// Appends bytes. Those in the set and those outside ASCII are percent-encoded.
 fn push_encoded(out: &mut String, bytes: &[u8], set: AsciiSet) -> Result<(), AllocError>
     ensures { OnOk result (string_bytes out.new ≡ string_bytes out.old ++ percent_encode set bytes.now) }
 {
     percent_encode(bytes, set).append_to(out)
 }
 
-// Appends a byte of an address before others: it is escaped where it stands in no URI, and doesn't begin an escape.
+// Appends a byte of an address, percent-encoded if no URI may have it. A `%` that begins an escape is kept.
 fn push_byte(out: &mut String, byte: u8, after: &[u8]) -> Result<(), AllocError>
     ensures { OnOk result (string_bytes out.new ≡ string_bytes out.old
         ++ (if (byte == 37) && begins_with_hex after.now then byte ∷ [] else percent_encode ADDRESS (byte ∷ []))) }
@@ -130,7 +130,7 @@ fn push_byte(out: &mut String, byte: u8, after: &[u8]) -> Result<(), AllocError>
     push_encoded(out, &[byte], ADDRESS)
 }
 
-/// Appends an address as a URI: what stands in none is escaped, and escapes stay.
+/// Appends an address as a URI. Bytes that no URI may have are percent-encoded. Existing escapes are kept.
 pub(crate) fn push_address(out: &mut String, address: &str) -> Result<(), AllocError>
     ensures { OnOk result (string_bytes out.new ≡ string_bytes out.old ++ address_uri address.now) }
 {
@@ -142,14 +142,14 @@ pub(crate) fn push_address(out: &mut String, address: &str) -> Result<(), AllocE
     Ok(())
 }
 
-// Where the first `/` stands.
+// Index of the first `/`.
 fn first_slash(bytes: &[u8]) -> Option<usize>
     ensures { result ≡ position (λ x. x == 47) bytes.now }
 {
     bytes.iter().position(|b| *b == b'/')
 }
 
-// Appends a path: `:` stands for itself after a first `/`.
+// Appends a path. A `:` is kept after the first `/`.
 fn push_path(out: &mut String, path: &str) -> Result<(), AllocError>
     ensures { OnOk result (string_bytes out.new ≡ string_bytes out.old ++ path_uri path.now) }
 {
@@ -183,7 +183,8 @@ fn push_name(out: &mut String, name: &str) -> Result<(), AllocError>
     push_path(out, name)
 }
 
-/// A name as a URI: with a scheme and `://` it is one, from `/` on a file's, else a relative one.
+/// Converts a source name to a URI. A name with a scheme and `://` is an address. A name that begins with `/` becomes a
+/// `file` URI. Any other name is a relative path.
 pub(crate) fn name_uri(alloc: Global, name: &str) -> Result<String, AllocError>
     ensures { IfOk result (λ uri. string_bytes uri ≡ name_uri name.now) }
 {
@@ -192,7 +193,7 @@ pub(crate) fn name_uri(alloc: Global, name: &str) -> Result<String, AllocError>
     Ok(uri)
 }
 
-/// An address as a URI.
+/// Converts an address to a URI.
 pub fn address_uri(alloc: Global, address: &str) -> Result<String, AllocError>
     ensures { IfOk result (λ uri. string_bytes uri ≡ address_uri address.now) }
 {

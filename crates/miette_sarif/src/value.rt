@@ -1,4 +1,4 @@
-//! JSON values that are made before they are written.
+//! JSON values that are built before they are written.
 
 ghost use Rattle.std.specs.Prelude.{◌≡◌, ◌++◌, ◌∷◌, [], IfOk, OnOk, string_bytes};
 ghost use Rattle.miette_json.specs.rules.Json.{number, string};
@@ -7,7 +7,7 @@ ghost use Rattle.miette_sarif.specs.views.Values.{json_of, pairs_of, values_of};
 
 use std::alloc::{AllocError, Global};
 
-/// A value over whole numbers, texts, lists and objects.
+/// A JSON value: a whole number, a string, a list or an object.
 #[derive(Drop)]
 pub enum Value {
     Number(usize),
@@ -19,21 +19,21 @@ pub enum Value {
 /// The members of an object, in order.
 pub type Members = Vec<(&'static str, Value)>;
 
-/// A number.
+/// Creates a number.
 pub fn number_value(n: usize) -> Value
     ensures { json_of result ≡ number n }
 {
     Value::Number(n)
 }
 
-/// A text that is owned.
+/// Creates a string without copying it.
 pub fn owned_value(text: String) -> Value
     ensures { json_of result ≡ string (string_bytes text) }
 {
     Value::Text(text)
 }
 
-/// A text.
+/// Creates a string by copying it.
 pub fn text_value(alloc: Global, text: &str) -> Result<Value, AllocError>
     ensures { IfOk result (λ value. json_of value ≡ string text.now) }
 {
@@ -41,7 +41,7 @@ pub fn text_value(alloc: Global, text: &str) -> Result<Value, AllocError>
     Ok(owned_value(text))
 }
 
-/// A list.
+/// Creates a list.
 pub fn list_value(items: Vec<Value>) -> Value
     ensures { json_of result ≡ array_of (values_of items.items) }
 {
@@ -56,14 +56,14 @@ pub fn push_item(list: &mut Vec<Value>, value: Value) -> Result<(), AllocError>
     Ok(())
 }
 
-/// An object.
+/// Creates an object.
 pub fn object_value(members: Members) -> Value
     ensures { json_of result ≡ object_of (pairs_of members.entry.items) }
 {
     Value::Object(members)
 }
 
-/// A member after those that were there.
+/// Appends a member.
 pub fn with_member(
     mut members: Members,
     key: &'static str,
@@ -75,7 +75,7 @@ pub fn with_member(
     Ok(members)
 }
 
-/// A member with a text after those that were there.
+/// Appends a string member.
 pub fn with_text(
     alloc: Global,
     members: Members,
@@ -88,7 +88,7 @@ pub fn with_text(
     with_member(members, key, value)
 }
 
-/// A member with a list after those that were there, where the list has an item.
+/// Appends a list member, unless the list is empty.
 pub fn with_list(
     members: Members,
     key: &'static str,
@@ -103,8 +103,12 @@ pub fn with_list(
     with_member(members, key, list_value(items))
 }
 
-/// An object with one member.
-pub fn single(alloc: Global, key: &'static str, value: Value) -> Result<Value, AllocError>
+/// Creates an object with one member.
+pub fn one_member_object(
+    alloc: Global,
+    key: &'static str,
+    value: Value,
+) -> Result<Value, AllocError>
     ensures { IfOk result (λ whole. json_of whole ≡ object_of (pair key.now (json_of value))) }
 {
     let members = with_member(Vec::new(alloc), key, value)?;

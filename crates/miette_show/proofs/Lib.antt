@@ -1,6 +1,12 @@
+pub mod Logging
+pub mod RowReportSteps
+pub mod WordSteps
 pub mod Calls
 pub mod Progress
 pub mod ReportSteps
 pub mod Showing
 pub mod TerminalSteps
 pub mod TextSteps
+pub mod OptionSteps
+pub mod RequestSteps
+pub mod RunSteps

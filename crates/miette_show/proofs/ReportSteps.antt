@@ -5,18 +5,18 @@ use Rattle.std.proofs.Common.{ap, subst, ◌∙◌}
 use Rattle.std.specs.Prelude.{◌||◌}
 use Rattle.std.proofs.lemmas.List.{map-append, take_all}
 use Rattle.miette_tree.specs.rules.Tree.{Tree}
-use Rattle.miette_readers.proofs.Steps.{next_taken}
+use Rattle.miette_read.proofs.Steps.{next_taken}
 use Rattle.miette_highlight.specs.rules.HighlighterCalls.{Call}
 use Rattle.miette_program.proofs.JobHandlerSteps.{given-before}
 use Rattle.miette_program.specs.declared.job_handler.JobHandler.{JobHandler}
-use Rattle.miette_program.specs.steps.JobHandler.{IsGiven, IsLed, Stays}
+use Rattle.miette_program.specs.rules.JobText.{IsGiven, IsLed, JobHandlerStays}
 use Rattle.miette_show.specs.views.Texts.{AreTexts, IsPushed}
 use Rattle.miette_show.proofs.TextSteps.{pushed_by, texts_more}
 
 module _ {H X : Type 0} (is_blank : H → Bool) (may_follow : H → List Call → Type 0) (h k : JobHandler H)
     (tree : X → Tree) (xs : List X) (i : ℕ) (x : X) where
   pub one_text_more : (grave error both : Bool) (old new : List ℕ) → i < length xs → x ≡ get_or xs i x
-      → Stays is_blank h k → IsLed may_follow h k
+      → JobHandlerStays is_blank h k → IsLed may_follow h k
       → AreTexts (IsGiven is_blank may_follow h) (map tree (take i xs)) grave old
       → IsPushed (IsGiven is_blank may_follow k) (tree x) error old new → both ≡ (grave || error)
       → AreTexts (IsGiven is_blank may_follow h) (map tree (take (i + 1) xs)) both new

@@ -6,17 +6,17 @@ use Rattle.miette_highlight.specs.rules.HighlighterCalls.{Call}
 use Rattle.miette_program.proofs.HighlighterSteps.{led-nowhere}
 use Rattle.miette_program.proofs.JobHandlerSteps.{given-before}
 use Rattle.miette_program.specs.declared.job_handler.JobHandler.{JobHandler}
-use Rattle.miette_program.specs.steps.JobHandler.{IsGiven, IsLed, Stays}
-use Rattle.miette_tool_rows.proofs.Going.{found_before}
-use Rattle.miette_tool_rows.specs.rules.Looking.{Goes, IsFoundBy}
-use Rattle.miette_row_reports.specs.rules.Shown.{AreDrawn, IsRowText, IsShown, Shown, Shows, ShowsFirst}
-use Rattle.miette_tool_rows.specs.declared.verdict.RowKind.{RowKind}
-use Rattle.miette_tool_rows.specs.declared.verdict.Verdict.{Verdict}
-use Rattle.miette_row_reports.specs.declared.words.Format.{Format}
-use Rattle.miette_tool_rows.specs.declared.verdict.RowKind.TheVariants.{Passed, Unread, Messages, Failed}
+use Rattle.miette_program.specs.rules.JobText.{IsGiven, IsLed, JobHandlerStays}
+use Rattle.miette_show_rows.proofs.Going.{found_before}
+use Rattle.miette_show_rows.specs.rules.Looking.{Goes, IsFoundBy}
+use Rattle.miette_show.specs.rules.ShownRow.{AreReportTexts, IsRowText, IsShown, ShownRow, Shows, ShowsFirst}
+use Rattle.miette_show_rows.specs.declared.verdict.RowKind.{RowKind}
+use Rattle.miette_show_rows.specs.declared.verdict.Verdict.{Verdict}
+use Rattle.miette_show.specs.declared.words.Format.{Format}
+use Rattle.miette_show_rows.specs.declared.verdict.RowKind.TheVariants.{Passed, Unread, Messages, Failed}
 
 drawn_by : (p q : Tree → List ℕ → Type 0) → ((t : Tree) (x : List ℕ) → p t x → q t x) → (ts : List Tree)
-    (text : List ℕ) → AreDrawn p ts text → AreDrawn q ts text
+    (text : List ℕ) → AreReportTexts p ts text → AreReportTexts q ts text
 drawn_by p q h [] text none = none
 drawn_by p q h (t ∷ ts) text (drawn, rest, given, others, all) =
     (drawn, rest, h t drawn given, drawn_by p q h ts rest others, all)
@@ -32,7 +32,7 @@ row_by from p q h files row (Failed what) text (begins, utf8, (ts, is, drawn), f
     (begins, utf8, (ts, is, drawn_by p q h ts text drawn), failed)
 
 pub shown_by : (from : Format) (p q : Tree → List ℕ → Type 0)
-    (f g : (List ℕ → Option Source) → List (List ℕ) → Type 0) (s : Shown)
+    (f g : (List ℕ → Option Source) → List (List ℕ) → Type 0) (s : ShownRow)
     → ((t : Tree) (x : List ℕ) → p t x → q t x)
     → ((files : List ℕ → Option Source) (names : List (List ℕ)) → f files names → g files names)
     → IsShown from p f s → IsShown from q g s
@@ -53,7 +53,7 @@ led_still may_follow h = led-nowhere may_follow h
 -- what is shown after a while is what would be shown at first
 pub shown_before : {H F : Type 0} (from : Format) (is_blank : H → Bool) (may_follow : H → List Call → Type 0)
     (h k : JobHandler H) (found : F → List ℕ → Option Source) (knows : F → List ℕ → Type 0) (first second : F)
-    (slice row : List ℕ) (kind : RowKind) (text : List ℕ) → Stays is_blank h k → IsLed may_follow h k
+    (slice row : List ℕ) (kind : RowKind) (text : List ℕ) → JobHandlerStays is_blank h k → IsLed may_follow h k
     → Goes (found first) (knows first) (found second) (knows second) → slice ≡ row
     → IsShown from (IsGiven is_blank may_follow k) (IsFoundBy found knows second)
     (record { row = slice; kind = kind; text = text })

@@ -4,7 +4,7 @@ use Rattle.std.proofs.Common.{map, string_bytes, take, sym, ap, ◌∙◌, appen
 use Rattle.std.specs.Prelude.{decimal, option_map}
 use Rattle.std.proofs.lemmas.List.{map-append, take_all}
 use Rattle.std.specs.declared.alloc.Global.{Global}
-use Rattle.miette_readers.proofs.Steps.{next_taken}
+use Rattle.miette_read.proofs.Steps.{next_taken}
 use Rattle.miette_show.specs.rules.TerminalWords.{graphics_words, width_words}
 
 -- one word more of those that are passed

@@ -1,4 +1,7 @@
--- What users rely on, in the words of docs/RULES.md.
+-- The definitions that users rely on, as in docs/RULES.md.
+pub mod ValueKinds
+pub mod ShownRow
+pub mod Logging
+pub mod ShowWords
 pub mod LogCalls
-pub mod ShowCalls
 pub mod TerminalWords

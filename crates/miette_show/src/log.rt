@@ -3,23 +3,23 @@
 ghost use Rattle.std.specs.Prelude.{◌≡◌, ◌↔◌, ◌⊎◌, Err, IfOk, IfSome, IsTrue, OnErr, false, ⊤};
 ghost use Rattle.std.specs.Io.KnownBytes.{Appends};
 ghost use Rattle.miette_devices.specs.views.Device.{TakesBeginning};
-ghost use Rattle.miette_logs.specs.rules.LogWords.{logged_text};
+ghost use Rattle.miette_lsp.specs.rules.LogWords.{logged_text};
 ghost use Rattle.miette_tree.specs.rules.Tree.{trees};
-ghost use Rattle.miette_row_reports.specs.rules.Logging.{Logs, LogsFirst, LogsSome};
+ghost use Rattle.miette_show.specs.rules.Logging.{Logs, LogsFirst, LogsSome};
 ghost use Rattle.miette_show.specs.rules.LogCalls.{needs_places};
-ghost use Rattle.miette_tool_rows.specs.rules.Looking.{IsFoundBy};
-ghost use Rattle.miette_tool_rows.specs.rules.Statuses.{status_of};
-ghost use Rattle.miette_tool_rows.specs.declared.verdict.Verdict.{Verdict};
-ghost use Rattle.miette_tool_rows.specs.views.Reading.{left_of};
+ghost use Rattle.miette_show_rows.specs.rules.Looking.{IsFoundBy};
+ghost use Rattle.miette_show_rows.specs.rules.Statuses.{status_of};
+ghost use Rattle.miette_show_rows.specs.declared.verdict.Verdict.{Verdict};
+ghost use Rattle.miette_show_rows.specs.views.Reading.{left_of};
 
-use crate::show::Streams;
-use miette_devices::fault::{Fault, Program};
+use crate::parts::{InputParts, load_part_files, read_parts, reports_of_parts};
+use crate::show::ShowStreams;
+use crate::words::Format;
+use miette_devices::fault::{Program, ProgramError};
 use miette_devices::whole::write_whole;
-use miette_logs::logs::{LogForm, Logging};
-use miette_row_reports::parts::{Held, all_parts, all_reports, load_parts};
-use miette_row_reports::words::Format;
-use miette_tool_rows::loader::Loader;
-use miette_tool_rows::verdict::Verdict;
+use miette_lsp::logs::{LogForm, Logging};
+use miette_show_rows::loader::FileLoader;
+use miette_show_rows::verdict::Verdict;
 use std::alloc::Global;
 use std::io::{Read, Write};
 
@@ -38,13 +38,13 @@ fn needs_places(form: LogForm) -> bool
 ///
 /// # Errors
 /// `Read` exactly where a call of the reader failed, `Write` exactly where one of the writers failed. `Memory`.
-pub fn log_on<F: Loader, R: Read, W: Write, E: Write>(
+pub fn log_on<F: FileLoader, R: Read, W: Write, E: Write>(
     alloc: Global,
     from: Format,
     log: Logging<'_>,
     files: &mut F,
-    streams: &mut Streams<R, W, E>,
-) -> Result<Verdict, Fault>
+    streams: &mut ShowStreams<R, W, E>,
+) -> Result<Verdict, ProgramError>
     requires rows_sound { streams.old.rows.failed ≡ false }
     requires writer_sound { streams.old.writer.failed ≡ false }
     requires faults_sound { streams.old.faults.failed ≡ false }
@@ -62,25 +62,25 @@ pub fn log_on<F: Loader, R: Read, W: Write, E: Write>(
         TakesBeginning (W.contents streams.old.writer.inner) (W.contents streams.new.writer.inner)
         (logged_text log.entry (trees ts))
         × Appends (E.contents streams.old.faults.inner) (E.contents streams.new.faults.inner) notes))) }
-    ensures untouched { OnErr result ((result ≡ Err Fault.Write) ⊎ (streams.new.writer ≡ streams.old.writer)) }
+    ensures untouched { OnErr result ((result ≡ Err ProgramError.Write) ⊎ (streams.new.writer ≡ streams.old.writer)) }
     // The other one took a beginning of what is passed on.
     ensures noted { OnErr result (IfSome (left_of R.remaining streams.old.rows) (λ bytes.
         LogsFirst from (needs_places log.entry.form) (IsFoundBy F.found F.knows files.old) bytes
         (TakesBeginning (E.contents streams.old.faults.inner) (E.contents streams.new.faults.inner)))) }
-    ensures others { OnErr result ((result ≡ Err Fault.Memory) ⊎ (result ≡ Err Fault.Read)
-        ⊎ (result ≡ Err Fault.Write)) }
-    ensures read_failed { IsTrue streams.new.rows.failed ↔ (result ≡ Err Fault.Read) }
+    ensures others { OnErr result ((result ≡ Err ProgramError.Memory) ⊎ (result ≡ Err ProgramError.Read)
+        ⊎ (result ≡ Err ProgramError.Write)) }
+    ensures read_failed { IsTrue streams.new.rows.failed ↔ (result ≡ Err ProgramError.Read) }
     ensures write_failed { (IsTrue streams.new.writer.failed ⊎ IsTrue streams.new.faults.failed)
-        ↔ (result ≡ Err Fault.Write) }
+        ↔ (result ≡ Err ProgramError.Write) }
 {
-    let parts = all_parts(alloc, &mut streams.rows)?;
-    let held = Held {
+    let parts = read_parts(alloc, &mut streams.rows)?;
+    let held = InputParts {
         from,
         placed: needs_places(log.form),
         parts,
     };
-    load_parts(alloc, files, &held)?;
-    let (verdict, reports) = all_reports(alloc, files, &mut streams.faults, &held)?;
+    load_part_files(alloc, files, &held)?;
+    let (verdict, reports) = reports_of_parts(alloc, files, &mut streams.faults, &held)?;
     let text = log.text(alloc, reports.as_slice())?;
     write_whole(&mut streams.writer, text.as_bytes())?;
     Ok(verdict)
@@ -93,10 +93,10 @@ pub fn log_with<F, R, W, E>(
     from: Format,
     log: Logging<'_>,
     files: &mut F,
-    streams: Streams<R, W, E>,
+    streams: ShowStreams<R, W, E>,
 ) -> u8
 where
-    F: Loader,
+    F: FileLoader,
     R: Read + Drop,
     W: Write + Drop,
     E: Write + Drop,

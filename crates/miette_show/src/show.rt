@@ -1,57 +1,54 @@
 //! The program `show`, over any reader, writers and files.
 
-ghost use Rattle.std.specs.Prelude.{◌≡◌, ◌↔◌, ◌⊎◌, ◌<◌, ℕ, List, IfOk, IfSome, IsTrue, None, OnErr, OnOk, false, ⊤};
+ghost use Rattle.std.specs.Prelude.{◌≡◌, ◌↔◌, ◌⊎◌, ◌<◌, ℕ, List, IfOk, IfSome, IsTrue, OnErr, OnOk, false, ⊤};
 ghost use Rattle.std.specs.Io.KnownBytes.{Appends};
-ghost use Rattle.miette_program.specs.rules.OptionWords.{asked_by};
-ghost use Rattle.miette_program.specs.steps.JobHandler.{IsGiven, IsLed, Stays};
+ghost use Rattle.miette_program.specs.rules.JobText.{IsGiven, IsJobText, IsLed, JobHandlerStays};
 ghost use Rattle.miette_devices.specs.views.Device.{TakesBeginning};
-ghost use Rattle.miette_tool_rows.specs.rules.Looking.{Goes, IsFoundBy};
-ghost use Rattle.miette_show.specs.rules.ShowCalls.{CallShows, CallShowsFirst};
-ghost use Rattle.miette_row_reports.specs.rules.Shown.{IsShown, Shows, ShowsFirst};
-ghost use Rattle.miette_tool_rows.specs.rules.Statuses.{status_of};
-ghost use Rattle.miette_tool_rows.specs.declared.verdict.Verdict.{Verdict};
-ghost use Rattle.miette_row_reports.specs.views.Asked.{request_of, words_of};
-ghost use Rattle.miette_tool_rows.specs.views.Reading.{left_of};
+ghost use Rattle.miette_show_rows.specs.rules.Looking.{Goes, IsFoundBy};
+ghost use Rattle.miette_show.specs.rules.ShownRow.{IsShown, Shows, ShowsFirst};
+ghost use Rattle.miette_show_rows.specs.rules.Statuses.{status_of};
+ghost use Rattle.miette_show_rows.specs.declared.verdict.Verdict.{Verdict};
+ghost use Rattle.miette_show_rows.specs.views.Reading.{left_of};
 
 use crate::message::row_text;
+use crate::rows::{InputRow, either, pass_on};
+use crate::value_kinds::is_missing;
+use crate::words::Format;
 use miette_devices::device::Device;
-use miette_devices::fault::{Fault, Program};
+use miette_devices::fault::{Program, ProgramError};
 use miette_devices::whole::write_whole;
 use miette_highlight::highlight::Highlighter;
 use miette_program::arguments::Arguments;
 use miette_program::job_handler::JobHandler;
 use miette_program::language::LanguageHighlighter;
-use miette_row_reports::rows::{Row, either, pass_on};
-use miette_row_reports::told::is_missing;
-use miette_row_reports::words::{Format, ShowWords};
-use miette_tool_rows::loader::Loader;
-pub use miette_tool_rows::streams::Streams;
-use miette_tool_rows::verdict::{RowKind, Verdict};
+use miette_show_rows::loader::FileLoader;
+pub use miette_show_rows::streams::ShowStreams;
+use miette_show_rows::verdict::{RowKind, Verdict};
 use std::alloc::Global;
 use std::io::{Read, Write};
 
 /// Writes what is shown of a row; what the row is.
-fn show_row<H: Highlighter, F: Loader, W: Write>(
+fn show_row<H: Highlighter, F: FileLoader, W: Write>(
     alloc: Global,
     handler: &mut JobHandler<H>,
     files: &mut F,
     writer: &mut Device<W>,
-    row: Row<'_>,
-) -> Result<RowKind, Fault>
+    row: InputRow<'_>,
+) -> Result<RowKind, ProgramError>
     requires sound { writer.old.failed ≡ false }
     ensures shown { IfOk result (λ kind. (text : List ℕ)
         × IsShown row.entry.from (IsGiven H.is_blank H.may_follow handler.old) (IsFoundBy F.found F.knows files.old)
         (record { row = row.entry.bytes.now; kind = kind; text = text })
         × Appends (W.contents writer.old.inner) (W.contents writer.new.inner) text) }
     // After a write fault a beginning of what is shown was taken, after other errors nothing.
-    ensures beginning { (result ≡ Err Fault.Write) → (kind : RowKind) × (text : List ℕ)
+    ensures beginning { (result ≡ Err ProgramError.Write) → (kind : RowKind) × (text : List ℕ)
         × IsShown row.entry.from (IsGiven H.is_blank H.may_follow handler.old) (IsFoundBy F.found F.knows files.old)
         (record { row = row.entry.bytes.now; kind = kind; text = text })
         × TakesBeginning (W.contents writer.old.inner) (W.contents writer.new.inner) text }
-    ensures untouched { OnErr result ((result ≡ Err Fault.Write) ⊎ (writer.new ≡ writer.old)) }
-    ensures failed { IsTrue writer.new.failed ↔ (result ≡ Err Fault.Write) }
-    ensures others { OnErr result ((result ≡ Err Fault.Memory) ⊎ (result ≡ Err Fault.Write)) }
-    ensures stays { Stays H.is_blank handler.old handler.new }
+    ensures untouched { OnErr result ((result ≡ Err ProgramError.Write) ⊎ (writer.new ≡ writer.old)) }
+    ensures failed { IsTrue writer.new.failed ↔ (result ≡ Err ProgramError.Write) }
+    ensures others { OnErr result ((result ≡ Err ProgramError.Memory) ⊎ (result ≡ Err ProgramError.Write)) }
+    ensures stays { JobHandlerStays H.is_blank handler.old handler.new }
     ensures led { OnOk result (IsLed H.may_follow handler.old handler.new) }
     ensures goes { Goes (F.found files.old) (F.knows files.old) (F.found files.new) (F.knows files.new) }
 {
@@ -61,13 +58,13 @@ fn show_row<H: Highlighter, F: Loader, W: Write>(
 }
 
 /// Shows all rows that are left.
-fn show_rows<H: Highlighter, F: Loader, R: Read, W: Write, E: Write>(
+fn show_rows<H: Highlighter, F: FileLoader, R: Read, W: Write, E: Write>(
     alloc: Global,
     from: Format,
     handler: &mut JobHandler<H>,
     files: &mut F,
-    streams: &mut Streams<R, W, E>,
-) -> Result<Verdict, Fault>
+    streams: &mut ShowStreams<R, W, E>,
+) -> Result<Verdict, ProgramError>
     requires rows_sound { streams.old.rows.failed ≡ false }
     requires writer_sound { streams.old.writer.failed ≡ false }
     requires faults_sound { streams.old.faults.failed ≡ false }
@@ -80,11 +77,11 @@ fn show_rows<H: Highlighter, F: Loader, R: Read, W: Write, E: Write>(
         ShowsFirst from (IsGiven H.is_blank H.may_follow handler.old) (IsFoundBy F.found F.knows files.old) bytes
         (λ text notes. TakesBeginning (W.contents streams.old.writer.inner) (W.contents streams.new.writer.inner) text
         × TakesBeginning (E.contents streams.old.faults.inner) (E.contents streams.new.faults.inner) notes))) }
-    ensures accepted { ¬ (result ≡ Err Fault.Refused) }
-    ensures read_failed { IsTrue streams.new.rows.failed ↔ (result ≡ Err Fault.Read) }
+    ensures accepted { ¬ (result ≡ Err ProgramError.Refused) }
+    ensures read_failed { IsTrue streams.new.rows.failed ↔ (result ≡ Err ProgramError.Read) }
     ensures write_failed { (IsTrue streams.new.writer.failed ⊎ IsTrue streams.new.faults.failed)
-        ↔ (result ≡ Err Fault.Write) }
-    ensures called { ¬ (result ≡ Err Fault.Usage) }
+        ↔ (result ≡ Err ProgramError.Write) }
+    ensures called { ¬ (result ≡ Err ProgramError.Usage) }
 {
     let mut row = Vec::new(alloc);
     let mut part = Vec::new(alloc);
@@ -96,7 +93,7 @@ fn show_rows<H: Highlighter, F: Loader, R: Read, W: Write, E: Write>(
         if part.is_empty() {
             return Ok(verdict.with_missing(is_missing(from, seen)));
         }
-        let read = Row {
+        let read = InputRow {
             from,
             bytes: part.as_slice(),
         };
@@ -106,73 +103,72 @@ fn show_rows<H: Highlighter, F: Loader, R: Read, W: Write, E: Write>(
         seen = either(seen, kind.is_read());
         number = following;
     }
-    Err(Fault::Memory)
+    Err(ProgramError::Memory)
 }
 
-/// Reads the words of `job`, and then shows all rows that are left as they and those in front ask.
+/// Shows all rows that are left as the settings say.
 ///
 /// # Errors
-/// `Usage` where the words are wrong, before anything is read. `Read` exactly where a call of the reader failed,
-/// `Write` exactly where one of the writers failed. `Memory`. No report is refused.
-pub fn show_on<F: Loader, R: Read, W: Write, E: Write>(
+/// `Read` exactly where a call of the reader failed, `Write` exactly where one of the writers failed. `Memory`. No
+/// report is refused.
+pub fn show_on<F: FileLoader, R: Read, W: Write, E: Write>(
     alloc: Global,
-    asked: &ShowWords<'_>,
+    from: Format,
+    settings: Arguments,
     files: &mut F,
-    streams: &mut Streams<R, W, E>,
-) -> Result<Verdict, Fault>
+    streams: &mut ShowStreams<R, W, E>,
+) -> Result<Verdict, ProgramError>
     requires rows_sound { streams.old.rows.failed ≡ false }
     requires writer_sound { streams.old.writer.failed ≡ false }
     requires faults_sound { streams.old.faults.failed ≡ false }
     // Row by row the writer took the texts of the reports, and the other one each row that has no message.
     ensures ok { IfOk result (λ verdict. IfSome (left_of R.remaining streams.old.rows) (λ bytes.
-        CallShows ⟦<LanguageHighlighter as Highlighter>⟧.is_blank (request_of asked.now)
-        (IsFoundBy F.found F.knows files.old) bytes
+        Shows from (IsJobText ⟦<LanguageHighlighter as Highlighter>⟧.is_blank settings.choice settings.options
+        settings.terminal) (IsFoundBy F.found F.knows files.old) bytes
         (λ text notes. Appends (W.contents streams.old.writer.inner) (W.contents streams.new.writer.inner) text
         × Appends (E.contents streams.old.faults.inner) (E.contents streams.new.faults.inner) notes) verdict)) }
-    ensures usage { (result ≡ Err Fault.Usage) → asked_by (words_of asked.now.options) ≡ None }
-    ensures right { OnOk result (¬ (asked_by (words_of asked.now.options) ≡ None)) }
-    ensures unread { asked_by (words_of asked.now.options) ≡ None → streams.new ≡ streams.old }
-    // After any other error the first rows were shown, the last of them perhaps in part.
+    // After an error nothing was read, or the first rows were shown, the last of them perhaps in part.
     ensures beginning { OnErr result ((streams.new ≡ streams.old) ⊎ IfSome (left_of R.remaining streams.old.rows)
-        (λ bytes. CallShowsFirst ⟦<LanguageHighlighter as Highlighter>⟧.is_blank (request_of asked.now)
-        (IsFoundBy F.found F.knows files.old) bytes
+        (λ bytes. ShowsFirst from (IsJobText ⟦<LanguageHighlighter as Highlighter>⟧.is_blank settings.choice
+        settings.options settings.terminal) (IsFoundBy F.found F.knows files.old) bytes
         (λ text notes. TakesBeginning (W.contents streams.old.writer.inner) (W.contents streams.new.writer.inner) text
         × TakesBeginning (E.contents streams.old.faults.inner) (E.contents streams.new.faults.inner) notes))) }
     // Labels of messages are within their files.
-    ensures accepted { ¬ (result ≡ Err Fault.Refused) }
-    ensures read_failed { IsTrue streams.new.rows.failed ↔ (result ≡ Err Fault.Read) }
+    ensures accepted { ¬ (result ≡ Err ProgramError.Refused) }
+    ensures called { ¬ (result ≡ Err ProgramError.Usage) }
+    ensures read_failed { IsTrue streams.new.rows.failed ↔ (result ≡ Err ProgramError.Read) }
     ensures write_failed { (IsTrue streams.new.writer.failed ⊎ IsTrue streams.new.faults.failed)
-        ↔ (result ≡ Err Fault.Write) }
+        ↔ (result ≡ Err ProgramError.Write) }
 {
-    let settings = Arguments::read(alloc, asked.options)?;
     let mut handler = JobHandler::new(alloc, settings)?;
-    show_rows(alloc, asked.from, &mut handler, files, streams)
+    show_rows(alloc, from, &mut handler, files, streams)
 }
 
-/// Shows all rows of a reader as the words ask, and gives the status: that of the verdict; 2 for every fault, of
+/// Shows all rows of a reader as the settings say, and gives the status: that of the verdict; 2 for every fault, of
 /// which a row goes to `faults`.
 pub fn show_with<F, R, W, E>(
     alloc: Global,
-    asked: &ShowWords<'_>,
+    from: Format,
+    settings: Arguments,
     files: &mut F,
-    streams: Streams<R, W, E>,
+    streams: ShowStreams<R, W, E>,
 ) -> u8
 where
-    F: Loader,
+    F: FileLoader,
     R: Read + Drop,
     W: Write + Drop,
     E: Write + Drop,
     requires rows_sound { streams.rows.failed ≡ false }
     requires writer_sound { streams.writer.failed ≡ false }
     requires faults_sound { streams.faults.failed ≡ false }
-    // 2 for a fault; else by all rows, each of which is shown as the words ask.
+    // 2 for a fault; else by all rows, each of which is shown as the settings say.
     ensures status { (result ≡ 2) ⊎ IfSome (left_of R.remaining streams.rows) (λ bytes. (verdict : Verdict)
-        × (result ≡ status_of verdict) × CallShows ⟦<LanguageHighlighter as Highlighter>⟧.is_blank
-        (request_of asked.now) (IsFoundBy F.found F.knows files.old) bytes (λ text notes. ⊤) verdict) }
-    ensures usage { asked_by (words_of asked.now.options) ≡ None → result ≡ 2 }
+        × (result ≡ status_of verdict)
+        × Shows from (IsJobText ⟦<LanguageHighlighter as Highlighter>⟧.is_blank settings.choice settings.options
+        settings.terminal) (IsFoundBy F.found F.knows files.old) bytes (λ text notes. ⊤) verdict) }
 {
     let mut streams = streams;
-    match show_on(alloc, asked, files, &mut streams) {
+    match show_on(alloc, from, settings, files, &mut streams) {
         Ok(verdict) => verdict.status(),
         Err(fault) => {
             let mut faults = streams.faults.into_inner();
@@ -182,7 +178,7 @@ where
 }
 
 /// Ends the program where its words are wrong, or could not be had: prints why, and gives the status, 2.
-pub fn refuse_words<E: Write + Drop>(fault: Fault, faults: E) -> u8
+pub fn refuse_words<E: Write + Drop>(fault: ProgramError, faults: E) -> u8
     ensures { result ≡ 2 }
 {
     let mut faults = faults;

@@ -1,17 +1,17 @@
-//! The words of `job` by what is known of the terminal.
+//! The options of `job` that describe the terminal.
 
-ghost use Rattle.std.specs.Prelude.{◌≡◌, ◌++◌, ◌∷◌, [], IfOk, OnOk, map, option_map, string_bytes};
+ghost use Rattle.std.specs.Prelude.{◌≡◌, ◌<◌, ◌^◌, ◌++◌, ◌∷◌, [], IfOk, IfSome, OnOk, map, option_map, string_bytes};
 ghost use Rattle.miette.specs.declared.terminal.Variables.{Variables};
 ghost use Rattle.miette.specs.rules.Detection.{IsDetected, IsToldBy};
 ghost use Rattle.miette_style.specs.declared.theme.Terminal.{Terminal};
-ghost use Rattle.miette_show.specs.rules.TerminalWords.{answer, color_name, graphics_words, terminal_words};
+ghost use Rattle.miette_show.specs.rules.TerminalWords.{yes_or_no, color_name, graphics_words, terminal_words};
 ghost use Rattle.miette_show.specs.rules.TerminalWords.{width_words};
 
-use miette::terminal::{Lookup, Stream, Streams, detect};
+use miette::terminal::{Lookup, Stream, Streams, detect_terminal};
 use miette::theme::Terminal;
 use std::alloc::{AllocError, Global};
 
-/// The name of the colours of a terminal.
+/// Returns the name of a terminal's color support.
 fn color_name(color: Option<bool>) -> &'static str
     ensures { result.now ≡ color_name color }
 {
@@ -22,14 +22,14 @@ fn color_name(color: Option<bool>) -> &'static str
     }
 }
 
-/// `yes` or `no`.
-fn answer(is: bool) -> &'static str
-    ensures { result.now ≡ answer is }
+/// Returns `yes` or `no`.
+fn yes_or_no(is: bool) -> &'static str
+    ensures { result.now ≡ yes_or_no is }
 {
     if is { "yes" } else { "no" }
 }
 
-/// Appends a word.
+/// Appends an option.
 fn push_word(words: &mut Vec<String>, alloc: Global, word: &str) -> Result<(), AllocError>
     ensures { OnOk result (map string_bytes words.new.items ≡ map string_bytes words.old.items ++ word.now ∷ []) }
 {
@@ -38,7 +38,7 @@ fn push_word(words: &mut Vec<String>, alloc: Global, word: &str) -> Result<(), A
     Ok(())
 }
 
-/// Appends a word and its value.
+/// Appends an option and its value.
 fn push_value(
     words: &mut Vec<String>,
     alloc: Global,
@@ -52,13 +52,15 @@ fn push_value(
     push_word(words, alloc, value)
 }
 
-/// Appends the words for a width, where it is known.
+/// Appends the option for the width, if it is known.
 fn push_width(
     words: &mut Vec<String>,
     alloc: Global,
     width: Option<usize>,
 ) -> Result<(), AllocError>
-    ensures { OnOk result (map string_bytes words.new.items ≡ map string_bytes words.old.items ++ width_words width) }
+    ensures words { OnOk result (map string_bytes words.new.items
+        ≡ map string_bytes words.old.items ++ width_words width) }
+    ensures fits { OnOk result (IfSome width (λ n. n < 2 ^ 64)) }
 {
     match width {
         Some(width) => {
@@ -69,7 +71,7 @@ fn push_width(
     }
 }
 
-/// Appends the words for what the user says of graphics, where they say something.
+/// Appends the option for the variable `NO_GRAPHICS`, if it is set.
 fn push_graphics(
     words: &mut Vec<String>,
     alloc: Global,
@@ -84,9 +86,10 @@ fn push_graphics(
     }
 }
 
-/// The words of `job` that say what is known of a terminal.
+/// Returns the options that describe a terminal.
 fn terminal_words(alloc: Global, terminal: &Terminal) -> Result<Vec<String>, AllocError>
-    ensures { IfOk result (λ words. map string_bytes words.items ≡ terminal_words terminal.now) }
+    ensures words { IfOk result (λ words. map string_bytes words.items ≡ terminal_words terminal.now) }
+    ensures fits { OnOk result (IfSome terminal.now.width (λ n. n < 2 ^ 64)) }
 {
     let mut words = Vec::new(alloc);
     push_width(&mut words, alloc, terminal.width)?;
@@ -100,19 +103,19 @@ fn terminal_words(alloc: Global, terminal: &Terminal) -> Result<Vec<String>, All
         &mut words,
         alloc,
         "--term-unicode",
-        answer(terminal.unicode),
+        yes_or_no(terminal.unicode),
     )?;
     push_value(
         &mut words,
         alloc,
         "--term-links",
-        answer(terminal.hyperlinks),
+        yes_or_no(terminal.hyperlinks),
     )?;
     push_graphics(&mut words, alloc, &terminal.no_graphics)?;
     Ok(words)
 }
 
-/// Appends copies of words.
+/// Appends copies of options.
 fn push_words(words: &mut Vec<String>, alloc: Global, more: &[String]) -> Result<(), AllocError>
     ensures { OnOk result (map string_bytes words.new.items
         ≡ map string_bytes words.old.items ++ map string_bytes more.now) }
@@ -123,11 +126,11 @@ fn push_words(words: &mut Vec<String>, alloc: Global, more: &[String]) -> Result
     Ok(())
 }
 
-/// Words of `job` after those that say what is known of the terminal that standard output goes to: of words that say
-/// the same the last ones count.
+/// Returns the options that describe the terminal of standard output, followed by the given ones. The last option of a
+/// kind counts.
 ///
 /// # Errors
-/// Where no memory is found for the words.
+/// `AllocError` if allocation fails.
 pub fn options_in_terminal<R: Lookup + AllocGlobal + Streams>(
     rt: &R,
     options: &[String],
@@ -135,10 +138,11 @@ pub fn options_in_terminal<R: Lookup + AllocGlobal + Streams>(
     // The terminal is the one that `print_report` prints on.
     ensures { IfOk result (λ words. (v : Variables) × (t : Terminal)
         × IsToldBy (R.variable_may_be rt.now) (R.terminal_may_be rt.now) v × IsDetected v Stream.Stdout t
+        × IfSome t.width (λ n. n < 2 ^ 64)
         × (map string_bytes words.items ≡ terminal_words t ++ map string_bytes options.now)) }
 {
     let alloc = rt.alloc();
-    let terminal = detect(rt, Stream::Stdout)?;
+    let terminal = detect_terminal(rt, Stream::Stdout)?;
     let mut words = terminal_words(alloc, &terminal)?;
     push_words(&mut words, alloc, options)?;
     Ok(words)

@@ -4,3 +4,14 @@ pub mod NoPieces
 pub mod PlainCells
 pub mod RowTokens
 pub mod TextColumns
+pub mod PassedCells
+pub mod PlainText
+pub mod EndColumns
+pub mod OffsetColumns
+pub mod StopColumns
+pub mod CellPrints
+pub mod CutPieces
+pub mod CutPlain
+pub mod CutText
+pub mod TabbedText
+pub mod TextWithoutTabs

@@ -1,7 +1,7 @@
 -- A highlighter that answers no pieces.
 use Rattle.std.proofs.Common.{ℕ, Bool, List, [], ◌∷◌, refl}
 use Rattle.miette_protocol.specs.rules.Reading.{Source, Span}
-use Rattle.miette_label_rules.specs.rules.Contexts.{contents, lines_of_contents}
+use Rattle.miette_labels.specs.rules.Contexts.{contents, lines_of_contents}
 use Rattle.miette_snippet_rules.specs.rules.Highlighting.{EachHasPieces, SnippetsHavePieces, texts_of}
 
 none_each : (blank : Bool) (texts : List (List ℕ)) → EachHasPieces blank texts []

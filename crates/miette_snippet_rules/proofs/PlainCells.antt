@@ -4,11 +4,11 @@ use Rattle.std.proofs.Common.{ap, ap₂, ◌∙◌, append-nil, arith}
 use Rattle.std.specs.List.{list_all}
 use Rattle.std.proofs.lemmas.Bool.{and_parts}
 use Rattle.std.proofs.lemmas.List.{take_all, drop_all}
-use Rattle.miette_cells.specs.rules.Cells.{Cell, cells_from, characters}
-use Rattle.miette_cells.specs.rules.Widths.{width_of}
-use Rattle.miette_cells.specs.views.Printable.{is_printable, plain_cells}
-use Rattle.miette_cells.proofs.Stepping.{cells_end}
-use Rattle.miette_cells.proofs.Plaining.{printable_then}
+use Rattle.miette_columns.specs.rules.Cells.{Cell, cells_from, characters}
+use Rattle.miette_columns.specs.rules.Widths.{width_of}
+use Rattle.miette_columns.specs.views.Printable.{is_printable, plain_cells}
+use Rattle.miette_columns.proofs.Stepping.{cells_end}
+use Rattle.miette_columns.proofs.Plaining.{printable_then}
 
 -- a character
 abbrev pub cell_of_byte : ℕ → ℕ → ℕ → Cell

@@ -1,21 +1,22 @@
 -- What rows tell.
-use Rattle.miette_page.specs.views.Printouts.{Printout, ◌⊕◌}
+use Rattle.miette_style.specs.views.Printouts.{Printout, ◌⊕◌}
 use Rattle.std.proofs.Common.{ℕ, zero, suc, Bool, true, ◌<◌, ◌≡◌, arith, List, [], ◌∷◌, ◌++◌, map, replicate, refl, sym}
 use Rattle.std.proofs.Common.{ap, ◌∙◌, append_assoc, append-nil}
 use Rattle.miette_style.specs.declared.style.Style.{Style}
-use Rattle.miette_page.specs.rules.Rows.{Row, glyph_of, styled_run}
+use Rattle.miette_style.specs.rules.Rows.{Row, glyph_of, styled_run}
 use Rattle.miette_style.specs.rules.Styles.{plain}
-use Rattle.miette_snippet_rules.specs.rules.Drawing.{blank}
+use Rattle.miette_snippet_rules.specs.rules.LabelRows.{blank}
 use Rattle.std.specs.Prelude.{chars}
 use Rattle.std.specs.List.{All}
 use Rattle.std.specs.List.{list_all}
 use Rattle.std.proofs.lemmas.Bool.{and_parts}
 use Rattle.std.proofs.lemmas.Str.{chars-IsAscii}
 use Rattle.std.proofs.lemmas.Str.Ascii.{IsAscii-from_all}
-use Rattle.miette_page.specs.views.Tokens.{Token, begins, row_end, row_tokens, run_tokens, rows_tokens, styled_tokens}
-use Rattle.miette_page.specs.views.Tokens.{text_tokens}
-use Rattle.miette_page.proofs.Paging.{told_append, put_append}
-use Rattle.miette_snippet_rules.specs.rules.Settings.{SnippetSettings}
+use Rattle.miette_style.specs.views.Tokens.{RowToken, begins, row_end, row_tokens, run_tokens, rows_tokens}
+use Rattle.miette_style.specs.views.Tokens.{styled_tokens}
+use Rattle.miette_style.specs.views.Tokens.{text_tokens}
+use Rattle.miette_style.proofs.Paging.{told_append, put_append}
+use Rattle.miette_snippet_rules.specs.rules.SnippetSettings.{SnippetSettings}
 
 pub codes_drawn : (w : ℕ → ℕ) (text : List ℕ) → map (λ p. p.code) (map (glyph_of w) text) ≡ text
 codes_drawn w [] = refl
@@ -52,11 +53,11 @@ told_rows-append (row ∷ a) b = ap (λ ts. row_tokens row ++ row_end ∷ ts) (t
     ∙ sym (append_assoc (row_tokens row) (row_end ∷ rows_tokens a) (rows_tokens b))
 
 -- one thing after another
-pub then : (p : Printout) (a b : List Token) {q r : Printout} → q ≡ p ⊕ a → r ≡ q ⊕ b → r ≡ p ⊕ (a ++ b)
+pub then : (p : Printout) (a b : List RowToken) {q r : Printout} → q ≡ p ⊕ a → r ≡ q ⊕ b → r ≡ p ⊕ (a ++ b)
 then p a b {q} {r} e f = f ∙ ap (λ x. x ⊕ b) e ∙ put_append p a b
 
 -- what was put there, in other words
-pub told_as : (p : Printout) (a b : List Token) {q : Printout} → q ≡ p ⊕ a → a ≡ b → q ≡ p ⊕ b
+pub told_as : (p : Printout) (a b : List RowToken) {q : Printout} → q ≡ p ⊕ a → a ≡ b → q ≡ p ⊕ b
 told_as p a b {q} e f = e ∙ ap (λ x. p ⊕ x) f
 
 -- more characters of a run

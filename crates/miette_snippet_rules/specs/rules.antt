@@ -1,16 +1,16 @@
--- What users rely on, in the words of docs/RULES.md.
-pub mod CutEnds
+-- What users rely on. docs/RULES.md says the same in words.
+pub mod LabelColumns
 pub mod CutLines
 pub mod Defaults
-pub mod Drawing
-pub mod Folds
+pub mod LabelRows
+pub mod FoldedLabels
 pub mod Frames
 pub mod Gutters
 pub mod Highlighting
-pub mod Marks
+pub mod Underlines
 pub mod Numbers
 pub mod PrintedCells
 pub mod ShownLines
 pub mod SnippetLayout
-pub mod Settings
+pub mod SnippetSettings
 pub mod Snippets

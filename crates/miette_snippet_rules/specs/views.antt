@@ -1,5 +1,6 @@
--- What the code's values stand for.
+-- What the values of the code represent.
 pub mod Cuts
 pub mod LineTexts
-pub mod MadeMarks
-pub mod Settings
+pub mod MadeUnderlines
+pub mod SnippetSettings
+pub mod LineScans

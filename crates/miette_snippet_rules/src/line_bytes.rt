@@ -1,12 +1,12 @@
-//! What the source has of a line.
+//! The text of one source line.
 
-/// The bytes of a line's text.
+/// The text of a line, without its terminator.
 #[derive(Clone, Copy)]
-pub struct LineBytes<'a> {
-    /// The offset of its first byte, in bytes of the source.
+pub struct LineText<'a> {
+    /// The offset of the first byte in the source.
     pub start: usize,
-    /// Its bytes.
+    /// The bytes of the text.
     pub bytes: &'a [u8],
-    /// The width of tabs, in columns.
+    /// The tab width in columns.
     pub tab: usize,
 }

@@ -1,4 +1,6 @@
-//! What snippets are drawn with.
+//! The options of the snippet layout.
+
+ghost use Rattle.std.specs.Prelude.{◌≡◌, ◌≤◌, Some};
 
 use miette_style::theme::GraphicalTheme;
 use std::alloc::Global;
@@ -6,19 +8,19 @@ use std::alloc::Global;
 /// How snippets are laid out.
 #[derive(Clone, Copy, Debug, PartialEq, Eq, Drop)]
 pub struct LayoutOptions {
-    /// A tab goes on to the next multiple of `tab_width` columns; at 0 it has no columns.
+    /// A tab advances to the next multiple of `tab_width` columns. At 0, tabs have no width.
     pub tab_width: usize,
-    /// How many lines are shown before and after each label that has no number of its own.
+    /// The number of lines shown before and after a label that doesn't set its own number.
     pub context_lines: usize,
-    /// Whether a frame shows where its primary label begins.
+    /// Whether the top of a frame shows where the primary label begins, as in `[name:2:3]`.
     pub primary_start: bool,
-    /// Whether a frame over one line of a source without a name shows it too.
+    /// Whether the frame of a one-line snippet shows this position even if the source has no name.
     pub one_line_start: bool,
-    /// Whether a label at the end of a source is drawn, after the text of its last line.
+    /// Whether labels at the end of a source are drawn, after the text of its last line.
     pub end_labels: bool,
-    /// A label over more lines than these is folded: only the lines around its first and its last one are shown.
+    /// A label over more lines than this is folded: only the lines around its first and its last line are shown.
     pub label_lines: Option<usize>,
-    /// A line of more columns is cut around its labels; fewer than 8 count as 8.
+    /// A line with more columns than this is cut around its labels. Values below 8 count as 8.
     pub line_columns: Option<usize>,
 }
 
@@ -38,6 +40,65 @@ impl Default for LayoutOptions {
             label_lines: None,
             line_columns: None,
         }
+    }
+}
+
+/// What draws snippets by a layout: a handler, or the options that it is built from. Settings of the layout are set
+/// here, once for all of these.
+pub trait SetLayout: Sized {
+    ghost use Rattle.miette_snippet_rules.specs.declared.options.LayoutOptions.{LayoutOptions};
+
+    /// The layout.
+    ghost layout_of: { Self → LayoutOptions };
+
+    /// The same with another layout.
+    ghost laid_out: { Self → LayoutOptions → Self };
+
+    /// The layout. Its tabs have columns.
+    fn layout(&self) -> LayoutOptions
+        ensures layout { result ≡ layout_of self.now }
+        ensures tabs { 1 ≤ result.tab_width };
+
+    /// Draws by this layout, in place of all that was set of it. A tab width of at least 1 is the caller's condition.
+    fn with_layout(self, layout: LayoutOptions) -> Self
+        requires { 1 ≤ layout.tab_width }
+        ensures { result ≡ laid_out self layout };
+
+    /// Whether a label at the end of a source that isn't empty is drawn, after the text of the last line; by default it
+    /// isn't. Where no lines are shown around labels, those over that source have one then.
+    fn end_labels(self, drawn: bool) -> Self
+        ensures { result ≡ laid_out self (record (layout_of self) { end_labels = drawn }) }
+    {
+        let layout = self.layout();
+        self.with_layout(LayoutOptions {
+            end_labels: drawn,
+            ..layout
+        })
+    }
+
+    /// A label over more lines than these is folded: only the lines around its first and its last one are shown, and a
+    /// row of dots stands for those between them, where they are several. At least 1 is the caller's condition.
+    fn label_lines(self, lines: usize) -> Self
+        requires { 1 ≤ lines }
+        ensures { result ≡ laid_out self (record (layout_of self) { label_lines = Some lines }) }
+    {
+        let layout = self.layout();
+        self.with_layout(LayoutOptions {
+            label_lines: Some(lines),
+            ..layout
+        })
+    }
+
+    /// A line wider than `columns` is cut: it shows what stands around its labels, as much as fits into that width, and
+    /// dots in place of the rest. A limit below 8 counts as 8.
+    fn line_columns(self, columns: usize) -> Self
+        ensures { result ≡ laid_out self (record (layout_of self) { line_columns = Some columns }) }
+    {
+        let layout = self.layout();
+        self.with_layout(LayoutOptions {
+            line_columns: Some(columns),
+            ..layout
+        })
     }
 }
 

@@ -4,7 +4,7 @@ use Rattle.std.proofs.lemmas.Str.{IsUtf8-string_bytes, chars-encodes}
 use Rattle.std.specs.Prelude.{chars, string_bytes}
 use Rattle.std.specs.Bool.{Decides}
 use Rattle.std.specs.String.{string_eq}
-use Rattle.miette_basics.proofs.Equality.{texts}
+use Rattle.miette_lines.proofs.Equality.{texts}
 
 same_bytes : (x y : String Global) → chars (string_bytes x) ≡ chars (string_bytes y) → string_bytes x ≡ string_bytes y
 same_bytes x y e =

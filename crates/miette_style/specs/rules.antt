@@ -1,5 +1,6 @@
--- What users rely on, in the words of docs/RULES.md.
+-- Definitions that contracts use. docs/RULES.md says them in words.
 pub mod Styles
 pub mod Codes
 pub mod Themes
 pub mod Escapes
+pub mod Rows

@@ -1,11 +1,11 @@
-//! The codes of styles, printed.
+//! Prints the codes of styles.
 
 ghost use Rattle.std.specs.Prelude.{◌≡◌, ◌++◌, ◌∷◌, ◌||◌, [], IfOk, IfSome, OnOk, false, is_some};
 ghost use Rattle.std.specs.Prelude.{string_bytes};
 ghost use Rattle.miette_style.specs.rules.Codes.{colour_start, flag, foreground, foreground_codes, further_codes};
 
 use crate::style::{Color, Style};
-use miette_basics::numbers::push_number;
+use miette_lines::numbers::push_number;
 use std::alloc::AllocError;
 
 fn push_foreground(out: &mut String, color: Color) -> Result<(), AllocError>
@@ -29,7 +29,7 @@ fn push_foreground(out: &mut String, color: Color) -> Result<(), AllocError>
     }
 }
 
-// The code of the colour, where there is one; gives whether there is.
+// Appends the code of a colour, if there is one. Returns whether there is.
 fn push_color(out: &mut String, color: Option<Color>) -> Result<bool, AllocError>
     ensures text { OnOk result (string_bytes out.new
         ≡ string_bytes out.old ++ further_codes false (foreground_codes color)) }
@@ -44,7 +44,7 @@ fn push_color(out: &mut String, color: Option<Color>) -> Result<bool, AllocError
     }
 }
 
-// The code, where it is on, after a `;` where another one stands before it; gives whether any stands there now.
+// Appends a code if `on`, after a `;` if a code precedes it. Returns whether there is a code now.
 fn push_flag(out: &mut String, has_code: bool, on: bool, code: &str) -> Result<bool, AllocError>
     ensures text { OnOk result (string_bytes out.new
         ≡ string_bytes out.old ++ further_codes has_code (flag on code.now)) }
@@ -60,7 +60,7 @@ fn push_flag(out: &mut String, has_code: bool, on: bool, code: &str) -> Result<b
     Ok(true)
 }
 
-// What begins a style, code by code.
+// Appends the codes that begin a style, one by one.
 fn push_each_code(out: &mut String, style: Style) -> Result<(), AllocError>
     ensures { OnOk result (string_bytes out.new ≡ string_bytes out.old ++ colour_start style) }
 {
@@ -73,7 +73,7 @@ fn push_each_code(out: &mut String, style: Style) -> Result<(), AllocError>
     out.push_str("m")
 }
 
-// What begins a style that is one of the terminal's own colours and nothing else.
+// Returns the escape sequence that begins a style, if the style is one of the terminal's colours and nothing else.
 fn own_start(style: Style) -> Option<&'static str>
     ensures { IfSome result (λ text. colour_start style ≡ text.now) }
 {
@@ -98,10 +98,10 @@ fn own_start(style: Style) -> Option<&'static str>
     }
 }
 
-/// Appends what begins a style: at once where it is one of the terminal's own colours.
+/// Appends the escape sequence that begins a style. The terminal's own colours are appended in one step.
 ///
 /// # Errors
-/// `AllocError` where memory is refused.
+/// `AllocError` if allocation fails.
 pub fn push_style(out: &mut String, style: Style) -> Result<(), AllocError>
     ensures { OnOk result (string_bytes out.new ≡ string_bytes out.old ++ colour_start style) }
 {
@@ -111,7 +111,7 @@ pub fn push_style(out: &mut String, style: Style) -> Result<(), AllocError>
     }
 }
 
-// One of the terminal's own colours, by the digit after the `3` of its code.
+// Returns the terminal's colour for the digit after the `3` of its code.
 fn own_color(digit: char) -> Option<Color>
     ensures { IfSome result (λ color. foreground color ≡ 51 ∷ digit ∷ []) }
 {
@@ -126,8 +126,8 @@ fn own_color(digit: char) -> Option<Color>
     }
 }
 
-/// The style that codes begin, where it is one of the terminal's own colours and nothing else.
-pub fn begun_style(codes: &[char]) -> Option<Style>
+/// Returns the style that these codes begin, if it is one of the terminal's colours and nothing else.
+pub fn style_of_codes(codes: &[char]) -> Option<Style>
     ensures { IfSome result (λ style. colour_start style ≡ codes.now) }
 {
     let [a, b, c, d, e] = codes else {

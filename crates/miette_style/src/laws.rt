@@ -1,12 +1,12 @@
-//! Laws of comparing and cloning. The functions do nothing; what they ensure is proved.
+//! Theorems about comparing and cloning. The functions do nothing; their contracts are the theorems.
 ghost use Rattle.std.specs.Prelude.{◌≡◌, ◌↔◌, IsTrue};
 ghost use Rattle.miette_style.specs.rules.Themes.{characters_of, styles_of, theme_of};
 
 use crate::style::{Color, Style};
 use crate::theme::{GraphicalTheme, ThemeCharacters, ThemeStyles};
 
-/// Values are equal where all their fields are, and clones keep each field. Of a text only its characters
-/// count, and of a list only its items.
+/// Values are equal if all their fields are, and a clone has equal fields. Texts are compared by their characters,
+/// lists by their items.
 pub fn comparison_laws()
     ensures equal_colours { (a b : Color) → IsTrue (⟦<Color as PartialEq>⟧.eq a b) ↔ (a ≡ b) }
     ensures equal_styles { (a b : Style) → IsTrue (⟦<Style as PartialEq>⟧.eq a b) ↔ (a ≡ b) }

@@ -1,11 +1,10 @@
-//! Colours and styles of a text.
+//! Colours and styles.
 
 ghost use Rattle.std.specs.Prelude.{◌≡◌, Some, true};
 ghost use Rattle.miette_style.specs.rules.Codes.{style_codes};
-ghost use Rattle.miette_basics.specs.rules.Lists.{is_nil};
+ghost use Rattle.miette_lines.specs.rules.Lists.{is_nil};
 
-/// A colour of the foreground: one of the terminal's own, or its red, green and blue parts. Codes stand between `ESC
-/// [` and `m`.
+/// A foreground colour: one of the terminal's own, or RGB. The codes are those between `ESC [` and `m`.
 #[derive(Clone, Copy, Debug, PartialEq, Eq)]
 pub enum Color {
     /// The terminal's red: code 31.
@@ -20,29 +19,29 @@ pub enum Color {
     Magenta,
     /// The terminal's cyan: code 36.
     Cyan,
-    /// The red, the green and the blue part: codes `38;2;R;G;B`.
+    /// Red, green and blue: codes `38;2;R;G;B`.
     Rgb(u8, u8, u8),
 }
 
-/// How a text is printed. The style in which nothing is set is plain.
+/// How a text is printed. By default nothing is set; such a style is plain.
 #[derive(Clone, Copy, Debug, PartialEq, Eq)]
 pub struct Style {
-    /// The colour of the characters, or the terminal's own.
+    /// The colour of the characters; `None` is the terminal's default.
     pub fg: Option<Color>,
-    /// Whether they are bold: code 1.
+    /// Bold: code 1.
     pub bold: bool,
-    /// Whether they are dimmed: code 2.
+    /// Dimmed: code 2.
     pub dimmed: bool,
-    /// Whether they are italic: code 3.
+    /// Italic: code 3.
     pub italic: bool,
-    /// Whether they are underlined: code 4.
+    /// Underlined: code 4.
     pub underline: bool,
 }
 
 impl Style {
     ghost use Rattle.miette_style.specs.rules.Styles.{plain};
 
-    /// The plain style.
+    /// Returns the plain style.
     pub fn new() -> Self
         ensures { result ≡ plain }
     {
@@ -55,14 +54,14 @@ impl Style {
         }
     }
 
-    /// Whether nothing is set, so that a text in this style is printed as it is.
+    /// Whether nothing is set. Text in a plain style is printed without escape sequences.
     pub fn is_plain(self) -> bool
         ensures { result ≡ is_nil (style_codes self) }
     {
         self.fg.is_none() && !self.bold && !self.dimmed && !self.italic && !self.underline
     }
 
-    /// This style in a colour, in place of the one that it had.
+    /// Sets the colour.
     pub fn color(self, color: Color) -> Self
         ensures { result ≡ record self { fg = Some color } }
     {
@@ -72,14 +71,14 @@ impl Style {
         }
     }
 
-    /// This style, bold.
+    /// Makes the style bold.
     pub fn bold(self) -> Self
         ensures { result ≡ record self { bold = true } }
     {
         Style { bold: true, ..self }
     }
 
-    /// This style, dimmed.
+    /// Makes the style dimmed.
     pub fn dimmed(self) -> Self
         ensures { result ≡ record self { dimmed = true } }
     {
@@ -89,7 +88,7 @@ impl Style {
         }
     }
 
-    /// This style, italic.
+    /// Makes the style italic.
     pub fn italic(self) -> Self
         ensures { result ≡ record self { italic = true } }
     {
@@ -99,7 +98,7 @@ impl Style {
         }
     }
 
-    /// This style, underlined.
+    /// Makes the style underlined.
     pub fn underline(self) -> Self
         ensures { result ≡ record self { underline = true } }
     {

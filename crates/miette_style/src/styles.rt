@@ -1,4 +1,4 @@
-//! The styles of which themes are made.
+//! The styles that themes use.
 
 use crate::style::{Color, Style};
 

@@ -1,50 +1,50 @@
-//! The characters and styles that a graphical report is drawn with.
+//! The characters and styles of graphical reports.
 
 use crate::style::{Color, Style};
 use crate::styles::{ANSI_HIGHLIGHTS, CYAN, DIMMED, NO_HIGHLIGHTS, PLAIN, RGB_HIGHLIGHTS};
 use std::alloc::{AllocError, Global};
 
-/// The characters of a drawing, and the icon before a message for each severity.
+/// The characters of a graphical report, and the icon of each severity.
 #[derive(Debug, PartialEq, Eq, Drop)]
 pub struct ThemeCharacters {
-    /// The line of frames, of arrows, and from a corner to a label's text.
+    /// The line of frames and arrows, and from a corner to a label text.
     pub hbar: char,
-    /// The bar after a line's number, beside the lines of a label, down to texts below, and under icons and arrows.
+    /// The bar after a line number, beside a multi-line label, down to label texts, and below icons and arrows.
     pub vbar: char,
-    /// Drawn nowhere.
+    /// Not used.
     pub xbar: char,
-    /// The bar in place of `vbar` on the rows under a line, which have no number.
+    /// Replaces `vbar` in the gutter of rows that have no line number.
     pub vbar_break: char,
-    /// The mark of an empty label.
+    /// The pointer of an empty label.
     pub uarrow: char,
     /// The head of arrows.
     pub rarrow: char,
-    /// The upper corner of a frame, and where a label of several lines starts.
+    /// The upper corner of a frame, and the start of a multi-line label.
     pub ltop: char,
-    /// Drawn nowhere.
+    /// Not used.
     pub mtop: char,
-    /// Drawn nowhere.
+    /// Not used.
     pub rtop: char,
-    /// The lower corner of a frame, where a label of several lines ends, before a label's text, and of the arrow to
-    /// the last cause or related report.
+    /// The lower corner of a frame, the end of a multi-line label, and the corner before a label text. Also the corner
+    /// of the arrow to the last cause or related report.
     pub lbot: char,
-    /// Drawn nowhere.
+    /// Not used.
     pub rbot: char,
-    /// Drawn nowhere.
+    /// Not used.
     pub mbot: char,
-    /// Drawn nowhere.
+    /// Not used.
     pub lbox: char,
-    /// Drawn nowhere.
+    /// Not used.
     pub rbox: char,
-    /// The corner of each other such arrow, and on the last line of a label of several lines whose text stands below.
+    /// The corner of the other arrows, and of the last line of a multi-line label whose text is below.
     pub lcross: char,
-    /// What stands before the first part of a label's text of several parts.
+    /// Precedes the first line of a label text with several lines.
     pub rcross: char,
-    /// The middle of the mark of a label that has a text and isn't empty.
+    /// The pointer of a label that has a text and isn't empty.
     pub underbar: char,
-    /// All other columns of marks.
+    /// The underline of all other columns of a label.
     pub underline: char,
-    /// The icon of an error, and where there is no severity.
+    /// The icon of an error, also used without a severity.
     pub error: String,
     /// The icon of a warning.
     pub warning: String,
@@ -57,10 +57,10 @@ impl ThemeCharacters {
     ghost use Rattle.miette_style.specs.rules.Themes.{ascii_characters, characters_of, emoji_characters};
     ghost use Rattle.miette_style.specs.rules.Themes.{unicode_characters};
 
-    /// Lines and arrows of Unicode.
+    /// Unicode lines and arrows.
     ///
     /// # Errors
-    /// Where no memory is found for the icons.
+    /// `AllocError` if allocation fails.
     #[tactic(auto, using(crate::proofs::Icons::icons))]
     pub fn unicode(alloc: Global) -> Result<Self, AllocError>
         ensures { IfOk result (λ it. characters_of it ≡ unicode_characters) }
@@ -90,10 +90,10 @@ impl ThemeCharacters {
         })
     }
 
-    /// As `unicode`, with pictures as icons.
+    /// Like `unicode`, with emoji as icons.
     ///
     /// # Errors
-    /// Where no memory is found for the icons.
+    /// `AllocError` if allocation fails.
     #[tactic(auto, using(crate::proofs::Icons::icons))]
     pub fn emoji(alloc: Global) -> Result<Self, AllocError>
         ensures { IfOk result (λ it. characters_of it ≡ emoji_characters) }
@@ -106,10 +106,10 @@ impl ThemeCharacters {
         })
     }
 
-    /// ASCII characters alone.
+    /// ASCII characters.
     ///
     /// # Errors
-    /// Where no memory is found for the icons.
+    /// `AllocError` if allocation fails.
     #[tactic(auto, using(crate::proofs::Icons::icons))]
     pub fn ascii(alloc: Global) -> Result<Self, AllocError>
         ensures { IfOk result (λ it. characters_of it ≡ ascii_characters) }
@@ -140,7 +140,7 @@ impl ThemeCharacters {
     }
 }
 
-// By hand, so that one line says what a clone keeps.
+// Written by hand, so that one contract states what a clone keeps.
 impl Clone for ThemeCharacters {
     ghost use Rattle.std.specs.Prelude.{◌≡◌};
     ghost use Rattle.miette_style.specs.rules.Themes.{characters_of};
@@ -157,24 +157,24 @@ impl Clone for ThemeCharacters {
     }
 }
 
-/// The styles of a graphical report. In order of offset, the labels take the styles of `highlights` in turn.
+/// The styles of a graphical report. Labels, sorted by offset, take the styles of `highlights` in turn.
 #[derive(Debug, Drop)]
 pub struct ThemeStyles {
-    /// The code, icon, bars and arrows of an error, and where there is no severity; the first words of a refused
-    /// label's row.
+    /// The code, icon, bars and arrows of an error, also used without a severity; and the first words of the row of a
+    /// label that could not be read.
     pub error: Style,
-    /// Those of a warning; the refusal's name in that row.
+    /// The same for a warning; and the name of the reason in that row.
     pub warning: Style,
-    /// Those of an advice.
+    /// The same for an advice.
     pub advice: Style,
-    /// What stands before a help text: `  help: `.
+    /// The text before a help text: `  help: `.
     pub help: Style,
-    /// The text of a link, a url that is text, what a named frame has in brackets; text, offset and length in a
-    /// refused label's row.
+    /// The text of a link, a printed URL, the name and position in a frame; and the text, offset and length in the row
+    /// of a label that could not be read.
     pub link: Style,
-    /// The number of a line, with the spaces that pad it.
+    /// A line number with its padding.
     pub linum: Style,
-    /// The gutters, marks and texts of labels; where the list is empty they are plain.
+    /// The gutters, underlines and texts of labels. If the list is empty, they are plain.
     pub highlights: Vec<Style>,
 }
 
@@ -182,10 +182,10 @@ impl ThemeStyles {
     ghost use Rattle.std.specs.Prelude.{◌≡◌, IfOk};
     ghost use Rattle.miette_style.specs.rules.Themes.{ansi_styles, no_styles, rgb_styles, styles_of};
 
-    /// Colours by their red, green and blue parts, for terminals that have 16 million.
+    /// RGB colours, for terminals with 16 million colours.
     ///
     /// # Errors
-    /// Where no memory is found for the list of highlights.
+    /// `AllocError` if allocation fails.
     pub fn rgb(alloc: Global) -> Result<Self, AllocError>
         ensures { IfOk result (λ it. styles_of it ≡ rgb_styles) }
     {
@@ -220,7 +220,7 @@ impl ThemeStyles {
     /// The terminal's own colours.
     ///
     /// # Errors
-    /// Where no memory is found for the list of highlights.
+    /// `AllocError` if allocation fails.
     pub fn ansi(alloc: Global) -> Result<Self, AllocError>
         ensures { IfOk result (λ it. styles_of it ≡ ansi_styles) }
     {
@@ -248,7 +248,7 @@ impl ThemeStyles {
     /// Plain styles.
     ///
     /// # Errors
-    /// Where no memory is found for the list of highlights.
+    /// `AllocError` if allocation fails.
     pub fn none(alloc: Global) -> Result<Self, AllocError>
         ensures { IfOk result (λ it. styles_of it ≡ no_styles) }
     {
@@ -278,33 +278,33 @@ impl Clone for ThemeStyles {
     }
 }
 
-/// What is known of the terminal that a text may go to, and what its user asks for.
+/// What is known about the terminal, and what the user asks for.
 #[derive(Debug, Drop)]
 pub struct Terminal {
-    /// How many columns it has, where that is known.
+    /// The width in columns, if known.
     pub width: Option<usize>,
-    /// Whether it has 16 million colours; nothing where it has no colours.
+    /// Whether the terminal has 16 million colours; `None` if it has no colours.
     pub color: Option<bool>,
-    /// Whether it draws characters of Unicode.
+    /// Whether the terminal draws Unicode characters.
     pub unicode: bool,
-    /// Whether it shows links.
+    /// Whether the terminal shows links.
     pub hyperlinks: bool,
-    /// Whether standard output goes to a terminal.
+    /// Whether standard output is a terminal.
     pub stdout_terminal: bool,
-    /// Whether standard error goes to a terminal.
+    /// Whether standard error is a terminal.
     pub stderr_terminal: bool,
-    /// What the user says of graphics, where they say something; `0` asks for them.
+    /// The value of `NO_GRAPHICS`, if set; `0` asks for graphics.
     pub no_graphics: Option<String>,
-    /// What the user says of colours, where they say something; all but `0` asks for none.
+    /// The value of `NO_COLOR`, if set; any value except `0` turns colours off.
     pub no_color: Option<String>,
 }
 
-/// How a graphical report looks: its characters and its styles.
+/// The look of a graphical report: its characters and styles.
 #[derive(Debug, Drop)]
 pub struct GraphicalTheme {
-    /// The characters of lines, arrows and marks, and the icons.
+    /// The characters of lines, arrows and underlines, and the icons.
     pub characters: ThemeCharacters,
-    /// The styles of a report's parts, and of its labels.
+    /// The styles of the parts of a report and of its labels.
     pub styles: ThemeStyles,
 }
 
@@ -319,51 +319,51 @@ impl GraphicalTheme {
         GraphicalTheme { characters, styles }
     }
 
-    /// ASCII characters, in the terminal's own colours.
+    /// ASCII characters in the terminal's own colours.
     ///
     /// # Errors
-    /// Where no memory is found for the icons and the highlights.
+    /// `AllocError` if allocation fails.
     pub fn ascii(alloc: Global) -> Result<Self, AllocError>
         ensures { IfOk result (λ it. theme_of it ≡ record { characters = ascii_characters; styles = ansi_styles }) }
     {
         Ok(Self::new(ThemeCharacters::ascii(alloc)?, ThemeStyles::ansi(alloc)?))
     }
 
-    /// Characters of Unicode, in the terminal's own colours.
+    /// Unicode characters in the terminal's own colours.
     ///
     /// # Errors
-    /// Where no memory is found for the icons and the highlights.
+    /// `AllocError` if allocation fails.
     pub fn unicode(alloc: Global) -> Result<Self, AllocError>
         ensures { IfOk result (λ it. theme_of it ≡ record { characters = unicode_characters; styles = ansi_styles }) }
     {
         Ok(Self::new(ThemeCharacters::unicode(alloc)?, ThemeStyles::ansi(alloc)?))
     }
 
-    /// Characters of Unicode, plain.
+    /// Unicode characters without colours.
     ///
     /// # Errors
-    /// Where no memory is found for the icons and the highlights.
+    /// `AllocError` if allocation fails.
     pub fn unicode_nocolor(alloc: Global) -> Result<Self, AllocError>
         ensures { IfOk result (λ it. theme_of it ≡ record { characters = unicode_characters; styles = no_styles }) }
     {
         Ok(Self::new(ThemeCharacters::unicode(alloc)?, ThemeStyles::none(alloc)?))
     }
 
-    /// ASCII characters, plain.
+    /// ASCII characters without colours.
     ///
     /// # Errors
-    /// Where no memory is found for the icons and the highlights.
+    /// `AllocError` if allocation fails.
     pub fn none(alloc: Global) -> Result<Self, AllocError>
         ensures { IfOk result (λ it. theme_of it ≡ record { characters = ascii_characters; styles = no_styles }) }
     {
         Ok(Self::new(ThemeCharacters::ascii(alloc)?, ThemeStyles::none(alloc)?))
     }
 
-    /// The theme that fits a terminal: `none` where standard output or standard error goes to none; else
-    /// `unicode_nocolor` where its user wants no colours; else `unicode`.
+    /// Returns the theme for a terminal: `none` if standard output or standard error isn't a terminal, else
+    /// `unicode_nocolor` if the user turned colours off, else `unicode`.
     ///
     /// # Errors
-    /// Where no memory is found for the icons and the highlights.
+    /// `AllocError` if allocation fails.
     pub fn for_terminal(alloc: Global, terminal: &Terminal) -> Result<Self, AllocError>
         ensures { IfOk result (λ it. theme_of it ≡ terminal_theme terminal.now) }
     {

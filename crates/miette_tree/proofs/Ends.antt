@@ -11,7 +11,7 @@ use Rattle.std.specs.Borrow.{Bor}
 use Rattle.miette_protocol.specs.views.Meaning.{Meaning}
 use Rattle.miette_protocol.specs.rules.Reading.{Source}
 use Rattle.miette_tree.specs.rules.Chain.{spine, spine_below, texts_below}
-use Rattle.miette_tree.specs.views.Report.{cause_shown}
+use Rattle.miette_tree.specs.views.Report.{cause_view}
 use Rattle.miette_tree.specs.declared.tree.Report.{Report}
 use Rattle.miette_tree.specs.declared.tree.Cause as shown
 use Rattle.miette_tree.specs.declared.tree.Cause.TheVariants as seen
@@ -84,7 +84,7 @@ whole_chain t count most kept e h f =
 
 -- a cause that shows no diagnostic
 pub no_diagnostic : {D S : Type 0} (means : D → Meaning) (is : S → Source) (r : shown.Cause D S) (c : Cause)
-    → cause_shown means is r ≡ c → ((x : Bor (Report D S)) → r ≡ seen.Diagnostic x → ⊥)
+    → cause_view means is r ≡ c → ((x : Bor (Report D S)) → r ≡ seen.Diagnostic x → ⊥)
     → (length (spine_below c) ≡ 0) × (texts_below c ≡ tail_below c)
 no_diagnostic means is seen.None c e f = subst (λ k. (length (spine_below k) ≡ 0) × (texts_below k ≡ tail_below k)) e
     (refl, refl)

@@ -9,7 +9,7 @@ use Rattle.miette_tree.specs.declared.tree.Cause as shown
 use Rattle.miette_tree.specs.declared.tree.Cause.TheVariants as seen
 use Rattle.miette_tree.specs.rules.Chain.{texts_below}
 use Rattle.miette_tree.specs.rules.Tree.{Tree, Cause, texts, more_trees, trees, effective}
-use Rattle.miette_tree.specs.views.Report.{cause_shown}
+use Rattle.miette_tree.specs.views.Report.{cause_view}
 
 -- a source that always reads, if there is one
 abbrev pub Reads : Option Source → Type 0
@@ -27,7 +27,7 @@ next_of value rs i d h is = ap (λ l. trees (map value l))
 
 -- a cause that is shown as no report has only texts
 pub texts_shown : {D S : Type 0} (means : D → Meaning) (is : S → Source) (r : shown.Cause D S) (c : Cause)
-    → cause_shown means is r ≡ c → ((x : Bor (Report D S)) → r ≡ seen.Diagnostic x → ⊥) →
+    → cause_view means is r ≡ c → ((x : Bor (Report D S)) → r ≡ seen.Diagnostic x → ⊥) →
     texts (texts_below c) ≡ c
 texts_shown means is seen.None c e f = subst (λ k. texts (texts_below k) ≡ k) e refl
 texts_shown means is (seen.Diagnostic x) c e f = absurd (f x refl)

@@ -6,12 +6,12 @@ use Rattle.std.proofs.lemmas.Bool.{cases_lt}
 use Rattle.std.proofs.lemmas.List.{take_all}
 use Rattle.miette_protocol.specs.declared.error.MietteError.{MietteError}
 use Rattle.miette_protocol.specs.declared.error.MietteError.TheVariants.{IoError, OutOfBounds}
-use Rattle.miette_protocol.specs.rules.Outcome.{Refuses}
+use Rattle.miette_protocol.specs.rules.Outcome.{IsReadError}
 use Rattle.miette_protocol.specs.rules.Reading.{Source, Span, Contents, contents_of, data_end, data_start, reading_end}
 use Rattle.miette_protocol.proofs.Wholes.{end_within, start_is, end_is}
-use Rattle.miette_source_lines.specs.rules.Lines.{line_of, line_start, line_end}
-use Rattle.miette_source_lines.proofs.Parts.{part_length}
-use Rattle.miette_source_lines.proofs.Places.{line_of_none, line_of_le, line_of_end, line_end_past, line_start_first}
+use Rattle.miette_lines.specs.rules.Lines.{line_of, line_start, line_end}
+use Rattle.miette_lines.proofs.Parts.{part_length}
+use Rattle.miette_lines.proofs.Places.{line_of_none, line_of_le, line_of_end, line_end_past, line_start_first}
 use Rattle.miette_tree.specs.rules.Reads.{MayMeet}
 
 -- the span that is read
@@ -60,7 +60,7 @@ read_whole source span contents bytes at gives is small =
     contents_whole source 1 span contents bytes start at gives is small
 
 -- a read that is refused meets a fault
-pub fault_met : (source : Source) (e : MietteError) → Refuses source nowhere e → source.always_reads ≡ false
+pub fault_met : (source : Source) (e : MietteError) → IsReadError source nowhere e → source.always_reads ≡ false
 fault_met source OutOfBounds h = absurd (h (record { begins = omega arith; ends = omega arith }))
 fault_met source (IoError x) h = h
 

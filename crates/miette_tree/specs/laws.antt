@@ -1,2 +1,2 @@
--- What holds of the rules.
+-- Definitions that theorems about the rules use.
 pub mod BothEnds

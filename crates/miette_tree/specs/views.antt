@@ -1,6 +1,6 @@
--- What the code's values stand for.
+-- What the values of the code represent.
 pub mod Owned
-pub mod Attached
+pub mod Attachments
 pub mod Kind
 pub mod Report
 pub mod RemainingChain

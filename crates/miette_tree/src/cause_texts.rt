@@ -1,13 +1,13 @@
-//! The texts that are a report's cause, with room in front of them.
+//! The cause texts of a report, with spare room in front.
 ghost use Rattle.std.specs.Prelude.{◌≡◌, ◌+◌, ◌<◌, ◌≤◌, [], ◌∷◌, ◌++◌, length, map, string_bytes};
 ghost use Rattle.std.specs.Prelude.{vec_len, vec_capacity, IfOk, OnOk, OnErr};
 ghost use Rattle.std.specs.List.{All};
 
-use miette_basics::sums::sum;
+use miette_lines::sums::sum;
 use std::alloc::{AllocError, Global};
 
-/// Texts, the nearest first. In the list as many empty texts stand in front of them as `start` says: one more
-/// text in front takes the place of the last of those, and no other text moves.
+/// Texts, the nearest cause first. The list begins with `start` empty texts. A text that is pushed in front replaces
+/// the last of them, so no other text moves.
 #[derive(Drop)]
 pub(crate) struct CauseTexts {
     list: Vec<String>,
@@ -18,23 +18,22 @@ pub(crate) struct CauseTexts {
 impl CauseTexts {
     ghost use Rattle.miette_tree.specs.rules.CauseTexts.{texts_in};
 
-    /// These texts, with no room in front of them.
+    /// Creates the list of these texts, without room in front.
     pub(crate) fn new(list: Vec<String>) -> CauseTexts
         ensures { texts_in result ≡ map string_bytes list.items }
     {
         CauseTexts { list, start: 0 }
     }
 
-    /// The texts.
+    /// Returns the texts.
     pub(crate) fn as_slice(&self) -> &[String]
         ensures { map string_bytes result.now ≡ texts_in self.now }
     {
         &self.list[self.start..]
     }
 
-    /// Puts a text in front. Where there is no room for it, all texts are moved, and room is made for as many more,
-    /// so that each text is moved a bounded number of times on the average. `AllocError` where memory for that is
-    /// refused; the texts are then as before.
+    /// Pushes a text in front. If there is no room, all texts move once and the list doubles, so a push takes constant
+    /// time on average. Returns `AllocError` if allocation fails; the texts are then unchanged.
     pub(crate) fn push_front(&mut self, alloc: Global, text: String) -> Result<(), AllocError>
         ensures ok { OnOk result (texts_in self.new ≡ string_bytes text ∷ texts_in self.old) }
         ensures err { OnErr result (self.new ≡ self.old) }
@@ -47,7 +46,7 @@ impl CauseTexts {
         Ok(())
     }
 
-    // Room in front for as many texts as there are, and for one more.
+    // Makes room in front for one text more than there are.
     fn make_room(&mut self, alloc: Global) -> Result<(), AllocError>
         requires none { self.old.start ≡ 0 }
         ensures ok { OnOk result (texts_in self.new ≡ texts_in self.old) }
@@ -65,7 +64,7 @@ impl CauseTexts {
     }
 }
 
-// `count` empty texts, with room after them for `more`.
+// Returns `count` empty texts, with capacity for `more` after them.
 fn empty_texts(alloc: Global, count: usize, more: usize) -> Result<Vec<String>, AllocError>
     ensures count { IfOk result (λ list. vec_len list ≡ count) }
     ensures empty { IfOk result (λ list. All (λ text. string_bytes text ≡ []) list.items) }
@@ -78,7 +77,7 @@ fn empty_texts(alloc: Global, count: usize, more: usize) -> Result<Vec<String>, 
     Ok(list)
 }
 
-/// Puts a copy of a text at the end of a list. `AllocError` where memory is refused.
+/// Appends a copy of a text to a list. Returns `AllocError` if allocation fails.
 pub(crate) fn push_copy(list: &mut Vec<String>, alloc: Global, text: &str) -> Result<(), AllocError>
     ensures { OnOk result (map string_bytes list.new.items ≡ map string_bytes list.old.items ++ text.now ∷ []) }
 {
@@ -87,7 +86,7 @@ pub(crate) fn push_copy(list: &mut Vec<String>, alloc: Global, text: &str) -> Re
     Ok(())
 }
 
-/// Puts copies of texts at the end of a list. `AllocError` where memory is refused.
+/// Appends copies of texts to a list. Returns `AllocError` if allocation fails.
 pub(crate) fn push_copies(
     list: &mut Vec<String>,
     alloc: Global,

@@ -1,4 +1,4 @@
-//! The messages of a report and its causes, from both ends.
+//! Iterates over the messages of a report and its causes, from either end.
 ghost use Rattle.std.specs.Prelude.{◌≡◌, ◌<◌, ◌≤◌, ◌+◌, ◌^◌, [], ◌∷◌, ◌++◌, length, map, take, string_bytes, Some};
 ghost use Rattle.std.specs.Prelude.{None};
 ghost use Rattle.std.specs.List.{last_or};
@@ -13,7 +13,7 @@ use miette_protocol::protocol::Diagnostic;
 use miette_protocol::source::SourceCode;
 use std::alloc::AllocError;
 
-/// What is left of a chain: the messages of at most `count` reports from `at` on, and the texts.
+/// An iterator over the messages of at most `count` reports, starting with `at`, and then over the texts.
 #[derive(Drop)]
 pub struct Chain<'a, D = Box<dyn Diagnostic>, S = Box<dyn SourceCode>> {
     at: Option<&'a Report<D, S>>,
@@ -22,7 +22,7 @@ pub struct Chain<'a, D = Box<dyn Diagnostic>, S = Box<dyn SourceCode>> {
     ghost small: { count + length texts.now < 2 ^ 64 },
 }
 
-/// The report that is a diagnostic cause.
+/// Returns the report that is the diagnostic cause, if there is one.
 fn cause_report<'a, D: Diagnostic, S: SourceCode>(
     report: &'a Report<D, S>,
 ) -> Option<&'a Report<D, S>>
@@ -35,7 +35,7 @@ fn cause_report<'a, D: Diagnostic, S: SourceCode>(
     }
 }
 
-/// The last message of at most `count` reports, and how many come before it.
+/// Returns the last message of at most `count` reports, and how many messages precede it.
 fn last_within<'a, D: Diagnostic, S: SourceCode>(
     report: &'a Report<D, S>,
     count: usize,
@@ -55,7 +55,7 @@ fn last_within<'a, D: Diagnostic, S: SourceCode>(
     (at.message(), count - 1)
 }
 
-/// How many reports there are from this one on, up to `count`.
+/// Counts the reports from this one on, up to `count`.
 fn count_within<D: Diagnostic, S: SourceCode>(report: &Report<D, S>, count: usize) -> usize
     ensures is { result ≡ length (take count (spine (tree_of D.meaning S.source report.now))) }
     ensures most { result ≤ count }
@@ -70,15 +70,15 @@ fn count_within<D: Diagnostic, S: SourceCode>(report: &Report<D, S>, count: usiz
     count
 }
 
-/// The first of what is left.
+/// Takes items from the front.
 impl<'a, D: Diagnostic, S: SourceCode> Iterator for Chain<'a, D, S> {
-    ghost use Rattle.miette_tree.specs.views.RemainingChain.{left_of};
+    ghost use Rattle.miette_tree.specs.views.RemainingChain.{remaining_chain};
 
     type Item = &'a str;
 
-    ghost next_gives = { YieldsFirstBy (λ x. x.now) (left_of D.meaning S.source) };
+    ghost next_gives = { YieldsFirstBy (λ x. x.now) (remaining_chain D.meaning S.source) };
 
-    ghost remaining = { item_count (left_of D.meaning S.source) };
+    ghost remaining = { item_count (remaining_chain D.meaning S.source) };
 
     fn next(&mut self) -> Option<&'a str> {
         if self.count > 0
@@ -98,11 +98,11 @@ impl<'a, D: Diagnostic, S: SourceCode> Iterator for Chain<'a, D, S> {
     }
 }
 
-/// The last of what is left.
+/// Takes items from the back.
 impl<'a, D: Diagnostic, S: SourceCode> DoubleEndedIterator for Chain<'a, D, S> {
-    ghost use Rattle.miette_tree.specs.views.RemainingChain.{left_of};
+    ghost use Rattle.miette_tree.specs.views.RemainingChain.{remaining_chain};
 
-    ghost next_back_gives = { YieldsLastBy (λ x. x.now) (left_of D.meaning S.source) };
+    ghost next_back_gives = { YieldsLastBy (λ x. x.now) (remaining_chain D.meaning S.source) };
 
     fn next_back(&mut self) -> Option<&'a str> {
         if let Some((last, rest)) = self.texts.split_last() {
@@ -120,7 +120,7 @@ impl<'a, D: Diagnostic, S: SourceCode> DoubleEndedIterator for Chain<'a, D, S> {
     }
 }
 
-/// How many items are left.
+/// Counts the items that are left.
 impl<'a, D: Diagnostic, S: SourceCode> ExactSizeIterator for Chain<'a, D, S> {
     fn len(&self) -> usize {
         match self.at {
@@ -130,11 +130,12 @@ impl<'a, D: Diagnostic, S: SourceCode> ExactSizeIterator for Chain<'a, D, S> {
     }
 }
 
-/// A clone stands at its place in the chain.
+/// A clone continues from the same position.
 impl<'a, D: Diagnostic, S: SourceCode> Clone for Chain<'a, D, S> {
-    ghost use Rattle.miette_tree.specs.views.RemainingChain.{left_of};
+    ghost use Rattle.miette_tree.specs.views.RemainingChain.{remaining_chain};
 
-    ghost is_clone = { λ chain made. left_of D.meaning S.source made ≡ left_of D.meaning S.source chain };
+    ghost is_clone = { λ chain made. remaining_chain D.meaning S.source made
+        ≡ remaining_chain D.meaning S.source chain };
 
     ghost is_infallible = { λ _. Unit {0} };
 
@@ -147,11 +148,11 @@ impl<'a, D: Diagnostic, S: SourceCode> Clone for Chain<'a, D, S> {
     }
 }
 
-/// The empty chain.
+/// An empty chain.
 impl<'a, D: Diagnostic, S: SourceCode> Default for Chain<'a, D, S> {
-    ghost use Rattle.miette_tree.specs.views.RemainingChain.{left_of};
+    ghost use Rattle.miette_tree.specs.views.RemainingChain.{remaining_chain};
 
-    ghost is_default = { λ chain. left_of D.meaning S.source chain ≡ [] };
+    ghost is_default = { λ chain. remaining_chain D.meaning S.source chain ≡ [] };
 
     fn default() -> Chain<'a, D, S> {
         Chain {
@@ -163,11 +164,13 @@ impl<'a, D: Diagnostic, S: SourceCode> Default for Chain<'a, D, S> {
 }
 
 impl<D: Diagnostic, S: SourceCode> Report<D, S> {
-    ghost use Rattle.miette_tree.specs.views.RemainingChain.{left_of};
+    ghost use Rattle.miette_tree.specs.views.RemainingChain.{remaining_chain};
 
-    /// The message and the causes' messages or texts, as many of them as a `usize` counts.
+    /// Returns an iterator over the message of the report and the messages or texts of its causes. It yields at most
+    /// `usize::MAX` items.
     pub fn chain(&self) -> Chain<'_, D, S>
-        ensures { left_of D.meaning S.source result ≡ take usize.MAX (chain_of (tree_of D.meaning S.source self.now)) }
+        ensures { remaining_chain D.meaning S.source result ≡ take usize.MAX (chain_of
+            (tree_of D.meaning S.source self.now)) }
     {
         let mut count = 1;
         let mut at = self;
@@ -191,8 +194,8 @@ impl<D: Diagnostic, S: SourceCode> Report<D, S> {
 }
 
 impl<D: Diagnostic, S: SourceCode> Report<D, S> {
-    /// The last of the chain: the text that is farthest from the report; else the message of its last
-    /// cause, which is its own message where it has no cause. Takes no memory.
+    /// Returns the last item of the chain: the farthest cause text, or else the message of the last diagnostic cause. A
+    /// report without a cause returns its own message. Does not allocate.
     pub fn root_cause(&self) -> &str
         ensures { last_or None (chain_of (tree_of D.meaning S.source self.now)) ≡ Some result.now }
     {
@@ -207,7 +210,7 @@ impl<D: Diagnostic, S: SourceCode> Report<D, S> {
     }
 }
 
-/// The causes of a report that are texts, none where its cause is a diagnostic.
+/// Returns the cause texts of a report. The list is empty if the cause is a diagnostic.
 pub fn cause_texts<D: Diagnostic, S: SourceCode>(report: &Report<D, S>) -> &[String]
     ensures { map string_bytes result.now ≡ texts_below (cause_of (tree_of D.meaning S.source report.now)) }
 {

@@ -1,4 +1,4 @@
-//! How reports are made: constructors and conversions.
+//! Constructors of reports, and conversions into them.
 ghost use Rattle.std.specs.Prelude.{◌≡◌, Some, IfOk};
 
 use crate::innermost::Innermost;
@@ -12,46 +12,45 @@ use std::alloc::{AllocError, AllocFailed, Global};
 use std::fmt;
 use std::fmt::Display;
 
-/// The report that users write as `Report`, over boxed diagnostics and sources. Where nothing else tells
-/// which boxes the report of a call holds, this bound does: so `Report::new(diagnostic)` and
-/// `value.wrap_err(alloc, "text")` need no type beside them.
-pub trait UsualBoxes {}
+/// Implemented by `Report` with its default type parameters only. As a bound it makes `Report::new(diagnostic)` and
+/// `value.wrap_err(alloc, "text")` work without type annotations.
+pub trait DefaultBoxes {}
 
-impl UsualBoxes for Report {}
+impl DefaultBoxes for Report {}
 
 /// Constructors.
 impl<D: Diagnostic, S: SourceCode> Report<D, S>
 where
-    Report<D, S>: UsualBoxes,
+    Report<D, S>: DefaultBoxes,
 {
     ghost use Rattle.miette_protocol.specs.views.Diagnostic.{meaning_of, message_alone};
     ghost use Rattle.miette_tree.specs.rules.Diagnosis.{plain_diagnosis};
-    ghost use Rattle.miette_tree.specs.rules.Tree.{alone};
+    ghost use Rattle.miette_tree.specs.rules.Tree.{single_report};
     ghost use Rattle.miette_tree.specs.views.Report.{tree_of};
     ghost use Rattle.miette_tree.specs.views.Kind.{kind_of, message, built, boxed};
     ghost use Rattle.miette_tree.specs.rules.WrapErr.{Prints};
 
-    /// The report of a plain diagnostic. Takes no memory.
+    /// Creates the report of a plain diagnostic. Does not allocate.
     pub fn new(diagnostic: MietteDiagnostic) -> Report<D, S>
-        ensures tree { tree_of D.meaning S.source result ≡ alone (plain_diagnosis (meaning_of diagnostic)) }
+        ensures tree { tree_of D.meaning S.source result ≡ single_report (plain_diagnosis (meaning_of diagnostic)) }
         ensures kind { kind_of result ≡ built diagnostic }
     {
         Report::built(diagnostic)
     }
 
-    /// The report of a boxed diagnostic. Takes no memory.
+    /// Creates the report of a boxed diagnostic. Does not allocate.
     pub fn new_boxed(diagnostic: D) -> Report<D, S>
-        ensures tree { tree_of D.meaning S.source result ≡ alone (plain_diagnosis (D.meaning diagnostic)) }
+        ensures tree { tree_of D.meaning S.source result ≡ single_report (plain_diagnosis (D.meaning diagnostic)) }
         ensures kind { kind_of result ≡ boxed diagnostic }
     {
         Report::from_innermost(Innermost::Boxed(diagnostic))
     }
 
-    /// The report of what a diagnostic says now: its texts and labels are copied. `AllocError` where
-    /// memory for the copies is refused.
+    /// Creates a report from a copy of the texts and labels that a diagnostic returns now. Returns `AllocError` if
+    /// allocation fails.
     pub fn copied<E: Diagnostic>(alloc: Global, error: &E) -> Result<Report<D, S>, AllocError>
         ensures tree { IfOk result (λ r. tree_of D.meaning S.source r
-            ≡ alone (plain_diagnosis (E.meaning error.now))) }
+            ≡ single_report (plain_diagnosis (E.meaning error.now))) }
         ensures kind { IfOk result (λ r. (copy : MietteDiagnostic) × (meaning_of copy ≡ E.meaning error.now)
             × (kind_of r ≡ built copy)) }
     {
@@ -59,17 +58,17 @@ where
         Ok(Report::built(copy))
     }
 
-    /// The report of a message alone. `AllocError` where memory for the copy is refused.
+    /// Creates a report with a message and nothing else. Returns `AllocError` if allocation fails.
     pub fn msg(alloc: Global, text: &str) -> Result<Report<D, S>, AllocError>
         ensures tree { IfOk result (λ r. tree_of D.meaning S.source r
-            ≡ alone (plain_diagnosis (message_alone text.now))) }
+            ≡ single_report (plain_diagnosis (message_alone text.now))) }
         ensures kind { IfOk result (λ r. kind_of r ≡ message) }
     {
         Ok(Report::of_text(String::from_str(alloc, text)?))
     }
 
-    /// The report of an error of any kind, which keeps its printed text alone. An error of the printing
-    /// itself counts as refused memory.
+    /// Creates a report from an error of any type; its printed text becomes the message. Returns `AllocError` if
+    /// allocation or printing fails.
     pub fn from_err<E: Display + Drop>(alloc: Global, error: E) -> Result<Report<D, S>, AllocError>
         ensures { IfOk result (Prints D.meaning S.source (E.output error)) }
     {
@@ -89,8 +88,7 @@ impl<D: Diagnostic, S: SourceCode> fmt::Display for Report<D, S> {
     }
 }
 
-/// Prints the message and the causes, joined by `: `, as a program does that returns a report from
-/// its `main`.
+/// Prints the message and the causes, joined by `: `. A program that returns a report from `main` prints this.
 impl<D: Diagnostic, S: SourceCode> fmt::Debug for Report<D, S> {
     ghost use Rattle.std.specs.Prelude.{true};
     ghost use Rattle.miette_tree.specs.rules.Display.{display_text};
@@ -104,15 +102,15 @@ impl<D: Diagnostic, S: SourceCode> fmt::Debug for Report<D, S> {
     }
 }
 
-/// The report of a plain diagnostic, as `Report::new`. Takes no memory.
+/// Like `Report::new`. Does not allocate.
 impl<D: Diagnostic, S: SourceCode> From<MietteDiagnostic> for Report<D, S> {
     ghost use Rattle.miette_protocol.specs.views.Diagnostic.{meaning_of};
     ghost use Rattle.miette_tree.specs.rules.Diagnosis.{plain_diagnosis};
-    ghost use Rattle.miette_tree.specs.rules.Tree.{alone};
+    ghost use Rattle.miette_tree.specs.rules.Tree.{single_report};
     ghost use Rattle.miette_tree.specs.views.Report.{tree_of};
     ghost use Rattle.miette_tree.specs.views.Kind.{kind_of, built};
 
-    ghost from_gives = { λ d r. (tree_of D.meaning S.source r ≡ alone (plain_diagnosis (meaning_of d))) ×
+    ghost from_gives = { λ d r. (tree_of D.meaning S.source r ≡ single_report (plain_diagnosis (meaning_of d))) ×
         (kind_of r ≡ built d) };
 
     fn from(diagnostic: MietteDiagnostic) -> Report<D, S> {
@@ -122,32 +120,32 @@ impl<D: Diagnostic, S: SourceCode> From<MietteDiagnostic> for Report<D, S> {
 
 /// The message is `memory allocation failed`.
 impl<D: Diagnostic, S: SourceCode> From<AllocError> for Report<D, S> {
-    ghost use Rattle.miette_tree.specs.rules.WrapErr.{IsRefused};
+    ghost use Rattle.miette_tree.specs.rules.WrapErr.{IsOutOfMemory};
 
-    ghost from_gives = { λ _ r. IsRefused D.meaning S.source r };
+    ghost from_gives = { λ _ r. IsOutOfMemory D.meaning S.source r };
 
     fn from(_refused: AllocError) -> Report<D, S> {
         Report::from_innermost(Innermost::OutOfMemory)
     }
 }
 
-/// As of an `AllocError`; the value that was not stored is dropped.
+/// As for `AllocError`. The value that could not be stored is dropped.
 impl<T: Drop, D: Diagnostic, S: SourceCode> From<AllocFailed<T>> for Report<D, S> {
-    ghost use Rattle.miette_tree.specs.rules.WrapErr.{IsRefused};
+    ghost use Rattle.miette_tree.specs.rules.WrapErr.{IsOutOfMemory};
 
-    ghost from_gives = { λ _ r. IsRefused D.meaning S.source r };
+    ghost from_gives = { λ _ r. IsOutOfMemory D.meaning S.source r };
 
     fn from(_refused: AllocFailed<T>) -> Report<D, S> {
         Report::from_innermost(Innermost::OutOfMemory)
     }
 }
 
-/// A report that was not written: as of an `AllocError`, or the message is what the error prints.
-/// Takes no memory.
+/// The report of a rendering error: as for `AllocError` if allocation failed, else the message is the error's text.
+/// Does not allocate.
 impl<D: Diagnostic, S: SourceCode> From<RenderError> for Report<D, S> {
-    ghost use Rattle.miette_tree.specs.rules.WrapErr.{IsUnwritten};
+    ghost use Rattle.miette_tree.specs.rules.WrapErr.{IsRenderFailure};
 
-    ghost from_gives = { λ error r. IsUnwritten D.meaning S.source error r };
+    ghost from_gives = { λ error r. IsRenderFailure D.meaning S.source error r };
 
     fn from(error: RenderError) -> Report<D, S> {
         match error {

@@ -1,4 +1,4 @@
-//! What a report was made of.
+//! The error that a report was created from.
 ghost use Rattle.std.specs.Prelude.{◌≡◌};
 ghost use Rattle.std.specs.Option.{option_copied};
 
@@ -6,7 +6,7 @@ use miette_protocol::diagnostic::MietteDiagnostic;
 use miette_protocol::error::RenderError;
 use miette_protocol::protocol::{Diagnostic, LabeledSpan, Severity};
 
-/// The error that a report was made of, below the messages that were put in front of it.
+/// The error that a report was created from, without the messages that `wrap_err` added.
 #[derive(Drop)]
 pub(crate) enum Innermost<D> {
     Message(String),
@@ -16,21 +16,20 @@ pub(crate) enum Innermost<D> {
     OutOfMemory,
 }
 
-/// What a report was made of: what `Report::kind` shows of the innermost error, whatever messages
-/// were put in front of it.
+/// What a report was created from, as `Report::kind` returns it. Messages that `wrap_err` added do not change it.
 #[derive_where(Clone, Copy)]
 pub enum ReportKind<'a, D = Box<dyn Diagnostic>> {
-    /// A message alone.
+    /// A message and nothing else.
     Message,
-    /// A diagnostic that is plain data.
+    /// A plain diagnostic.
     Built(&'a MietteDiagnostic),
-    /// A diagnostic in a box.
+    /// A boxed diagnostic.
     Boxed(&'a D),
-    /// Memory that was refused.
+    /// An allocation failure.
     OutOfMemory,
 }
 
-// What a diagnostic says of itself: nothing where there is none.
+// Forwards a getter to the diagnostic. Returns `None` if there is no diagnostic.
 macro_rules! diagnostic_part {
     ($innermost:expr, $part:ident) => {
         match $innermost {
@@ -43,7 +42,7 @@ macro_rules! diagnostic_part {
 
 impl<D: Diagnostic> Innermost<D> {
     ghost use Rattle.miette_tree.specs.views.Report.{innermost_meaning};
-    ghost use Rattle.miette_tree.specs.views.Kind.{innermost_kind, kind_shown};
+    ghost use Rattle.miette_tree.specs.views.Kind.{innermost_kind, kind_view};
 
     pub(crate) fn message(&self) -> &str
         ensures { result.now ≡ (innermost_meaning D.meaning self.now).message }
@@ -88,7 +87,7 @@ impl<D: Diagnostic> Innermost<D> {
     }
 
     pub(crate) fn kind(&self) -> ReportKind<'_, D>
-        ensures { kind_shown result ≡ innermost_kind self.now }
+        ensures { kind_view result ≡ innermost_kind self.now }
     {
         match self {
             Innermost::Message(_) | Innermost::Unwritten(_) => ReportKind::Message,

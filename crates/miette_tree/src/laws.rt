@@ -1,8 +1,8 @@
-//! Laws of chains, on their calls, and of copies. The functions do nothing; what they ensure is proved.
+//! Theorems about chains and clones. The functions do nothing; their contracts are the theorems.
 ghost use Rattle.std.specs.Prelude.{◌≡◌, List, ◌++◌, map, reverse};
 ghost use Rattle.std.specs.Iterator.{Drains};
 ghost use Rattle.miette_tree.specs.laws.BothEnds.{EndItem, Gives, front_of, back_of};
-ghost use Rattle.miette_tree.specs.views.RemainingChain.{left_of};
+ghost use Rattle.miette_tree.specs.views.RemainingChain.{remaining_chain};
 ghost use Rattle.miette_tree.specs.declared.chain.Chain.{Chain};
 ghost use Rattle.miette_tree.specs.declared.innermost.ReportKind.{ReportKind};
 ghost use Rattle.miette_tree.specs.declared.owned.SourceRef.{SourceRef};
@@ -15,25 +15,24 @@ use crate::tree::Cause;
 use miette_protocol::protocol::Diagnostic;
 use miette_protocol::source::SourceCode;
 
-/// Whatever calls of `next` and `next_back` gave, in any order, each item of the chain comes once: those
-/// given in front in order, then those that are left, then those given at the back. `next` to the end gives
-/// the chain, and `next_back` to the end gives it in reverse.
+/// After any sequence of `next` and `next_back` calls, each item of the chain occurs exactly once: first the items
+/// taken from the front, then those that are left, then those taken from the back. Calling `next` until the end yields
+/// the chain; calling `next_back` yields it in reverse.
 pub fn chains_from_both_ends<D: Diagnostic + 'static, S: SourceCode + 'static>()
     ensures once { (chain later : Chain D S) (taken : List (EndItem _))
         → Gives ⟦<Chain<'static, D, S> as Iterator>⟧.next_gives
         ⟦<Chain<'static, D, S> as DoubleEndedIterator>⟧.next_back_gives chain taken later
-        → left_of D.meaning S.source chain ≡ front_of (λ x. x.now) taken
-        ++ (left_of D.meaning S.source later ++ back_of (λ x. x.now) taken) }
+        → remaining_chain D.meaning S.source chain ≡ front_of (λ x. x.now) taken
+        ++ (remaining_chain D.meaning S.source later ++ back_of (λ x. x.now) taken) }
     ensures front { (chain : Chain D S) (items : List _)
         → Drains ⟦<Chain<'static, D, S> as Iterator>⟧.next_gives chain items →
-        map (λ x. x.now) items ≡ left_of D.meaning S.source chain }
+        map (λ x. x.now) items ≡ remaining_chain D.meaning S.source chain }
     ensures back { (chain : Chain D S) (items : List _)
         → Drains ⟦<Chain<'static, D, S> as DoubleEndedIterator>⟧.next_back_gives chain items →
-        map (λ x. x.now) items ≡ reverse (left_of D.meaning S.source chain) }
+        map (λ x. x.now) items ≡ reverse (remaining_chain D.meaning S.source chain) }
 {}
 
-/// A clone of a cause, of what a report was made of, or of a source that is borrowed is the same, and takes no memory:
-/// no such clone is refused.
+/// Cloning a cause, a kind or a borrowed source returns an equal value and never fails.
 pub fn clones_take_no_memory<D: Diagnostic + 'static, S: SourceCode + 'static>()
     ensures same_causes { (a b : Cause D S) → ⟦<Cause<'static, D, S> as Clone>⟧.is_clone a b → b ≡ a }
     ensures same_kinds { (a b : ReportKind D) → ⟦<ReportKind<'static, D> as Clone>⟧.is_clone a b → b ≡ a }

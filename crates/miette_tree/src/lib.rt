@@ -1,8 +1,8 @@
-//! Reports: errors with their messages, places, sources and causes, kept in a tree.
+//! Reports: errors with messages, labels, sources, causes and related reports.
 #![tactic(auto)]
 
-mod attached;
-mod attaching;
+mod attach;
+mod attachments;
 mod cause_texts;
 mod chain;
 mod constructors;
@@ -16,4 +16,4 @@ pub mod report;
 pub mod report_handler;
 pub mod text_handler;
 mod tree;
-mod wrap;
+mod wrap_err;

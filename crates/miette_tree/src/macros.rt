@@ -1,12 +1,12 @@
-//! Diagnostics and reports from a format text.
+//! Macros that create diagnostics and reports from a format string.
 //!
-//! Each macro begins with `in alloc;`, as `format!` does. Before the format text stand keys, each with a
-//! value: `code`, `help` and `url` (a `&str`), `severity` (a `Severity`), `labels` (a `Vec<LabeledSpan>`). `label` and
-//! `primary` give one label more, as a span and a `&str`: `primary = ((9, 4), "here")`.
+//! Each macro begins with `in alloc;`, as `format!` does. Keys with values precede the format string: `code`, `help`
+//! and `url` (a `&str`), `severity` (a `Severity`), `labels` (a `Vec<LabeledSpan>`). `label` and `primary` add one
+//! label, given as a span and a `&str`: `primary = ((9, 4), "here")`.
 
 pub use miette_protocol::diagnostic::MietteDiagnostic;
 
-/// A diagnostic, as a `Result<MietteDiagnostic, AllocError>`:
+/// Creates a diagnostic, as a `Result<MietteDiagnostic, AllocError>`:
 /// `diagnostic!(in alloc; code = "math::bad", "{x} + {} = {z}", y, z = x + y)`.
 #[macro_export]
 macro_rules! diagnostic {
@@ -30,7 +30,7 @@ macro_rules! diagnostic {
     }};
 }
 
-/// A diagnostic with one more key. Written by `diagnostic!` alone.
+/// Adds one key to a diagnostic. Only `diagnostic!` expands to it.
 #[macro_export]
 macro_rules! diagnostic_with {
     ($alloc:expr, $diagnostic:ident, code, $value:expr) => {
@@ -58,8 +58,8 @@ macro_rules! diagnostic_with {
     }};
 }
 
-/// A report of such a diagnostic; where memory is refused, the report of an `AllocError`. Further keys are `snippets`
-/// (a `Vec<Snippets>`) and `fixes` (a `Vec<Fix>`).
+/// Creates a report of such a diagnostic, or the report of an `AllocError` if allocation fails. It takes two more keys:
+/// `snippets` (a `Vec<Snippets>`) and `fixes` (a `Vec<Fix>`).
 #[macro_export]
 macro_rules! miette {
     (in $alloc:expr; $($arg:tt)+) => {
@@ -67,7 +67,7 @@ macro_rules! miette {
     };
 }
 
-/// A report, whose own keys and those of its diagnostic are told apart. Written by `miette!` alone.
+/// Creates a report and separates its own keys from those of its diagnostic. Only `miette!` expands to it.
 #[macro_export]
 macro_rules! report_of {
     ($alloc:expr; [$($own:tt)*] [$($said:tt)*] snippets = $value:expr, $($arg:tt)+) => {
@@ -101,7 +101,7 @@ macro_rules! report_of {
     }};
 }
 
-/// A report with one more key. Written by `miette!` alone.
+/// Adds one key to a report. Only `miette!` expands to it.
 #[macro_export]
 macro_rules! report_with {
     ($alloc:expr, $report:ident, snippets, $value:expr) => {
@@ -112,7 +112,7 @@ macro_rules! report_with {
     };
 }
 
-/// Returns such a report as the error of the function.
+/// Returns such a report as the error of the enclosing function.
 #[macro_export]
 macro_rules! bail {
     ($($arg:tt)+) => {
@@ -120,7 +120,7 @@ macro_rules! bail {
     };
 }
 
-/// Returns such a report as the error of the function where a condition is false:
+/// Returns such a report as the error of the enclosing function if a condition is false:
 /// `ensure!(in alloc; n < 10, "{n} is too much")`.
 #[macro_export]
 macro_rules! ensure {

@@ -1,4 +1,4 @@
-//! The messages of a report's causes, written one after another.
+//! Writes the messages of a report's causes.
 
 ghost use Rattle.std.specs.Prelude.{◌∷◌, map, string_bytes};
 ghost use Rattle.std.specs.Fmt.{WritesOnOk};
@@ -12,7 +12,7 @@ use miette_protocol::protocol::Diagnostic;
 use miette_protocol::source::SourceCode;
 use std::fmt;
 
-/// Writes the causes of a report, each with `: ` in front.
+/// Writes the causes of a report, each after `: `.
 pub(crate) fn write_causes<D: Diagnostic, S: SourceCode, W: fmt::Write>(
     f: &mut fmt::Formatter<W>,
     report: &Report<D, S>,
@@ -28,7 +28,7 @@ pub(crate) fn write_causes<D: Diagnostic, S: SourceCode, W: fmt::Write>(
     write_each_after_colon(f, cause_texts(at))
 }
 
-/// Writes a text with `: ` in front.
+/// Writes a text after `: `.
 fn write_after_colon<W: fmt::Write>(f: &mut fmt::Formatter<W>, text: &str) -> fmt::Result
     ensures { WritesOnOk W.write_str_gives f.old result (58 ∷ 32 ∷ text.now) f.new }
 {
@@ -36,7 +36,7 @@ fn write_after_colon<W: fmt::Write>(f: &mut fmt::Formatter<W>, text: &str) -> fm
     f.write_str(text)
 }
 
-/// Writes texts, each with `: ` in front.
+/// Writes texts, each after `: `.
 fn write_each_after_colon<W: fmt::Write>(f: &mut fmt::Formatter<W>, texts: &[String]) -> fmt::Result
     ensures { WritesOnOk W.write_str_gives f.old result (after_colons (map string_bytes texts.now)) f.new }
 {

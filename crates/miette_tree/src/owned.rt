@@ -1,31 +1,31 @@
-//! Sources that a report owns, and the place where it keeps its source.
+//! Sources that a report owns, and the field that holds a report's source.
 ghost use Rattle.std.specs.Prelude.{◌≡◌, Some, IfOk};
 ghost use Rattle.std.specs.Option.{option_copied};
 ghost use Rattle.miette_protocol.specs.rules.Reading.{plain_source, named_source};
 ghost use Rattle.miette_protocol.specs.rules.Outcome.{Answers};
-ghost use Rattle.miette_source_lines.specs.views.Known.{IsKnown};
+ghost use Rattle.miette_lines.specs.views.Known.{IsKnown};
 
 use miette_protocol::protocol::SourceSpan;
 use miette_protocol::source::{IndexedSource, KnownLines, NamedSource, ReadResult, SourceCode};
 use std::alloc::{AllocError, Global};
 use std::rc::Rc;
 
-/// Bytes, whose lines are counted for each read, or found once, by an index.
+/// Bytes, with a line index or without one.
 #[derive(Drop)]
-enum Bytes {
-    Bare(Vec<u8>),
+enum SourceBytes {
+    Unindexed(Vec<u8>),
     Indexed(IndexedSource),
 }
 
-impl SourceCode for Bytes {
+impl SourceCode for SourceBytes {
     ghost use Rattle.miette_tree.specs.views.Owned.{bytes_in};
 
     ghost source = { λ it. plain_source (bytes_in it) };
 
     fn read_span(&self, span: &SourceSpan, before: usize, after: usize) -> ReadResult<'_> {
         match self {
-            Bytes::Bare(bytes) => bytes.read_span(span, before, after),
-            Bytes::Indexed(source) => source.read_span(span, before, after),
+            SourceBytes::Unindexed(bytes) => bytes.read_span(span, before, after),
+            SourceBytes::Indexed(source) => source.read_span(span, before, after),
         }
     }
 
@@ -37,48 +37,50 @@ impl SourceCode for Bytes {
         after: usize,
     ) -> ReadResult<'_> {
         match self {
-            Bytes::Bare(bytes) => bytes.read_span_near(known, span, before, after),
-            Bytes::Indexed(source) => source.read_span_near(known, span, before, after),
+            SourceBytes::Unindexed(bytes) => bytes.read_span_near(known, span, before, after),
+            SourceBytes::Indexed(source) => source.read_span_near(known, span, before, after),
         }
     }
 }
 
-/// Bytes with a name or without one.
+/// Bytes, with a name or without one.
 #[derive(Drop)]
-enum Held {
-    Plain(Bytes),
-    Named(NamedSource<Bytes>),
+enum SourceStorage {
+    Plain(SourceBytes),
+    Named(NamedSource<SourceBytes>),
 }
 
-/// A source that owns its bytes. What it keeps lies in a place of its own, so that a report that holds it, or none, is
-/// small, and that reports over one file can share it. It always reads. An index is one pass over all bytes, and finds
-/// any line: it pays where several reports lie over a source, or one has fixes or many labels. A source without one
-/// (`unindexed`, `named_unindexed`) counts lines for each read: the labels of one report by one pass up to the last of
-/// them, where each goes through its own lines. That pays for a single report with a few labels.
+/// A source that owns its bytes. Clones made by `share` use the same bytes. Reading never fails.
+///
+/// `new` and `named` build a line index in one pass over the bytes; after that any line is found quickly. Use them if
+/// several reports share the source, or if a report has fixes or many labels.
+///
+/// `unindexed` and `named_unindexed` build no index. The labels of a report are then read in one pass up to the last
+/// label. Use them for a single report with a few labels.
 #[derive(Drop)]
 pub struct OwnedSource {
-    held: Rc<Held>,
+    storage: Rc<SourceStorage>,
 }
 
 impl OwnedSource {
-    ghost use Rattle.miette_tree.specs.views.Owned.{bytes_in, held_source, owned_source};
+    ghost use Rattle.miette_tree.specs.views.Owned.{bytes_in, storage_source, owned_source};
 
-    // What it keeps, in a place of its own.
-    fn of_held(alloc: Global, held: Held) -> Result<OwnedSource, AllocError>
-        ensures { IfOk result (λ it. owned_source it ≡ held_source held) }
+    // Moves the storage into a reference-counted box.
+    fn from_storage(alloc: Global, storage: SourceStorage) -> Result<OwnedSource, AllocError>
+        ensures { IfOk result (λ it. owned_source it ≡ storage_source storage) }
     {
-        match Rc::new(alloc, held) {
-            Ok(held) => Ok(OwnedSource { held }),
+        match Rc::new(alloc, storage) {
+            Ok(storage) => Ok(OwnedSource { storage }),
             Err(_) => Err(AllocError),
         }
     }
 
-    // Bytes with a name, and with a language where one is given.
+    // Names the bytes, and gives them a language if there is one.
     fn with_name(
         alloc: Global,
         name: &str,
         language: Option<&str>,
-        bytes: Bytes,
+        bytes: SourceBytes,
     ) -> Result<OwnedSource, AllocError>
         ensures { IfOk result (λ it. owned_source it
             ≡ named_source (plain_source (bytes_in bytes)) name.now (option_copied language.entry)) }
@@ -88,27 +90,27 @@ impl OwnedSource {
             Some(language) => source.with_language(alloc, language)?,
             None => source,
         };
-        OwnedSource::of_held(alloc, Held::Named(source))
+        OwnedSource::from_storage(alloc, SourceStorage::Named(source))
     }
 
-    /// These bytes, with no name and no language. `AllocError` where there is no memory for the place of what it keeps,
-    /// or for the index; the bytes are then dropped.
+    /// Creates a source without name and language, with a line index. Returns `AllocError` if allocation fails; the
+    /// bytes are then dropped.
     pub fn new(alloc: Global, bytes: Vec<u8>) -> Result<OwnedSource, AllocError>
         ensures { IfOk result (λ it. owned_source it ≡ plain_source bytes.items) }
     {
         let source = IndexedSource::new(alloc, bytes)?;
-        OwnedSource::of_held(alloc, Held::Plain(Bytes::Indexed(source)))
+        OwnedSource::from_storage(alloc, SourceStorage::Plain(SourceBytes::Indexed(source)))
     }
 
-    /// The same, without an index of their lines.
+    /// Like `new`, without a line index.
     pub fn unindexed(alloc: Global, bytes: Vec<u8>) -> Result<OwnedSource, AllocError>
         ensures { IfOk result (λ it. owned_source it ≡ plain_source bytes.items) }
     {
-        OwnedSource::of_held(alloc, Held::Plain(Bytes::Bare(bytes)))
+        OwnedSource::from_storage(alloc, SourceStorage::Plain(SourceBytes::Unindexed(bytes)))
     }
 
-    /// These bytes, with a name, and with a language where one is given. `AllocError` where there is no memory
-    /// for the place of what it keeps, the index, the name or the language; the bytes are then dropped.
+    /// Creates a source with a name, a language if given, and a line index. Returns `AllocError` if allocation fails;
+    /// the bytes are then dropped.
     pub fn named(
         alloc: Global,
         name: &str,
@@ -119,10 +121,10 @@ impl OwnedSource {
             ≡ named_source (plain_source bytes.items) name.now (option_copied language.entry)) }
     {
         let source = IndexedSource::new(alloc, bytes)?;
-        OwnedSource::with_name(alloc, name, language, Bytes::Indexed(source))
+        OwnedSource::with_name(alloc, name, language, SourceBytes::Indexed(source))
     }
 
-    /// The same, without an index of their lines.
+    /// Like `named`, without a line index.
     pub fn named_unindexed(
         alloc: Global,
         name: &str,
@@ -132,29 +134,29 @@ impl OwnedSource {
         ensures { IfOk result (λ it. owned_source it
             ≡ named_source (plain_source bytes.items) name.now (option_copied language.entry)) }
     {
-        OwnedSource::with_name(alloc, name, language, Bytes::Bare(bytes))
+        OwnedSource::with_name(alloc, name, language, SourceBytes::Unindexed(bytes))
     }
 
-    /// The same source once more. Bytes and index are shared, and stay as long as one of the sources does. It takes no
-    /// memory: `AllocError` comes only where the largest `usize` is too small to count the sources.
+    /// Returns another handle to the same bytes and index. They are freed with the last handle. Does not allocate;
+    /// returns `AllocError` only if there are `usize::MAX` handles.
     pub fn share(&self) -> Result<OwnedSource, AllocError>
         ensures { IfOk result (λ it. owned_source it ≡ owned_source self.now) }
     {
-        let held = self.held.clone()?;
-        Ok(OwnedSource { held })
+        let storage = self.storage.clone()?;
+        Ok(OwnedSource { storage })
     }
 }
 
-/// Takes no memory.
+/// Does not allocate.
 impl SourceCode for OwnedSource {
     ghost use Rattle.miette_tree.specs.views.Owned.{owned_source};
 
     ghost source = { owned_source };
 
     fn read_span(&self, span: &SourceSpan, before: usize, after: usize) -> ReadResult<'_> {
-        match &*self.held {
-            Held::Plain(source) => source.read_span(span, before, after),
-            Held::Named(source) => source.read_span(span, before, after),
+        match &*self.storage {
+            SourceStorage::Plain(source) => source.read_span(span, before, after),
+            SourceStorage::Named(source) => source.read_span(span, before, after),
         }
     }
 
@@ -165,28 +167,28 @@ impl SourceCode for OwnedSource {
         before: usize,
         after: usize,
     ) -> ReadResult<'_> {
-        match &*self.held {
-            Held::Plain(source) => source.read_span_near(known, span, before, after),
-            Held::Named(source) => source.read_span_near(known, span, before, after),
+        match &*self.storage {
+            SourceStorage::Plain(source) => source.read_span_near(known, span, before, after),
+            SourceStorage::Named(source) => source.read_span_near(known, span, before, after),
         }
     }
 }
 
-/// The source of a report: one that was given in a box, or an owned one.
+/// The source of a report: boxed or owned.
 #[derive(Drop)]
-pub(crate) enum OwnSource<S> {
+pub(crate) enum ReportSource<S> {
     Boxed(S),
     Owned(OwnedSource),
 }
 
-/// The source of a report, borrowed: a reference to the place where the report keeps it.
+/// A borrowed source of a report.
 #[derive_where(Clone, Copy)]
 pub struct SourceRef<'a, S = Box<dyn SourceCode>> {
-    place: &'a OwnSource<S>,
+    place: &'a ReportSource<S>,
 }
 
 impl<'a, S> SourceRef<'a, S> {
-    pub(crate) fn to(place: &'a OwnSource<S>) -> SourceRef<'a, S>
+    pub(crate) fn to(place: &'a ReportSource<S>) -> SourceRef<'a, S>
         ensures { result.place.now ≡ place.now }
     {
         SourceRef { place }
@@ -194,21 +196,21 @@ impl<'a, S> SourceRef<'a, S> {
 }
 
 impl<'a, S: SourceCode> SourceRef<'a, S> {
-    ghost use Rattle.miette_tree.specs.views.Owned.{shown_source};
+    ghost use Rattle.miette_tree.specs.views.Owned.{ref_source};
 
-    /// Reads a span of the source with `before` lines of context before it and `after` lines after it. Takes
-    /// memory only where the source does. The data, name and language are borrowed from the report. The errors are
-    /// those of `SourceCode::read_span`; an owned source never answers `IoError`.
+    /// Reads a span of the source with `before` lines of context before it and `after` lines after it. The data, name
+    /// and language are borrowed from the report. Allocates only if the source does. Errors are those of
+    /// `SourceCode::read_span`; an owned source never returns `IoError`.
     pub fn read_span(self, span: &SourceSpan, before: usize, after: usize) -> ReadResult<'a>
-        ensures { Answers (shown_source S.source self.entry) span.now before after result }
+        ensures { Answers (ref_source S.source self.entry) span.now before after result }
     {
         match self.place {
-            OwnSource::Boxed(source) => source.read_span(span, before, after),
-            OwnSource::Owned(source) => source.read_span(span, before, after),
+            ReportSource::Boxed(source) => source.read_span(span, before, after),
+            ReportSource::Owned(source) => source.read_span(span, before, after),
         }
     }
 
-    /// The same, where the lines of two offsets are known.
+    /// Like `read_span`, for callers that know the lines of two offsets.
     pub fn read_span_near(
         self,
         known: KnownLines,
@@ -216,22 +218,22 @@ impl<'a, S: SourceCode> SourceRef<'a, S> {
         before: usize,
         after: usize,
     ) -> ReadResult<'a>
-        requires first { IsKnown (shown_source S.source self).bytes known.first }
-        requires last { IsKnown (shown_source S.source self).bytes known.last }
-        ensures { Answers (shown_source S.source self.entry) span.now before after result }
+        requires first { IsKnown (ref_source S.source self).bytes known.first }
+        requires last { IsKnown (ref_source S.source self).bytes known.last }
+        ensures { Answers (ref_source S.source self.entry) span.now before after result }
     {
         match self.place {
-            OwnSource::Boxed(source) => source.read_span_near(known, span, before, after),
-            OwnSource::Owned(source) => source.read_span_near(known, span, before, after),
+            ReportSource::Boxed(source) => source.read_span_near(known, span, before, after),
+            ReportSource::Owned(source) => source.read_span_near(known, span, before, after),
         }
     }
 }
 
-/// A borrowed source reads as the source that it shows.
+/// Reads from the source that it borrows.
 impl<'a, S: SourceCode> SourceCode for SourceRef<'a, S> {
-    ghost use Rattle.miette_tree.specs.views.Owned.{shown_source};
+    ghost use Rattle.miette_tree.specs.views.Owned.{ref_source};
 
-    ghost source = { shown_source S.source };
+    ghost source = { ref_source S.source };
 
     fn read_span(&self, span: &SourceSpan, before: usize, after: usize) -> ReadResult<'_> {
         SourceRef::read_span(*self, span, before, after)

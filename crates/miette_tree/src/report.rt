@@ -1,12 +1,12 @@
-//! Reports: an error with its message, places, source and causes, and reports that are related to it.
+//! Reports: an error with its message, labels, source, causes and related reports.
 
-pub use crate::attached::Snippets;
+pub use crate::attachments::Snippets;
 pub use crate::chain::Chain;
-pub use crate::constructors::UsualBoxes;
+pub use crate::constructors::DefaultBoxes;
 pub use crate::innermost::ReportKind;
 pub use crate::owned::{OwnedSource, SourceRef};
 pub use crate::tree::{Cause, Report};
-pub use crate::wrap::{IntoDiagnostic, WrapErr, WrapErr as Context};
+pub use crate::wrap_err::{IntoDiagnostic, WrapErr, WrapErr as Context};
 
-/// A result whose error is a report, unless another type is given.
+/// A result whose error is a `Report` by default.
 pub type Result<T, E = Report> = std::result::Result<T, E>;

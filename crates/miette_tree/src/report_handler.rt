@@ -1,4 +1,4 @@
-//! What every handler offers.
+//! The trait of all handlers.
 
 ghost use Rattle.std.specs.Prelude.{◌≡◌, ◌++◌, List, ℕ, IfOk, OnOk, OnErr, string_bytes};
 ghost use Rattle.miette_tree.specs.rules.Tree.{Tree};
@@ -12,25 +12,27 @@ use miette_protocol::protocol::Diagnostic;
 use miette_protocol::source::SourceCode;
 use std::alloc::{AllocError, Global};
 
-/// A handler: it gives the text of a report in its own form.
+/// A handler renders a report in its own format.
 pub trait ReportHandler {
-    /// The texts that it may give for a report. It is one text, unless a source may fail to read, or a highlighter
-    /// isn't blank.
+    /// The texts that the handler may produce for a report. There is exactly one, unless a source can fail to read or a
+    /// highlighter isn't blank.
     ghost gives: { Self → Tree → List ℕ → Type 0 };
 
-    /// For which reports it may answer `Refused`.
+    /// The reports for which the handler may return `Refused`.
     ghost refuses: { Self → Tree → Type 0 };
 
-    /// What a call keeps of the handler: all of it, unless the handler has a state of its own.
+    /// What a call leaves unchanged in the handler: everything, unless the handler has state.
     ghost keeps: { Self → Self → Type 0 } = { λ old new. new ≡ old };
 
-    /// What a call that appends a text makes of the handler: of one with a highlighter, by which calls on it the text
-    /// has its answers. The handler before and after the call, the report, and the text before and after.
+    /// How a call that appends a text changes the handler's highlighter, given the handler before and after, the
+    /// report, and the text before and after.
     ghost asks: { Self → Self → Tree → List ℕ → List ℕ → Type 0 } = { λ _ _ _ _ _. Unit {0} };
 
-    /// Appends the report's text; the handler's settings stay. After an error `out` is as before: `Memory` where
-    /// memory was refused, `Refused` where a read of a source was refused for which the text has no row. The JSON and
-    /// the debug report are never `Refused`.
+    /// Appends the report's text. The handler's settings do not change.
+    ///
+    /// # Errors
+    /// `Memory` if allocation fails. `Refused` if a source failed to read and the format has no text for that; the JSON
+    /// and debug handlers never return it. `out` is then unchanged.
     fn debug<D: Diagnostic, S: SourceCode>(
         &mut self,
         report: &Report<D, S>,
@@ -45,8 +47,8 @@ pub trait ReportHandler {
         ensures err { OnErr result (string_bytes out.new ≡ string_bytes out.old) }
         ensures settings { keeps self.old self.new };
 
-    /// Appends the message, or where `alternate` the chain of messages joined by `: `. After an error, which is
-    /// `Memory`, `out` is as before.
+    /// Appends the message, or the chain of messages joined by `: ` if `alternate`. The only error is `Memory`; `out`
+    /// is then unchanged.
     fn display<D: Diagnostic, S: SourceCode>(
         &self,
         report: &Report<D, S>,
@@ -58,12 +60,12 @@ pub trait ReportHandler {
         ensures memory { OnErr result (result ≡ Err RenderError.Memory) }
         ensures err { OnErr result (string_bytes out.new ≡ string_bytes out.old) }
     {
-        push_displayed(out, report, alternate)
+        push_display(out, report, alternate)
     }
 }
 
-/// Appends the message, or where `alternate` the chain joined by `: `.
-fn push_displayed<D: Diagnostic, S: SourceCode>(
+/// Appends the message, or the chain joined by `: ` if `alternate`.
+fn push_display<D: Diagnostic, S: SourceCode>(
     out: &mut String,
     report: &Report<D, S>,
     alternate: bool,
@@ -73,14 +75,14 @@ fn push_displayed<D: Diagnostic, S: SourceCode>(
     ensures memory { OnErr result (result ≡ Err RenderError.Memory) }
     ensures err { OnErr result (string_bytes out.new ≡ string_bytes out.old) }
 {
-    match displayed_text(*out.allocator(), report, alternate) {
-        Ok(text) => append_whole(out, text.as_str()),
+    match display_string(*out.allocator(), report, alternate) {
+        Ok(text) => append_all_or_nothing(out, text.as_str()),
         Err(AllocError) => Err(RenderError::Memory),
     }
 }
 
-/// The message, or where `alternate` the chain joined by `: `.
-fn displayed_text<D: Diagnostic, S: SourceCode>(
+/// Returns the message, or the chain joined by `: ` if `alternate`.
+fn display_string<D: Diagnostic, S: SourceCode>(
     alloc: Global,
     report: &Report<D, S>,
     alternate: bool,
@@ -94,8 +96,8 @@ fn displayed_text<D: Diagnostic, S: SourceCode>(
     }
 }
 
-/// Appends a whole text; after an error, which is `Memory`, `out` is as before.
-pub fn append_whole(out: &mut String, text: &str) -> Result<(), RenderError>
+/// Appends a text. If allocation fails, returns `Memory` and leaves `out` unchanged.
+pub fn append_all_or_nothing(out: &mut String, text: &str) -> Result<(), RenderError>
     ensures ok { OnOk result (string_bytes out.new ≡ string_bytes out.old ++ text.now) }
     ensures memory { OnErr result (result ≡ Err RenderError.Memory) }
     ensures err { OnErr result (string_bytes out.new ≡ string_bytes out.old) }

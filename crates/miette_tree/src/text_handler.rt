@@ -1,4 +1,4 @@
-//! Handlers that make the text of a report as a whole.
+//! Handlers that return the whole text of a report.
 
 ghost use Rattle.std.specs.Prelude.{◌≡◌, List, ℕ, IfOk, OnOk, OnErr, string_bytes};
 ghost use Rattle.miette_tree.specs.rules.Tree.{Tree};
@@ -6,24 +6,24 @@ ghost use Rattle.miette_tree.specs.views.Report.{tree_of};
 ghost use Rattle.miette_tree.specs.views.Handler.{AppendsOne};
 
 use crate::report::Report;
-use crate::report_handler::{ReportHandler, append_whole};
+use crate::report_handler::{ReportHandler, append_all_or_nothing};
 use miette_protocol::error::RenderError;
 use miette_protocol::protocol::Diagnostic;
 use miette_protocol::source::SourceCode;
 use std::alloc::Global;
 
-/// A handler that makes the text of a report as a whole, and has no state of its own: it is a `ReportHandler`.
+/// A handler without state that returns the whole text of a report. It implements `ReportHandler`.
 pub trait TextHandler {
-    /// The texts that it may make of a report. It is one text, unless a source may fail to read.
+    /// The texts that the handler may produce for a report. There is exactly one, unless a source can fail to read.
     ghost texts: { Self → Tree → List ℕ → Type 0 };
 
-    /// For which reports it may answer `Refused`.
+    /// The reports for which the handler may return `Refused`.
     ghost refusals: { Self → Tree → Type 0 };
 
-    /// The text of a report.
+    /// Renders a report.
     ///
     /// # Errors
-    /// `Memory` where memory is refused, `Refused` where a read of a source was refused for which the text has no row.
+    /// `Memory` if allocation fails. `Refused` if a source failed to read and the format has no text for that.
     fn text_of<D: Diagnostic, S: SourceCode>(
         &self,
         alloc: Global,
@@ -45,15 +45,15 @@ impl<H: TextHandler> ReportHandler for H {
         report: &Report<D, S>,
         out: &mut String,
     ) -> Result<(), RenderError> {
-        append_text(out, self, report)
+        append_report_text(out, self, report)
     }
 }
 
-/// Appends the text that a handler makes of a report.
+/// Appends the text that a handler renders for a report.
 ///
 /// # Errors
-/// Those of `text_of`, and `Memory` where memory is refused for the text. `out` is then as before.
-pub fn append_text<H: TextHandler, D: Diagnostic, S: SourceCode>(
+/// Those of `text_of`, and `Memory` if allocation fails. `out` is then unchanged.
+pub fn append_report_text<H: TextHandler, D: Diagnostic, S: SourceCode>(
     out: &mut String,
     handler: &H,
     report: &Report<D, S>,
@@ -69,5 +69,5 @@ pub fn append_text<H: TextHandler, D: Diagnostic, S: SourceCode>(
         *out = text;
         return Ok(());
     }
-    append_whole(out, text.as_str())
+    append_all_or_nothing(out, text.as_str())
 }

@@ -4,7 +4,7 @@ use crate::comparing::same;
 use miette_protocol::protocol::{Diagnostic, LabeledSpan, Severity};
 use miette_tree::report::Report;
 
-/// An implementation by hand: its meaning in one record, and a method for each part of it.
+/// A diagnostic written by hand: its meaning in one record, and a method for each part.
 #[derive(Drop)]
 struct Missing {
     message: String,

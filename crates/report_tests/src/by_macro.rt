@@ -1,14 +1,16 @@
-//! What macros make. The texts and parts that each call gives an error are rows of the program `calls`, files that
-//! aren't there are in `cases/examples.jsonl`, and so are reports with the other keys, of the examples. That a lazy
-//! text is made only where it is needed is what `wrap_err_with` asks of what makes it.
+//! What the macros make.
+//!
+//! The program `calls` prints the texts and parts of each macro's report. `cases/examples.jsonl`
+//! has missing files, and reports with the other keys. The contract of `wrap_err_with` says that
+//! a lazy text is made only if it is needed.
 
 use crate::comparing::same;
 use miette_tree::ensure;
 use miette_tree::report::Result;
 use std::alloc::Global;
 
-/// Half of an even number. The report of another one has a code and a primary label, and a text of all kinds of
-/// arguments.
+/// Returns half of an even number. For an odd one, the report has a code and a primary label, and
+/// a message with all kinds of arguments.
 fn half(alloc: Global, n: u32) -> Result<u32> {
     ensure!(
         in alloc;

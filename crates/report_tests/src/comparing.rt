@@ -1,15 +1,15 @@
-//! What tests compare. A test is proved too, and a comparison in its own body, beside reports that are dropped, is
-//! dear: so it calls one of these.
+//! Comparisons for tests. Tests are proved too, and a comparison in the body of a test is
+//! expensive to prove.
 
 use std::fmt::Debug;
 use std::process::Abort;
 
-/// Both are the same value.
+/// Asserts that both values are equal.
 pub(crate) fn same<T: PartialEq + Debug + Copy>(rt: &impl Abort, found: T, wanted: T) {
     assert_eq!(rt; found, wanted);
 }
 
-/// The text was made, and is this one.
+/// Asserts that the text was made and equals this one.
 pub(crate) fn gives<E: PartialEq + Debug + Drop>(
     rt: &impl Abort,
     made: Result<String, E>,

@@ -1,9 +1,9 @@
-//! What stands in place of control characters where a file isn't trusted, by the functions of docs/GUIDE.md.
+//! The functions of docs/GUIDE.md that mask control characters of untrusted files.
 
 use crate::comparing::gives;
 use std::alloc::{AllocError, Global};
 
-/// A text whose control characters can be seen, in as many bytes: labels stay where they are.
+/// Masks the control characters of a text. Its length stays the same, and so do labels.
 fn visible(alloc: Global, text: &str) -> Result<String, AllocError> {
     let mut shown = String::new(alloc);
     for c in text.chars() {
@@ -12,7 +12,8 @@ fn visible(alloc: Global, text: &str) -> Result<String, AllocError> {
     Ok(shown)
 }
 
-/// A character, or what stands for one that a terminal would obey, of as many bytes.
+/// Returns the sign for a control character, of the same length in bytes, or the character
+/// itself.
 fn sign_of(c: char) -> char {
     match c {
         '\n' | '\r' | '\t' => c,

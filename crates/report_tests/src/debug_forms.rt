@@ -1,5 +1,5 @@
-//! What `{:?}` prints of values with texts past ASCII, what `{:#?}` prints, and what an error of the system prints as
-//! an error of a source. What the other errors print is what their clauses say.
+//! The output of `{:?}` and `{:#?}` for values with texts outside ASCII, and of a system error in
+//! a source. Contracts say what the other errors print.
 
 use crate::comparing::gives;
 use miette_protocol::error::MietteError;
@@ -8,7 +8,7 @@ use miette_protocol::source::NamedSource;
 use std::io;
 use std::io::ErrorKind;
 
-/// A label and a source, each in a row and in rows, and the error.
+/// The forms of a label and a source, each in one line and in several, and of the error.
 const FORMS: &str =
     "LabeledSpan { label: Some(\"é\\t\\\"\"), span: SourceSpan { offset: SourceOffset(9), length: 4 }, \
     primary: false, context_lines: Some(2) }\n\

@@ -1,4 +1,4 @@
-//! Reports of many parts are dropped: on the stack of any test, and each part once.
+//! Dropping reports with many parts: within the stack of a test, and each part once.
 
 use crate::comparing::same;
 use miette_protocol::protocol::{Diagnostic, LabeledSpan, Severity};
@@ -6,7 +6,7 @@ use miette_tree::report::Report;
 use std::alloc::{AllocError, Global};
 use std::rc::Rc;
 
-/// A diagnostic of the message `m`, that holds one of the owners of a token.
+/// A diagnostic with the message `m` that shares a token.
 #[derive(Drop)]
 struct Owner {
     _token: Rc<u8>,
@@ -43,14 +43,14 @@ impl Diagnostic for Owner {
     }
 }
 
-/// A report of a boxed owner.
+/// Returns a report of a boxed owner.
 fn report_of_owner(alloc: Global, token: &Rc<u8>) -> Result<Report, AllocError> {
     let _token = token.clone()?;
     let boxed: Box<dyn Diagnostic> = Box::new(alloc, Owner { _token })?;
     Ok(Report::new_boxed(boxed))
 }
 
-/// Each boxed part is dropped once, of a report, of its cause, and of reports that are related to it.
+/// Each boxed part of a report, its cause and its related reports is dropped once.
 #[test]
 fn all_parts_are_let_go(rt: HostRuntime) {
     let alloc = rt.alloc();
@@ -71,7 +71,7 @@ fn all_parts_are_let_go(rt: HostRuntime) {
     same(&rt, (with, Rc::strong_count(&token)), (6, 1));
 }
 
-/// A long chain of causes is gone through and dropped.
+/// A long chain of causes can be read and dropped.
 #[test]
 fn a_long_chain_is_let_go(rt: HostRuntime) {
     let alloc = rt.alloc();

@@ -1,5 +1,5 @@
-//! Themes of a user's own: a bar that is a space, above line feeds at the end of an inner report, and no style for
-//! labels.
+//! Custom themes: a bar that is a space, before line feeds at the end of an inner report, and no
+//! style for labels.
 
 use crate::renderings::{draws, over_ab};
 use miette::handlers::GraphicalReportHandler;
@@ -29,7 +29,7 @@ fn line_feeds_around_colours_at_the_end(rt: HostRuntime) {
     draws(&rt, alloc, handler, &report, NESTED);
 }
 
-/// The mark of a label without a style.
+/// The underline of a label without a style.
 const UNSTYLED: &str =
     "  \u{1b}[31m×\u{1b}[0m m\n   ╭────\n \u{1b}[2m1\u{1b}[0m │ ab\n   · ─\n   ╰────\n";
 

@@ -1,5 +1,5 @@
-//! The report that docs/GUIDE.md tests, by the calls that it shows. The same report by `job`, drawn and narrated, is
-//! the first one in `cases/gallery.jsonl`.
+//! The report that docs/GUIDE.md tests, with the calls that it shows. `cases/gallery.jsonl`
+//! starts with the same report by `job`, graphical and narrated.
 
 use crate::renderings::draws;
 use miette::diagnostic::MietteDiagnostic;

@@ -8,7 +8,7 @@ use miette::style::{Color, Style};
 use miette::theme::GraphicalTheme;
 use std::alloc::{AllocError, Global};
 
-/// A red first byte, and the rest plain.
+/// Highlights the first byte of a line in red.
 #[derive(Drop)]
 struct FirstRed;
 

@@ -1,4 +1,4 @@
-//! JSON texts of sources that stop. More JSON texts, by `job`, stand in `cases/worked.jsonl`.
+//! JSON reports over sources that fail. `cases/worked.jsonl` has more of them, by `job`.
 ghost use Rattle.std.specs.Prelude.{None, false};
 
 use crate::comparing::same;
@@ -11,13 +11,13 @@ use miette::source::{MietteSpanContents, NamedSource, SourceCode};
 use std::io;
 use std::io::ErrorKind;
 
-/// Bytes, of which no more than four are read at once.
+/// A source that reads at most four bytes at once.
 #[derive(Drop)]
-struct Stopping {
+struct FailingSource {
     bytes: &'static [u8],
 }
 
-impl SourceCode for Stopping {
+impl SourceCode for FailingSource {
     ghost source = { λ it. record { bytes = it.bytes.now; name = None; language = None; always_reads = false } };
 
     fn read_span(
@@ -33,7 +33,8 @@ impl SourceCode for Stopping {
     }
 }
 
-/// A label's length, and the JSON text of the message `m` with that label over a source named `f`.
+/// The length of a label, and the JSON report of the message `m` with that label over a source
+/// named `f`.
 static TEXTS: [(usize, &str); 2] = [
     (
         2,
@@ -51,12 +52,12 @@ static TEXTS: [(usize, &str); 2] = [
 fn a_source_that_stops_gives_no_name(rt: HostRuntime) {
     let alloc = rt.alloc();
     for (length, wanted) in &TEXTS {
-        let source = NamedSource::new(alloc, "f", Stopping { bytes: b"abcdef" });
+        let source = NamedSource::new(alloc, "f", FailingSource { bytes: b"abcdef" });
         let diagnostic = MietteDiagnostic::new(alloc, "m")
             .expect(&rt, "memory")
             .with_label(alloc, LabeledSpan::new(None, 0, *length))
             .expect(&rt, "memory");
-        let report: Report<MietteDiagnostic, NamedSource<Stopping>> = Report::built(
+        let report: Report<MietteDiagnostic, NamedSource<FailingSource>> = Report::built(
             diagnostic,
         ).with_source_code(source.expect(&rt, "memory"));
         let mut text = String::new(alloc);

@@ -1,14 +1,16 @@
-//! Tests of reports and handlers as callers write them: what is dropped, themes, highlighters, sources that stop. The
-//! expected texts were written by hand from the rules. What a description can say stands in `cases/`, and so does what
-//! the program `calls` prints of each call, with refused memory and over sources that stop; and what programs write,
-//! with devices that fail and words that could not be had.
+//! Tests of reports and handlers as callers write them: drops, themes, highlighters, and sources
+//! that fail. The expected texts were written by hand from the rules.
 //!
-//! And tests of values: places in texts, reads of sources, JSON, what is printed; highlighters and wrapped texts. What
-//! a clause says word for word isn't tried again: what spans, labels, diagnostics, errors, styles and themes are made
-//! of, and how they are compared, hashed and cloned (`miette_protocol::protocol::comparison_laws` and the others).
+//! Other files have tests of values: locations, reads of sources, JSON, printing, highlighters
+//! and wrapped texts. What a clause says literally isn't tested again. Examples are the parts of
+//! spans, labels, diagnostics, errors, styles and themes, and how they are compared, hashed and
+//! cloned (`miette_protocol::protocol::comparison_laws` and others).
 //!
-//! A test is proved too. Where memory is refused it ends by `expect`, so nothing is dropped on the way out, as it would
-//! be at a `?`; and rows stand in statics, which cost no proof.
+//! `cases/` has the tests that a description can express, the output of `calls`, and programs on
+//! failing streams.
+//!
+//! Tests are proved too. If allocation fails, they end by `expect`, because `?` would drop values
+//! on the way out. Expected rows are statics, which cost no proof.
 #![tactic(auto)]
 
 #[cfg(test)]

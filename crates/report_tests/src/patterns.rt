@@ -1,4 +1,4 @@
-//! Lines that rules style. More of them, by the rules of languages, are drawn in `cases/programs.jsonl`.
+//! Lines that rules highlight. `cases/programs.jsonl` has more of them.
 
 use crate::comparing::same;
 use miette_highlight::highlight::{Delimiters, Highlighter, Pattern, PatternHighlighter, Rule};
@@ -22,7 +22,7 @@ const CYAN: Style = Style {
     ..PLAIN
 };
 
-/// A line, and its pieces, by their lengths in bytes.
+/// A line, and the lengths of its pieces in bytes.
 type Row = (&'static str, &'static [(usize, Style)]);
 
 static LINES: [Row; 3] = [
@@ -55,7 +55,8 @@ static LINES: [Row; 3] = [
     ("", &[]),
 ];
 
-/// Two words in green, words from `a` to `i` in cyan, and what stands between delimiters in green.
+/// The first matching rule wins. Two words are green, words from `a` to `i` are cyan, and text
+/// between delimiters is green.
 #[test]
 fn the_first_rule_decides(rt: HostRuntime) {
     let alloc = rt.alloc();

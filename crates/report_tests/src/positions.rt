@@ -1,7 +1,7 @@
 //! Positions of small sources, counted by hand.
 
 use crate::comparing::same;
-use miette_positions::place::{Position, PositionEncoding, Region};
+use miette_positions::position::{Position, PositionEncoding, Region};
 use miette_positions::spans::{clamped_offset, region_of, span_of};
 use miette_protocol::protocol::SourceSpan;
 
@@ -42,7 +42,7 @@ fn found(source: &[u8], encoding: PositionEncoding, span: (usize, usize)) -> Opt
 /// Positions as editors count them.
 const UTF16: PositionEncoding = PositionEncoding::Utf16;
 
-/// Sources, spans and their regions.
+/// Sources with spans and their regions.
 type Row = (
     &'static [u8],
     PositionEncoding,
@@ -54,9 +54,9 @@ static ROWS: [Row; 30] = [
     (MIXED, UTF16, (0, 1), Some((0, 0, 0, 1))),
     (MIXED, UTF16, (2, 4), Some((0, 2, 0, 4))),
     (MIXED, UTF16, (6, 1), Some((0, 4, 0, 5))),
-    // a part of the emoji is all of it
+    // part of the emoji becomes all of it
     (MIXED, UTF16, (3, 1), Some((0, 2, 0, 4))),
-    // nothing inside the emoji is nothing before it
+    // an empty span inside the emoji becomes one before it
     (MIXED, UTF16, (3, 0), Some((0, 2, 0, 2))),
     (MIXED, UTF16, (7, 1), Some((0, 5, 1, 0))),
     (MIXED, UTF16, (9, 2), Some((1, 1, 1, 2))),
@@ -96,20 +96,20 @@ fn spanned(numbers: Numbers) -> Option<(usize, usize)> {
     }
 }
 
-/// Regions and their spans, in UTF-16.
+/// Regions and their spans, in UTF-16 code units.
 static REGIONS: [(Numbers, Option<(usize, usize)>); 8] = [
     ((0, 2, 0, 4), Some((2, 4))),
     ((0, 5, 1, 0), Some((7, 1))),
     ((1, 2, 2, 0), Some((11, 2))),
     ((3, 3, 3, 3), Some((18, 0))),
-    // inside the emoji, after a line's text, on no line, and an end before the start
+    // inside the emoji, after a line's text, on a missing line, and with the end before the start
     ((0, 3, 0, 4), None),
     ((0, 2, 0, 6), None),
     ((1, 0, 4, 0), None),
     ((1, 1, 1, 0), None),
 ];
 
-/// Positions, and the offsets that they are brought to.
+/// Positions, and the offsets that they are clamped to.
 static CLAMPED: [(Position, usize); 6] = [
     (Position { line: 0, column: 3 }, 2),
     (

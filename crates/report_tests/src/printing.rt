@@ -1,18 +1,18 @@
-//! Printing where the writer has no room. Printing on one that has room is a row of the program `calls`, and so is what
-//! comes of refused memory.
+//! Printing to a writer that is full. The program `calls` prints to one that isn't, and with
+//! failing allocations.
 
 use crate::comparing::same;
 use crate::renderings::over_ab;
 use miette::highlight::BlankHighlighter;
 use miette::options::MietteHandlerOpts;
-use miette::print::{Outputs, print_on};
+use miette::print::{Outputs, print_with_outputs};
 use miette::report::Report;
 use miette::terminal::Stream;
 use std::io;
 use std::io::{ErrorKind, Write};
 use std::process::ExitCode;
 
-/// Takes nothing.
+/// A writer that takes nothing.
 #[derive(Drop)]
 struct Full;
 
@@ -26,17 +26,17 @@ impl Write for Full {
     }
 }
 
-/// Whether the report, narrated, isn't printed, and that is told.
+/// Returns whether narrating the report fails, and standard error says why.
 fn is_told(rt: &HostRuntime, report: &Report, outputs: &mut Outputs<Full, Vec<u8>>) -> bool {
     let options: MietteHandlerOpts<BlankHighlighter> = MietteHandlerOpts::default();
     let options = options.force_narrated(true);
-    match print_on(rt, Stream::Stdout, options, report, outputs) {
+    match print_with_outputs(rt, Stream::Stdout, options, report, outputs) {
         Ok(code) => code == ExitCode::FAILURE,
         Err(_) => false,
     }
 }
 
-/// What is told of a message, and of a label past the end of its source, which narrating refuses.
+/// The error line for a message, and for a label past the end of its source.
 const TOLD: &str =
     "a report could not be printed: write fault\na report could not be printed: a source could not be read\n";
 

@@ -1,4 +1,4 @@
-//! Reads of bytes. All other sources read alike, by the clause of `SourceCode::read_span`.
+//! Reads of bytes. By the clause of `SourceCode::read_span`, all other sources read the same.
 
 use crate::comparing::same;
 use miette_protocol::protocol::SourceSpan;
@@ -6,11 +6,11 @@ use miette_protocol::source::SourceCode;
 
 const README: &[u8] = b"source\n  text\n    here";
 
-/// What a read gives: the data, its offset and length, line, column and count of lines.
+/// The result of a read: data, offset, length, line, column and number of lines.
 type Parts<'a> = (&'a [u8], (usize, usize), usize, usize, usize);
 
-/// A source, the offset and the length that are asked for, the lines of context before and after, and what is read;
-/// nothing where it lies outside.
+/// A source, the offset and length of a span, context lines before and after, and the result.
+/// `None` if the span is out of bounds.
 type Row = (&'static [u8], (usize, usize), usize, Option<Parts<'static>>);
 
 const MOST: usize = usize::MAX;
@@ -38,13 +38,13 @@ static ROWS: [Row; 13] = [
         Some((b"foo\r\n", (0, 5), 0, 0, 1)),
     ),
     (b"\nx", (0, 0), 0, Some((b"\n", (0, 1), 0, 0, 1))),
-    // sums past the largest number are refused or cut, and nothing wraps
+    // sums past the largest number are errors or are clamped, and nothing wraps around
     (README, (MOST, MOST), 0, None),
     (README, (1, MOST), 0, None),
     (README, (9, 4), MOST, Some((README, (0, 22), 0, 0, 2))),
 ];
 
-/// What is read for a row; nothing where that is refused.
+/// Returns the result of a read, or `None` if it fails.
 fn read(row: &'static Row) -> Option<Parts<'static>> {
     let Ok(contents) = row.0.read_span(&SourceSpan::from(row.1), row.2, row.2) else {
         return None;

@@ -1,4 +1,4 @@
-//! A small report, and what pictures of reports are.
+//! A small report, and how to test its output.
 
 use crate::comparing::same;
 use miette::diagnostic::MietteDiagnostic;
@@ -8,7 +8,7 @@ use miette::report::{OwnedSource, Report};
 use std::alloc::{AllocError, Global};
 use std::process::Abort;
 
-/// The message `m`, with a label of one byte over the source `ab`.
+/// Returns a report with the message `m` and a label of one byte over the source `ab`.
 pub(crate) fn over_ab(alloc: Global, offset: usize) -> Result<Report, AllocError> {
     let source = OwnedSource::new(alloc, b"ab".to_vec(alloc)?)?;
     let label = LabeledSpan::new(None, offset, 1);
@@ -16,7 +16,7 @@ pub(crate) fn over_ab(alloc: Global, offset: usize) -> Result<Report, AllocError
     Ok(Report::new(diagnostic).with_owned_source(source))
 }
 
-/// The handler draws the report so.
+/// Asserts that the handler renders the report as this text.
 pub(crate) fn draws(
     rt: &impl Abort,
     alloc: Global,

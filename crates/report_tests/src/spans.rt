@@ -1,4 +1,4 @@
-//! Places in texts.
+//! Spans by line and column.
 
 use crate::comparing::same;
 use miette_protocol::protocol::{LabeledSpan, SourceOffset, SourceSpan};
@@ -8,7 +8,7 @@ const LINES: &str = "f\n\noo\r\nbar";
 
 const README: &str = "source\n  text\n    here";
 
-/// A text, a line and a column, and where they are.
+/// A text, a line and a column, and the offset.
 static LOCATIONS: [(&str, usize, usize, usize); 12] = [
     (LINES, 1, 1, 0),
     (LINES, 1, 2, 1),
@@ -24,7 +24,7 @@ static LOCATIONS: [(&str, usize, usize, usize); 12] = [
     ("漢x", 1, 2, 3),
 ];
 
-/// A text that is no JSON.
+/// A text that isn't JSON.
 const NO_VALUE: &str = "{\n  \"é\": x\n}";
 
 /// A line, a column and a length, and the span.
@@ -34,7 +34,8 @@ static SPANS: [((usize, usize, usize), (usize, usize)); 3] = [
     ((9, 1, 2), (13, 2)),
 ];
 
-/// A label where the reader of JSON stopped. Its columns count bytes, so they are added to the line's offset.
+/// Returns a label where the JSON parser stopped. Its columns count bytes, so they are added to
+/// the line's offset.
 fn json_label(
     alloc: Global,
     text: &str,
@@ -50,7 +51,7 @@ fn json_label(
     )
 }
 
-/// Texts that are no JSON, and where their labels begin.
+/// Texts that aren't JSON, and the offsets of their labels.
 static NO_JSON: [(&str, usize); 3] = [(NO_VALUE, 10), ("{\n  \"a\": ", 8), ("[1,\n", 4)];
 
 #[test]

@@ -1,4 +1,4 @@
-//! Values as JSON: what is read, by its debug form, and what is written.
+//! Serializing values as JSON: the debug form of what is read, and the text that is written.
 
 use crate::comparing::same;
 use miette_fixes::fix::Fix;
@@ -9,10 +9,11 @@ use std::alloc::Global;
 use std::fmt::Debug;
 use std::process::Abort;
 
-/// A JSON text, the debug form of the value that is read from it, and the text that it is written as.
+/// A JSON text, the debug form of its value, and the text that the value is written as.
 type Row = (&'static str, &'static str, &'static str);
 
-/// The values that are read from the first texts have these debug forms, and are written as the last ones.
+/// Asserts that the values of the first texts have these debug forms, and are written as the last
+/// texts.
 fn are_read_and_written<'de, T: Serialize + Deserialize<'de> + Debug + Drop>(
     rt: &impl Abort,
     alloc: Global,
@@ -41,7 +42,7 @@ const PLAIN: &str =
     "LabeledSpan { label: None, span: SourceSpan { offset: SourceOffset(1), length: 2 }, primary: false, \
     context_lines: None }";
 
-/// How it is written.
+/// The text that it is written as.
 const PLAIN_LABEL: &str = r#"{"span":{"offset":1,"length":2},"primary":false}"#;
 
 const WITH_TWO: &str = r#"{"span":{"offset":1,"length":2},"primary":false,"context_lines":2}"#;
@@ -80,7 +81,7 @@ static LABELS: [Row; 6] = [
     ),
 ];
 
-/// With context lines that can't be.
+/// With invalid context lines.
 static NO_LABELS: [&str; 6] = [
     r#"{"span":{"offset":1,"length":2},"primary":false,"context_lines":-1}"#,
     r#"{"span":{"offset":1,"length":2},"primary":false,"context_lines":1.5}"#,
@@ -94,10 +95,10 @@ static NO_LABELS: [&str; 6] = [
 const ALONE: &str =
     "MietteDiagnostic { message: \"m\", code: None, severity: None, help: None, url: None, labels: None }";
 
-/// How it is written.
+/// The text that it is written as.
 const MESSAGE: &str = r#"{"message":"m"}"#;
 
-/// A diagnostic of all parts.
+/// A diagnostic with all parts.
 const FULL: &str =
     "{\"message\":\"m\",\"code\":\"c\",\"severity\":\"Warning\",\"help\":\"h\",\"url\":\"u\",\
     \"labels\":[{\"label\":\"t\",\"span\":{\"offset\":1,\"length\":2},\"primary\":false}]}";
@@ -118,11 +119,11 @@ static DIAGNOSTICS: [Row; 3] = [
     ),
 ];
 
-/// A fix of one edit.
+/// A fix with one edit.
 const COLON: &str = "{\"message\":\"m\",\"applicability\":\"machine-applicable\",\
     \"edits\":[{\"span\":{\"offset\":9,\"length\":0},\"text\":\":\"}]}";
 
-/// The last one is a fix of which nothing says how sure it is.
+/// The last fix has no applicability.
 static FIXES: [Row; 2] = [
     (
         COLON,

@@ -1,11 +1,11 @@
-//! Texts in rows. A help text in Japanese is in `cases/job-separator.jsonl`, by both separators; which texts fit in one
-//! row is what a clause of `push_fitting` says.
+//! Wrapped texts. `cases/job-separator.jsonl` has a help text in Japanese with both separators. A
+//! clause of `push_if_fits` says which texts fit on one line.
 
 use crate::comparing::gives;
 use miette_text::wrap::{WordSeparator, WordSplitter, WrapOptions, fill};
 use std::alloc::{AllocError, Global};
 
-/// Without indents; words are cut after hyphens and where they are too wide.
+/// Without indents. Words break after hyphens, and wherever they are too wide.
 const PLAIN: WrapOptions<'static> = WrapOptions {
     width: 80,
     initial_indent: "",
@@ -16,7 +16,7 @@ const PLAIN: WrapOptions<'static> = WrapOptions {
     splitter: WordSplitter::HyphenSplitter,
 };
 
-/// Under indents.
+/// With indents.
 const INDENTED: WrapOptions<'static> = WrapOptions {
     initial_indent: "> ",
     subsequent_indent: ". ",
@@ -52,12 +52,12 @@ const WHOLE_UNDER_SIGNS: WrapOptions<'static> = WrapOptions {
     ..PLAIN
 };
 
-/// A text, the columns of a row, and the rows.
+/// A text, the width in columns, and the lines.
 type Row = (&'static str, usize, &'static str);
 
-/// Options, and rows that they make.
+/// Options, and the lines that they make.
 static TABLES: [(WrapOptions<'static>, &[Row]); 9] = [
-    // texts with sequences
+    // texts with escape sequences
     (
         PLAIN,
         &[
@@ -73,7 +73,8 @@ static TABLES: [(WrapOptions<'static>, &[Row]); 9] = [
         &[("ab-cd ef", 5, "ab-cd\nef"), ("ab-cd ef", 4, "ab-\ncd\nef")],
     ),
     (WITHOUT_HYPHENS, &[("ab-cd ef", 4, "ab-c\nd ef")]),
-    // what is white loses its indent's last spaces, and sequences after the last line feed stay
+    // a blank line loses the trailing spaces of its indent, and sequences after the last line
+    // feed stay
     (
         WHOLE,
         &[
@@ -89,7 +90,7 @@ static TABLES: [(WrapOptions<'static>, &[Row]); 9] = [
             "  \u{1B}[31m×\u{1B}[0m alpha\n  | 漢字 é\n  | ",
         )],
     ),
-    // wrapped, an indent keeps its spaces, also where nothing else is left in the row
+    // with wrapping, an indent keeps its spaces, also on an empty line
     (
         INDENTED,
         &[
@@ -111,26 +112,27 @@ static TABLES: [(WrapOptions<'static>, &[Row]); 9] = [
     (
         BY_UNICODE,
         &[
-            // neither before a closing mark nor after an opening one, also where spaces stand there
+            // no break before a closing mark or after an opening one, even with spaces there
             ("漢字。", 2, "漢\n字。"),
             ("「漢字」", 2, "「漢\n字」"),
             ("a ( b ) c", 1, "a\n( b )\nc"),
-            // neither before a mark nor inside a flag
+            // no break before a combining mark or inside a flag
             ("漢か\u{3099}字", 2, "漢\nか\u{3099}\n字"),
             ("🇩🇪🇫🇷", 1, "🇩🇪\n🇫🇷"),
-            // a number stays with its sign, and after a hyphen there is no place
+            // a number keeps its sign, and there is no break after its hyphen
             ("漢-5字", 1, "漢-5\n字"),
             ("漢-字", 1, "漢-字"),
             ("a- b", 1, "a-\nb"),
-            // a line separator is a place like others, and ends no row
+            // a line separator is an ordinary break opportunity and ends no line
             ("a\u{2028}b", 80, "a\u{2028}b"),
             ("a\u{2028}b", 1, "a\u{2028}\nb"),
-            // a sequence makes no place, and goes with the next word
+            // a sequence isn't a break opportunity, and goes with the next word
             ("ab\u{1B}[31mcd\u{1B}[0m", 2, "ab\u{1B}[31mcd\u{1B}[0m"),
             ("漢\u{1B}[31m字\u{1B}[0m", 2, "漢\n\u{1B}[31m字\u{1B}[0m"),
         ],
     ),
-    // without wrapping: no text, sequences alone, white space under an indent with sequences among its spaces
+    // without wrapping: no text, sequences only, and white space under an indent with sequences
+    // among its spaces
     (
         WHOLE_UNDER_SIGNS,
         &[
@@ -142,7 +144,7 @@ static TABLES: [(WrapOptions<'static>, &[Row]); 9] = [
     ),
 ];
 
-/// The text in rows.
+/// Returns the wrapped text.
 fn filled(
     alloc: Global,
     options: &WrapOptions<'_>,

@@ -1,4 +1,5 @@
-//! Finds words that are often misspelt: `typos FILE` labels them, `typos --fix FILE` prints the file with them mended.
+//! Finds common misspellings. `typos FILE` prints them as labels, `typos --fix FILE` prints the
+//! corrected file.
 #![tactic(auto)]
 
 use miette::prelude::*;
@@ -9,7 +10,7 @@ use std::io::Print;
 use std::process::ExitCode;
 use std::{env, fs};
 
-/// Words as they are often misspelt, each with how it is spelt.
+/// Common misspellings with their corrections.
 const WORDS: [(&str, &str); 4] = [
     ("lenght", "length"),
     ("occured", "occurred"),
@@ -24,7 +25,7 @@ fn main(rt: HostRuntime) -> ExitCode {
     }
 }
 
-/// Prints a file with its misspelt words mended, or fails with a report of them.
+/// Prints the corrected file, or fails with a report of its misspellings.
 fn run<R: Env + Files + Print + AllocGlobal>(rt: &R) -> Result<()> {
     let alloc = rt.alloc();
     let (is_fixing, name) = words_of(env::args(rt).into_diagnostic(alloc)?);
@@ -37,7 +38,7 @@ fn run<R: Env + Files + Print + AllocGlobal>(rt: &R) -> Result<()> {
     rt.write_all(fixed.as_slice()).into_diagnostic(alloc)
 }
 
-/// Whether the file is to be mended, and its name, by the words after the program's.
+/// Returns whether to correct the file, and its name.
 fn words_of(mut words: Args) -> (bool, Option<String>) {
     let first = words.nth(1);
     if first.as_deref() == Some("--fix") {
@@ -47,7 +48,7 @@ fn words_of(mut words: Args) -> (bool, Option<String>) {
     }
 }
 
-/// The text of a file.
+/// Reads a file.
 fn text_of<R: Files + AllocGlobal>(rt: &R, name: &str) -> Result<String> {
     let alloc = rt.alloc();
     fs::read_to_string(rt, name)
@@ -55,13 +56,13 @@ fn text_of<R: Files + AllocGlobal>(rt: &R, name: &str) -> Result<String> {
         .wrap_err_with(alloc, || format!(in alloc; "could not read {name}"))
 }
 
-/// A text with its misspelt words mended.
+/// Returns the corrected text.
 fn mended(alloc: Global, text: &str) -> Result<Vec<u8>> {
     let fix = fix_of(alloc, text)?;
     fix.apply(alloc, text.as_bytes()).into_diagnostic(alloc)
 }
 
-/// Fails with a report of the misspelt words of a file, where there are some.
+/// Fails with a report of the misspellings of a file, if there are any.
 fn check(alloc: Global, name: &str, text: String) -> Result<()> {
     let fix = fix_of(alloc, text.as_str())?;
     if fix.edits().is_empty() {
@@ -71,7 +72,7 @@ fn check(alloc: Global, name: &str, text: String) -> Result<()> {
     Err(report_of(alloc, fix)?.with_owned_source(source))
 }
 
-/// A fix with an edit for each misspelt word of a text.
+/// Returns a fix with an edit for each misspelling.
 fn fix_of(alloc: Global, text: &str) -> Result<Fix, AllocError> {
     let mut fix = Fix::new(alloc, "spell it right")?;
     for (wrong, right) in &WORDS {
@@ -83,7 +84,7 @@ fn fix_of(alloc: Global, text: &str) -> Result<Fix, AllocError> {
     Ok(fix)
 }
 
-/// A label on each word that a fix mends.
+/// Returns a label for each edit of a fix.
 fn labels_of(alloc: Global, fix: &Fix) -> Result<Vec<LabeledSpan>, AllocError> {
     let mut labels = Vec::new(alloc);
     for edit in fix.edits() {
@@ -93,7 +94,7 @@ fn labels_of(alloc: Global, fix: &Fix) -> Result<Vec<LabeledSpan>, AllocError> {
     Ok(labels)
 }
 
-/// A report with a label on each misspelt word, and the fix.
+/// Returns a report with a label on each misspelling, and the fix.
 fn report_of(alloc: Global, fix: Fix) -> Result<Report, AllocError> {
     let labels = labels_of(alloc, &fix)?;
     let count = labels.len();

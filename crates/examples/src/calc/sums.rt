@@ -1,11 +1,11 @@
-//! Sums of products of whole numbers.
+//! Sums of products of integers.
 
 use thiserror::Error;
 
 /// Why an expression has no value.
 #[derive(Clone, Copy, Debug, Error)]
 pub enum Reason {
-    /// A part of it is no number.
+    /// A part isn't a number.
     #[error("a number is wanted")]
     NoNumber,
     /// A value doesn't fit in 64 bits.
@@ -13,19 +13,19 @@ pub enum Reason {
     TooBig,
 }
 
-/// The reason, and where it lies: an offset and a length, in bytes.
+/// A reason and the part that it is about.
 #[derive(Clone, Copy)]
 pub struct Fault {
     /// Why there is no value.
     pub reason: Reason,
-    /// Where the part begins that it speaks of.
+    /// The offset of the part, in bytes.
     pub start: usize,
-    /// The part's length.
+    /// The length of the part, in bytes.
     pub length: usize,
 }
 
 impl Fault {
-    /// A fault of a part that begins here; the blanks around it don't count.
+    /// Returns the fault of the part at `start`, without the blanks around it.
     fn new(reason: Reason, start: usize, part: &str) -> Fault {
         let text = part.trim_start();
         Fault {
@@ -36,10 +36,10 @@ impl Fault {
     }
 }
 
-/// The value of an expression.
+/// Returns the value of an expression.
 ///
 /// # Errors
-/// The first fault from the left.
+/// The leftmost fault.
 pub fn value_of(text: &str) -> Result<i64, Fault> {
     let mut sum = 0i64;
     let mut start = 0usize;
@@ -54,7 +54,7 @@ pub fn value_of(text: &str) -> Result<i64, Fault> {
     Ok(sum)
 }
 
-/// The value of a term that begins here.
+/// Returns the value of the term at `start`.
 fn product_of(term: &str, start: usize) -> Result<i64, Fault> {
     let mut product = 1i64;
     let mut start = start;

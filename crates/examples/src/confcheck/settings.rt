@@ -1,22 +1,22 @@
-//! What settings may say, and where.
+//! The known settings, and where they are.
 
 use miette::prelude::Piece;
 use std::alloc::{AllocError, Global};
 use strsim::levenshtein;
 use toml::{Table, Value};
 
-/// The keys that are known.
+/// The known keys.
 const KEYS: [&str; 3] = ["host", "port", "workers"];
 
-/// How many edits of characters may lie between a key and the known one that is meant.
+/// The most edits between a key and a similar known one, in characters.
 const EDITS: usize = 2;
 
-/// Whether anything reads this key.
+/// Returns whether a key is known.
 pub fn is_known(key: &str) -> bool {
     KEYS.contains(&key)
 }
 
-/// The port, a number from 1 to 65535.
+/// Returns the port, a number from 1 to 65535.
 pub fn port_of(table: &Table) -> Option<i64> {
     match table.get("port") {
         Some(Value::Integer(port)) if 1 <= *port && *port <= 65535 => Some(*port),
@@ -24,7 +24,7 @@ pub fn port_of(table: &Table) -> Option<i64> {
     }
 }
 
-/// The first known key that both texts set, with the line in each that sets it.
+/// Returns the first known key that both texts set, and its line in each.
 pub fn set_twice(
     text: &str,
     other: &str,
@@ -37,7 +37,7 @@ pub fn set_twice(
     None
 }
 
-/// The known key that the fewest edits of characters make of this one, where `EDITS` are enough.
+/// Returns the most similar known key, if it is within `EDITS` edits.
 pub fn nearest_key(alloc: Global, key: &str) -> Result<Option<&'static str>, AllocError> {
     let mut found = None;
     let mut least = EDITS + 1;
@@ -51,7 +51,7 @@ pub fn nearest_key(alloc: Global, key: &str) -> Result<Option<&'static str>, All
     Ok(found)
 }
 
-/// Where a key stands on the line that sets it: its offset and its length, in bytes.
+/// Returns the offset and length of a key on its line, in bytes.
 pub fn key_in(text: &str, key: &str) -> Option<(usize, usize)> {
     let (start, length) = line_of(text, key)?;
     let line = text.get(start..start.saturating_add(length))?;
@@ -59,7 +59,7 @@ pub fn key_in(text: &str, key: &str) -> Option<(usize, usize)> {
     Some((start.saturating_add(blanks), key.len()))
 }
 
-/// The line that sets a key: its offset and its length, in bytes.
+/// Returns the offset and length of the line that sets a key, in bytes.
 pub fn line_of(text: &str, key: &str) -> Option<(usize, usize)> {
     for line in Piece::lines(text) {
         let found = line.text.split('=').next().unwrap_or("");

@@ -1,42 +1,42 @@
-//! What is wrong with the form of a Lisp text.
+//! Finds the syntax errors of a Lisp text.
 
 use std::alloc::{AllocError, Global};
 
-/// A slip, with the offset where it begins, in bytes.
+/// A syntax error with its offset, in bytes.
 #[derive(Clone, Copy)]
 pub enum Slip {
     /// A list that is never closed.
     Unclosed(usize),
-    /// A text in quotes that is never closed.
+    /// A quoted text that is never closed.
     UnclosedText(usize),
-    /// A `)` where no list is open.
+    /// A `)` without an open list.
     Stray(usize),
-    /// A list without parts.
+    /// A list without items.
     Empty(usize),
 }
 
-/// Where the reader stands.
+/// The state of the reader.
 #[derive(Clone, Copy)]
 enum State {
     Code,
-    /// In a text that begins here.
+    /// In a text that starts at this offset.
     Text(usize),
-    /// After a backslash of a text that begins here.
+    /// After a backslash in a text that starts at this offset.
     Escape(usize),
     Comment,
 }
 
-/// What was read so far: the slips, and where the lists begin that are open.
+/// The errors so far, and the offsets of the open lists.
 #[derive(Drop)]
 struct Reader {
     slips: Vec<Slip>,
     open: Vec<usize>,
 }
 
-/// The slips of a text; of those that end with it the lists come last, the outermost first.
+/// Returns the errors of a text. Unclosed lists come last, the outermost first.
 ///
 /// # Errors
-/// Where no memory is found for them.
+/// `AllocError` if allocation fails.
 pub fn slips_of(alloc: Global, text: &str) -> Result<Vec<Slip>, AllocError> {
     let mut reader = Reader {
         slips: Vec::new(alloc),

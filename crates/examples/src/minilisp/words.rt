@@ -1,23 +1,23 @@
-//! What the program was called with.
+//! The program's arguments.
 
 use miette::prelude::*;
 use std::alloc::Global;
 use std::env::Args;
 use thiserror::Error;
 
-/// What the program was called with.
+/// The program's arguments.
 #[derive(Drop)]
 pub struct Words {
     /// The form of the reports.
     pub form: Form,
-    /// The files.
+    /// The names of the files.
     pub names: Vec<String>,
 }
 
-/// Why words can't be used.
+/// Why the arguments are wrong.
 #[derive(Clone, Copy, Debug, Error)]
 pub enum Reason {
-    /// A form that isn't known.
+    /// The form isn't known.
     #[error("there is no such form")]
     NoForm,
     /// No file is named.
@@ -25,7 +25,7 @@ pub enum Reason {
     NoFile,
 }
 
-/// The reason, and where memory for its report is found.
+/// The reason, and the allocator for its report.
 #[derive(Drop)]
 pub struct Bad(pub Global, pub Reason);
 
@@ -38,10 +38,10 @@ impl From<Bad> for Report {
     }
 }
 
-/// The program's words.
+/// Parses the program's arguments.
 ///
 /// # Errors
-/// Where they can't be used.
+/// A report if the arguments are wrong.
 pub fn words_of(alloc: Global, words: Args) -> Result<Words> {
     let mut form = Form::Pictures;
     let mut names = Vec::new(alloc);

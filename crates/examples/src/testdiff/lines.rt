@@ -1,12 +1,13 @@
-//! Two texts, line by line.
+//! Compares two texts line by line.
 
 use miette::prelude::{LabeledSpan, Piece};
 use std::alloc::{AllocError, Global};
 
-/// A label on each line of a text that isn't the expected one, and one on its last byte for each line that is missing.
+/// Returns a label on each line that differs from the expected text. For each missing line, it
+/// adds a label on the last byte.
 ///
 /// # Errors
-/// Where no memory is found for the labels.
+/// `AllocError` if allocation fails.
 pub fn differences(
     alloc: Global,
     expected: &str,
@@ -26,7 +27,7 @@ pub fn differences(
     Ok(labels)
 }
 
-/// What a line is told of; nothing where it is the expected one.
+/// Returns the text of the label on a line, or `None` if the line is as expected.
 fn told_of(alloc: Global, wanted: Option<&str>, found: &str) -> Result<Option<String>, AllocError> {
     match wanted {
         Some(same) if same == found => Ok(None),

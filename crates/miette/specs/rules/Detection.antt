@@ -1,5 +1,5 @@
--- What is known of a terminal, from variables and from which streams go to one. Of several rows the first that
--- applies counts.
+-- Detection of a terminal, from variables and from which streams go to one. If several cases apply, the first one
+-- counts.
 use Rattle.std.specs.Prelude.{◌≡◌, ℕ, ◌<◌, ◌≤◌, ◌^◌, ◌⊎◌, ◌||◌, ◌&&◌, Bool, true, false, not, List, Option, None, Some}
 use Rattle.std.specs.Prelude.{is_some, if◌then◌else◌, nat_eq, option_map, codes, string_bytes, String}
 use Rattle.std.specs.List.{ends_with}
@@ -15,7 +15,7 @@ use Rattle.miette.specs.declared.terminal.Variables.{Variables}
 
 -- ---- where the variables come from
 
--- each is what may be answered of its name
+-- each variable is a possible answer of the system
 pub record AreLookedUp (may_be : List ℕ → Option (List ℕ) → Type 0) (v : Variables) : Type 0 where
   pub force_color : may_be (codes "FORCE_COLOR") (option_map string_bytes v.force_color)
   pub no_color : may_be (codes "NO_COLOR") (option_map string_bytes v.no_color)
@@ -32,7 +32,7 @@ pub record AreLookedUp (may_be : List ℕ → Option (List ℕ) → Type 0) (v :
   pub columns : may_be (codes "COLUMNS") (option_map string_bytes v.columns)
   pub no_graphics : may_be (codes "NO_GRAPHICS") (option_map string_bytes v.no_graphics)
 
--- and the streams go to terminals as may be answered of them
+-- the same, and so is whether each stream goes to a terminal
 abbrev pub IsToldBy : (List ℕ → Option (List ℕ) → Type 0) → (Stream → Bool → Type 0) → Variables → Type 0
 IsToldBy variables terminals v =
     AreLookedUp variables v × terminals Stdout v.stdout_terminal × terminals Stderr v.stderr_terminal
@@ -50,12 +50,12 @@ goes_to_terminal v Stderr = v.stderr_terminal
 
 -- ---- colours: none, some, or 16 million
 
--- colours are asked for, or refused, whatever the terminal is
+-- the colors that `FORCE_COLOR` asks for
 abbrev pub forced_colours : List ℕ → Option Bool
 forced_colours text = if bytes_eq text (codes "0") || bytes_eq text (codes "false") then None
     else Some (bytes_eq text (codes "3"))
 
--- a terminal without a kind has no colours, and a dumb one neither
+-- a terminal without a kind, or a dumb one, has no colors
 abbrev pub is_dumb : Option (String Global) → Bool
 is_dumb None = true
 is_dumb (Some text) = bytes_eq (string_bytes text) (codes "dumb")
@@ -68,7 +68,7 @@ lacks_colours v stream =
 abbrev pub has_many_colours : Variables → Bool
 has_many_colours v = is_set_to v.colorterm (codes "truecolor") || is_set_to v.colorterm (codes "24bit")
 
--- the colours where none are forced
+-- the colors if none are forced
 abbrev pub own_colours : Variables → Stream → Option Bool
 own_colours v stream = if lacks_colours v stream then None else Some (has_many_colours v)
 
@@ -90,7 +90,7 @@ abbrev pub is_utf8_locale : Option (String Global) → Bool
 is_utf8_locale None = false
 is_utf8_locale (Some text) = names_utf8 (string_bytes text)
 
--- the locale of characters, unless the terminal is the console of Linux, which draws few of them
+-- the locale decides, except that the Linux console, which has few glyphs, gets ASCII
 abbrev pub draws_unicode : Variables → Bool
 draws_unicode v = not (is_set_to v.term (codes "linux"))
     && is_utf8_locale (option_or v.lc_all (option_or v.lc_ctype v.lang))
@@ -114,7 +114,7 @@ shows_links v stream =
 
 -- ---- the width
 
--- the number that the text writes by its digits, from 1 and below 2 ^ 64; nothing of any other text
+-- the number that the text states in digits, from 1 and below 2 ^ 64; none for any other text
 abbrev pub IsWidth : Option (List ℕ) → Option ℕ → Type 0
 IsWidth None width = width ≡ None
 IsWidth (Some text) (Some width) = (0 < width) × IsNumeral 10 text × (digits_value 10 text < 2 ^ 64)

@@ -1,14 +1,13 @@
--- What a user may ask for, each option as it was set last. What is nothing is left to the terminal; layout, wrapping,
--- causes and related reports are as a handler has them where they weren't set. The parameter is the type of
--- highlighters.
+-- The options of a user, each with its last value. An option without a value is left to the terminal. Layout, wrapping,
+-- causes and related reports have the handler's defaults if they weren't set. The type parameter is the highlighter.
 use Rattle.std.specs.Prelude.{ℕ, Bool, true, false, List, Option, None}
 use Rattle.miette_brief.specs.declared.form.Form.{Form}
 use Rattle.miette_brief.specs.declared.form.Form.TheVariants.{Gcc}
 use Rattle.miette_snippet_rules.specs.rules.Defaults.{default_layout}
 use Rattle.miette_snippet_rules.specs.declared.options.LayoutOptions.{LayoutOptions}
 use Rattle.miette_style.specs.rules.Themes.{Theme}
-use Rattle.miette_picture_rules.specs.rules.Settings.{default_wrapping}
-use Rattle.miette_picture_rules.specs.declared.settings.Wrapping.{Wrapping}
+use Rattle.miette_graphical_rules.specs.rules.GraphicalSettings.{default_wrapping}
+use Rattle.miette_graphical_rules.specs.declared.settings.Wrapping.{Wrapping}
 use Rattle.miette.specs.declared.options.builder.RgbColors.{RgbColors}
 use Rattle.miette.specs.declared.options.builder.RgbColors.TheVariants.{Never}
 

@@ -1,4 +1,4 @@
--- What reports make of a run, one after another.
+-- Effect of reports on a session, one after another.
 use Rattle.std.specs.Prelude.{◌≡◌, ◌⊎◌, ◌||◌, ℕ, List, [], ◌∷◌, Option, Some, Result, Err, OnOk, OnErr, is_ok}
 use Rattle.std.specs.Option.{option_or}
 use Rattle.std.specs.Result.{result_err}
@@ -6,11 +6,11 @@ use Rattle.miette_tree.specs.rules.Tree.{Tree, head}
 use Rattle.miette.specs.rules.Counting.{with_one}
 use Rattle.miette.specs.rules.Forms.{IsNext, IsNextBy}
 use Rattle.miette.specs.rules.Printing.{WritesOne}
-use Rattle.miette.specs.rules.Run.{Run}
+use Rattle.miette.specs.rules.ReporterRun.{ReporterRun}
 use Rattle.miette.specs.declared.print.PrintError.{PrintError}
 use Rattle.miette.specs.declared.print.PrintError.TheVariants.{Refused, Write}
 
--- what a handler says of its texts (`ReportHandler`), and a writer of its bytes
+-- the possible texts of a handler (see `ReportHandler`), and the recorded bytes of a writer
 pub record Behaviour (T W : Type 0) : Type 1 where
   pub gives : T → Tree → List ℕ → Type 0
   pub asks : T → T → Tree → List ℕ → List ℕ → Type 0
@@ -28,13 +28,14 @@ behaving gives asks refuses keeps contents = record {
   contents = contents;
 }
 
--- How a report of this tree went, by what its call answered: the run before it, and after it. Where it was told, the
--- writer took one text of the handler, with what the form puts around it, by what was asked of its highlighter. Where
--- it wasn't, nothing was written, unless the writer failed; after that nothing more is. `faults` is told nothing yet. A
--- read is refused only where the handler may refuse, which stays or is kept. In any case the report is counted by its
--- severity; a failure is remembered.
-pub record IsReported {T W F : Type 0} (how : Behaviour T W) (answer : Result (Unit {0}) PrintError) (old : Run T W F)
-    (t : Tree) (new : Run T W F) : Type 0 where
+-- Effect of one call of `report`, by its answer and by the session before and after it. On success the writer got one
+-- text of the handler with the form's separators, by what was asked of its highlighter. On failure nothing was written,
+-- unless the writer failed, and after that nothing more is. `faults` gets nothing yet. `Refused` occurs only if the
+-- handler may refuse the report. The handler stays or keeps its settings. The report is counted in any case, and a
+-- failure is stored.
+pub record IsReported {T W F : Type 0} (how : Behaviour T W) (answer : Result (Unit {0}) PrintError)
+    (old : ReporterRun T W F)
+    (t : Tree) (new : ReporterRun T W F) : Type 0 where
   pub written : OnOk answer (WritesOne (IsNext old.form old.is_begun (how.gives old.handler t))
       (how.contents old.outputs.writer) (how.contents new.outputs.writer))
   pub asks : OnOk answer (WritesOne (IsNextBy old.form old.is_begun (how.asks old.handler new.handler t))
@@ -52,9 +53,9 @@ pub record IsReported {T W F : Type 0} (how : Behaviour T W) (answer : Result (U
     failure = option_or (result_err answer) old.failure;
   }
 
--- reports of these trees, one after another, whatever each call answered
-abbrev pub AreReported : {T W F : Type 0} → Behaviour T W → Run T W F → List Tree → Run T W F → Type 0
+-- the same for several reports, one after another, whatever each call returned
+abbrev pub AreReported : {T W F : Type 0} → Behaviour T W → ReporterRun T W F → List Tree → ReporterRun T W F → Type 0
 AreReported how old [] new = new ≡ old
 AreReported {T} {W} {F} how old (t ∷ rest) new =
-    (answer : Result (Unit {0}) PrintError) × (next : Run T W F)
+    (answer : Result (Unit {0}) PrintError) × (next : ReporterRun T W F)
     × IsReported how answer old t next × AreReported how next rest new

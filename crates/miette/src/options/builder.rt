@@ -1,4 +1,4 @@
-//! What a user may ask of a handler.
+//! The options of a handler.
 
 ghost use Rattle.std.specs.Prelude.{◌≡◌, ◌↔◌, ◌≤◌, IsTrue, None, Some, false, string_bytes, true};
 ghost use Rattle.miette_style.specs.rules.Themes.{theme_of};
@@ -7,38 +7,37 @@ ghost use Rattle.miette.specs.rules.Options.{no_options};
 mod choice;
 
 use crate::handlers::Form;
+use miette_graphical_rules::settings::Wrapping;
 use miette_highlight::highlight::Highlighter;
-use miette_picture_rules::settings::Wrapping;
-use miette_snippet_rules::options::LayoutOptions;
+use miette_snippet_rules::options::{LayoutOptions, SetLayout};
 use miette_style::theme::GraphicalTheme;
 use miette_text::wrap::{WordSeparator, WordSplitter};
 use std::marker::Model;
 
-/// Which colours a report takes, where it takes any.
+/// Which colors reports use, if they use any.
 #[derive(Clone, Copy, Debug, PartialEq, Eq, Default)]
 pub enum RgbColors {
-    /// Colours by their red, green and blue parts, whatever the terminal has.
+    /// RGB colors, on every terminal.
     Always,
-    /// The same where the terminal has 16 million colours; else its own colours.
+    /// RGB colors if the terminal has 16 million colors, else the terminal's own colors.
     Preferred,
     /// The terminal's own colours.
     #[default]
     Never,
 }
 
-/// What comparing, cloning and the default of `RgbColors` say: equal where they are the same, a clone is the same,
-/// and the default is `Never`.
+/// Two values of `RgbColors` are equal exactly if they are the same, a clone is the same, and the default is `Never`.
 pub fn rgb_colors_law()
     ensures equal { (a b : RgbColors) → IsTrue (⟦<RgbColors as PartialEq>⟧.eq a b) ↔ (a ≡ b) }
     ensures cloned { (a b : RgbColors) → ⟦<RgbColors as Clone>⟧.is_clone a b → b ≡ a }
     ensures default { (it : RgbColors) → ⟦<RgbColors as Default>⟧.is_default it → it ≡ RgbColors.Never }
 {}
 
-/// What a user asks of a handler. An option that is set twice counts as it was set last. Where one isn't set, the
-/// terminal decides what depends on it, and all else is as a handler has it of itself.
+/// Options of a handler. If an option is set twice, the last value counts. If an option that depends on the terminal
+/// isn't set, the terminal decides. Other options default to the handler's defaults.
 ///
 /// Users write `MietteHandlerOpts`; the parameter is the type of the highlighter that is used. All calls but `build`
-/// take no memory.
+/// take no memory. `SetLayout` has further setters.
 #[derive(Drop)]
 pub struct MietteHandlerOpts<H = Box<dyn Highlighter>> {
     force_brief: bool,
@@ -61,7 +60,7 @@ pub struct MietteHandlerOpts<H = Box<dyn Highlighter>> {
 }
 
 impl<H> Model for MietteHandlerOpts<H> {
-    ghost use Rattle.std.specs.Prelude.{◌≤◌, option_map, string_bytes, unwrap_or};
+    ghost use Rattle.std.specs.Prelude.{◌≤◌, option_map, string_bytes};
     ghost use Rattle.miette_style.specs.rules.Themes.{theme_of};
     ghost use Rattle.miette.specs.rules.Options.{Options};
 
@@ -87,7 +86,7 @@ impl<H> Model for MietteHandlerOpts<H> {
       highlighter = it.highlighter;
     } };
 
-    ghost invariant = { λ it. (1 ≤ it.layout.tab_width) × (1 ≤ unwrap_or it.layout.label_lines 1) };
+    ghost invariant = { λ it. 1 ≤ it.layout.tab_width };
 }
 
 impl<H> Default for MietteHandlerOpts<H> {
@@ -120,7 +119,7 @@ impl<H> Default for MietteHandlerOpts<H> {
 }
 
 impl MietteHandlerOpts {
-    /// Nothing is asked for.
+    /// Default options.
     pub fn new() -> Self
         ensures { result ≡ no_options }
     {
@@ -129,7 +128,8 @@ impl MietteHandlerOpts {
 }
 
 impl<H: Highlighter> MietteHandlerOpts<H> {
-    /// Whether a url becomes a link around the code, or a text after it; else as the terminal shows links.
+    /// Whether a url becomes a link on the code. If false, the url is printed after the code. By default the terminal
+    /// decides.
     pub fn terminal_links(mut self, links: bool) -> Self
         ensures { result ≡ record self { links = Some links } }
     {
@@ -137,7 +137,7 @@ impl<H: Highlighter> MietteHandlerOpts<H> {
         self
     }
 
-    /// Pictures are drawn with this theme, whatever is said of colours and characters.
+    /// Sets the theme of graphical reports, regardless of the options for colors and Unicode.
     pub fn graphical_theme(mut self, theme: GraphicalTheme) -> Self
         ensures { result ≡ record self { theme = Some (theme_of theme) } }
     {
@@ -145,7 +145,7 @@ impl<H: Highlighter> MietteHandlerOpts<H> {
         self
     }
 
-    /// Styles the lines of sources in pictures by this highlighter, where pictures have colours.
+    /// Highlights source lines in graphical reports, if they have colors.
     pub fn with_syntax_highlighting(mut self, highlighter: H) -> Self
         ensures { result ≡ record self { highlighter = Some highlighter } }
     {
@@ -153,7 +153,7 @@ impl<H: Highlighter> MietteHandlerOpts<H> {
         self
     }
 
-    /// Leaves the lines of sources plain.
+    /// Turns highlighting of source lines off.
     pub fn without_syntax_highlighting(mut self) -> Self
         ensures { result ≡ record self { highlighter = None } }
     {
@@ -161,8 +161,8 @@ impl<H: Highlighter> MietteHandlerOpts<H> {
         self
     }
 
-    /// How many columns a wrapped row may have; else as many as the terminal has, or 80. 0 is taken as it is: each
-    /// letter of a wrapped text stands in a row of its own.
+    /// Sets the width of wrapped text in columns. The default is the terminal's width, or 80. A width of 0 puts each
+    /// character on its own line.
     pub fn width(mut self, width: usize) -> Self
         ensures { result ≡ record self { width = Some width } }
     {
@@ -170,7 +170,7 @@ impl<H: Highlighter> MietteHandlerOpts<H> {
         self
     }
 
-    /// Whether rows are wrapped to the width.
+    /// Whether lines are wrapped at the width.
     pub fn wrap_lines(mut self, wrap_lines: bool) -> Self
         ensures { result ≡ record self { wrapping = record self.wrapping { wrap_lines = wrap_lines } } }
     {
@@ -178,7 +178,7 @@ impl<H: Highlighter> MietteHandlerOpts<H> {
         self
     }
 
-    /// Whether a word that is wider than its row is broken.
+    /// Whether a word that is wider than its line is broken.
     pub fn break_words(mut self, break_words: bool) -> Self
         ensures { result ≡ record self { wrapping = record self.wrapping { break_words = break_words } } }
     {
@@ -186,7 +186,7 @@ impl<H: Highlighter> MietteHandlerOpts<H> {
         self
     }
 
-    /// How words are told apart: by spaces, as it is by default, or by Unicode's line breaks.
+    /// Sets how words are separated: at spaces (the default), or at Unicode line breaks.
     pub fn word_separator(mut self, word_separator: WordSeparator) -> Self
         ensures { result ≡ record self { wrapping = record self.wrapping { word_separator = word_separator } } }
     {
@@ -194,7 +194,7 @@ impl<H: Highlighter> MietteHandlerOpts<H> {
         self
     }
 
-    /// Where words may be cut.
+    /// Sets where words may be broken.
     pub fn word_splitter(mut self, word_splitter: WordSplitter) -> Self
         ensures { result ≡ record self { wrapping = record self.wrapping { word_splitter = word_splitter } } }
     {
@@ -202,7 +202,7 @@ impl<H: Highlighter> MietteHandlerOpts<H> {
         self
     }
 
-    /// The causes of the report are shown, by each handler.
+    /// Prints the causes of the report, in every handler.
     pub fn with_cause_chain(mut self) -> Self
         ensures { result ≡ record self { cause_chain = true } }
     {
@@ -210,7 +210,7 @@ impl<H: Highlighter> MietteHandlerOpts<H> {
         self
     }
 
-    /// The causes of the report are not shown, by any handler.
+    /// Leaves out the causes of the report, in every handler.
     pub fn without_cause_chain(mut self) -> Self
         ensures { result ≡ record self { cause_chain = false } }
     {
@@ -218,7 +218,7 @@ impl<H: Highlighter> MietteHandlerOpts<H> {
         self
     }
 
-    /// Related reports stand one after another.
+    /// Prints related reports one after another.
     pub fn show_related_errors_as_siblings(mut self) -> Self
         ensures { result ≡ record self { related_as_nested = false } }
     {
@@ -226,7 +226,7 @@ impl<H: Highlighter> MietteHandlerOpts<H> {
         self
     }
 
-    /// Related reports stand under arrows, as causes do.
+    /// Prints related reports below arrows, like causes.
     pub fn show_related_errors_as_nested(mut self) -> Self
         ensures { result ≡ record self { related_as_nested = true } }
     {
@@ -234,7 +234,7 @@ impl<H: Highlighter> MietteHandlerOpts<H> {
         self
     }
 
-    /// Whether pictures have colours, whatever the terminal has; else where it has some.
+    /// Whether graphical reports have colors. By default the terminal decides.
     pub fn color(mut self, color: bool) -> Self
         ensures { result ≡ record self { color = Some color } }
     {
@@ -242,7 +242,7 @@ impl<H: Highlighter> MietteHandlerOpts<H> {
         self
     }
 
-    /// Which colours pictures have, where they have any.
+    /// Sets which colors graphical reports use, if they use any.
     pub fn rgb_colors(mut self, colors: RgbColors) -> Self
         ensures { result ≡ record self { rgb = colors } }
     {
@@ -250,7 +250,8 @@ impl<H: Highlighter> MietteHandlerOpts<H> {
         self
     }
 
-    /// Whether pictures have characters of Unicode, or of ASCII alone; else as the terminal draws them.
+    /// Whether graphical reports use Unicode characters. If false, they use ASCII only. By default the terminal
+    /// decides.
     pub fn unicode(mut self, unicode: bool) -> Self
         ensures { result ≡ record self { unicode = Some unicode } }
     {
@@ -258,7 +259,7 @@ impl<H: Highlighter> MietteHandlerOpts<H> {
         self
     }
 
-    /// Whether reports are pictures or narrated, whatever the terminal's user says of graphics.
+    /// Whether reports are graphical or narrated, regardless of the user's `NO_GRAPHICS`.
     pub fn force_graphical(mut self, force: bool) -> Self
         ensures { result ≡ record self { graphical = Some force } }
     {
@@ -266,7 +267,7 @@ impl<H: Highlighter> MietteHandlerOpts<H> {
         self
     }
 
-    /// In what form reports are told where they are brief; else in the rows of GCC.
+    /// Sets the format of brief reports. The default is that of GCC.
     pub fn brief_form(mut self, form: Form) -> Self
         ensures { result ≡ record self { brief_form = form } }
     {
@@ -274,8 +275,8 @@ impl<H: Highlighter> MietteHandlerOpts<H> {
         self
     }
 
-    /// Whether reports are brief, a row for each part. Where they are, this counts before all that is said of pictures
-    /// and narration; where they are not, nothing changes.
+    /// Whether reports are brief: one line for each part. If true, it takes precedence over the options for graphical
+    /// and narrated reports. If false, it has no effect.
     pub fn force_brief(mut self, force: bool) -> Self
         ensures { result ≡ record self { brief = force } }
     {
@@ -283,8 +284,8 @@ impl<H: Highlighter> MietteHandlerOpts<H> {
         self
     }
 
-    /// Whether reports are narrated or pictures. This counts before all else that is said of it, but `force_brief`:
-    /// false asks for pictures, also where the terminal's user refuses graphics.
+    /// Whether reports are narrated or graphical. It takes precedence over all other options except `force_brief`.
+    /// False asks for graphical reports even if the user's `NO_GRAPHICS` refuses them.
     pub fn force_narrated(mut self, force: bool) -> Self
         ensures { result ≡ record self { narrated = Some force } }
     {
@@ -292,7 +293,7 @@ impl<H: Highlighter> MietteHandlerOpts<H> {
         self
     }
 
-    /// A text under each outermost report, in pictures and narrated.
+    /// Sets a text that is printed below each outermost report, in graphical and narrated reports.
     pub fn footer(mut self, footer: String) -> Self
         ensures { result ≡ record self { footer = Some (string_bytes footer) } }
     {
@@ -300,32 +301,12 @@ impl<H: Highlighter> MietteHandlerOpts<H> {
         self
     }
 
-    /// How many lines of context are shown around a label that has no number of its own, in pictures and
-    /// narrated.
+    /// Sets the number of context lines around labels that have no number of their own, in graphical and narrated
+    /// reports.
     pub fn context_lines(mut self, lines: usize) -> Self
         ensures { result ≡ record self { layout = record self.layout { context_lines = lines } } }
     {
         self.layout.context_lines = lines;
-        self
-    }
-
-    /// Whether a label at the end of a source that isn't empty is drawn in pictures, after the text of the last line;
-    /// else it isn't. Where no lines are shown around labels, those over that source have one then.
-    pub fn end_labels(mut self, drawn: bool) -> Self
-        ensures { result ≡ record self { layout = record self.layout { end_labels = drawn } } }
-    {
-        self.layout.end_labels = drawn;
-        self
-    }
-
-    /// In pictures a label over more lines than these is folded: only the lines around its first and its last one are
-    /// shown, and a row of dots stands for those between them, where they are several. At least 1 is the caller's
-    /// condition.
-    pub fn label_lines(mut self, lines: usize) -> Self
-        requires { 1 ≤ lines }
-        ensures { result ≡ record self { layout = record self.layout { label_lines = Some lines } } }
-    {
-        self.layout.label_lines = Some(lines);
         self
     }
 
@@ -338,21 +319,27 @@ impl<H: Highlighter> MietteHandlerOpts<H> {
         self
     }
 
-    /// A line wider than `columns` is cut in pictures: it shows what stands around its labels, as much as fits into
-    /// that width, and dots in place of the rest. A limit below 8 counts as 8.
-    pub fn line_columns(mut self, columns: usize) -> Self
-        ensures { result ≡ record self { layout = record self.layout { line_columns = Some columns } } }
-    {
-        self.layout.line_columns = Some(columns);
-        self
-    }
-
     /// Whether lines of sources are cut at the width: where no `line_columns` is set, a line whose text has more
     /// columns than the width is cut in pictures.
     pub fn fit_lines(mut self, fit: bool) -> Self
         ensures { result ≡ record self { fit_lines = fit } }
     {
         self.fit_lines = fit;
+        self
+    }
+}
+
+impl<H: Highlighter> SetLayout for MietteHandlerOpts<H> {
+    ghost layout_of = { λ it. it.layout };
+
+    ghost laid_out = { λ it layout. record it { layout = layout } };
+
+    fn layout(&self) -> LayoutOptions {
+        self.layout
+    }
+
+    fn with_layout(mut self, layout: LayoutOptions) -> Self {
+        self.layout = layout;
         self
     }
 }

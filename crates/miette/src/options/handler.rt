@@ -16,23 +16,22 @@ use miette_style::theme::Terminal;
 use miette_tree::report::Report;
 use std::alloc::{AllocError, Global};
 
-/// A handler that draws reports, one that narrates them, or one that tells them in brief. Users write `MietteHandler`;
-/// the parameter is the type of the highlighter that is used.
+/// A graphical, narrated or brief handler. The type parameter is the highlighter. Users write `MietteHandler`.
 #[derive(Drop)]
 pub enum MietteHandler<H = Box<dyn Highlighter>> {
-    /// Reports are pictures.
+    /// Renders graphical reports.
     Graphical(GraphicalReportHandler<H>),
-    /// Reports are rows of plain words.
+    /// Renders narrated reports.
     Narrated(NarratableReportHandler),
-    /// Reports have one row for each part.
+    /// Renders brief reports.
     Brief(BriefReportHandler),
 }
 
 impl MietteHandler {
-    /// The handler for a terminal whose user asks for nothing more.
+    /// Creates the default handler for a terminal.
     ///
     /// # Errors
-    /// Where no memory is found for the theme.
+    /// `AllocError` if allocation for the theme fails.
     pub fn new(alloc: Global, terminal: &Terminal) -> Result<Self, AllocError>
         ensures { IfOk result (IsChosen no_options terminal.now) }
     {
@@ -41,16 +40,16 @@ impl MietteHandler {
 }
 
 impl<H: Highlighter> ReportHandler for MietteHandler<H> {
-    ghost use Rattle.miette.specs.views.Handler.{Asks, Gives, Keeps, Refuses};
+    ghost use Rattle.miette.specs.views.Handler.{HandlerAsks, HandlerGives, HandlerKeeps, HandlerRefuses};
     ghost use Rattle.miette_tree.specs.views.Handler.{AppendsOne};
 
-    ghost gives = { Gives H.is_blank };
+    ghost gives = { HandlerGives H.is_blank };
 
-    ghost refuses = { Refuses };
+    ghost refuses = { HandlerRefuses };
 
-    ghost keeps = { Keeps H.is_blank };
+    ghost keeps = { HandlerKeeps H.is_blank };
 
-    ghost asks = { λ old new t before after. AppendsOne (Asks H.is_blank H.may_follow old new t) before after };
+    ghost asks = { λ old new t before after. AppendsOne (HandlerAsks H.is_blank H.may_follow old new t) before after };
 
     fn debug<D: Diagnostic, S: SourceCode>(
         &mut self,

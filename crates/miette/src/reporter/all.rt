@@ -1,4 +1,4 @@
-//! Several reports of a run at once.
+//! Several reports of a session at once.
 
 ghost use Rattle.std.specs.Prelude.{◌≡◌, Option, map};
 ghost use Rattle.std.specs.Process.{exit_status};
@@ -6,8 +6,8 @@ ghost use Rattle.miette_tree.specs.views.Report.{tree_of};
 ghost use Rattle.miette.specs.declared.print.PrintError.{PrintError};
 ghost use Rattle.miette.specs.rules.Counting.{with_all};
 ghost use Rattle.miette.specs.rules.Reported.{AreReported, behaving};
-ghost use Rattle.miette.specs.rules.Run.{run_status};
-ghost use Rattle.miette.specs.views.Severities.{severity_of};
+ghost use Rattle.miette.specs.rules.ReporterRun.{run_status};
+ghost use Rattle.miette.specs.views.Severities.{counted_severity};
 
 use crate::handlers::ReportHandler;
 use crate::reporter::run::Reporter;
@@ -18,8 +18,8 @@ use std::io::Write;
 use std::process::ExitCode;
 
 impl<T: ReportHandler, W: Write, F: Write> Reporter<T, W, F> {
-    /// Reports these one after another, each as `report` does, also after one that can't be told. `failure` says why
-    /// one couldn't, of the last that couldn't.
+    /// Prints these reports one after another, each like `report`. It goes on after one that can't be printed.
+    /// `failure` returns the last reason.
     pub fn report_each<D: Diagnostic, S: SourceCode>(&mut self, reports: &[Report<D, S>])
         ensures { AreReported (behaving T.gives T.asks T.refuses T.keeps W.contents) self.old
             (map (tree_of D.meaning S.source) reports.now) self.new }
@@ -31,11 +31,11 @@ impl<T: ReportHandler, W: Write, F: Write> Reporter<T, W, F> {
 }
 
 impl<T: ReportHandler + Drop, W: Write + Drop, F: Write + Drop> Reporter<T, W, F> {
-    /// Reports these, as `report_each` does, and ends the run, as `finish` does. The status is 0 where no error was
-    /// reported and all was written, else 1.
+    /// Prints these reports like `report_each`, and ends the session like `finish`. The exit code is 0 if there was no
+    /// error report and all was written, else 1.
     pub fn report_all<D: Diagnostic, S: SourceCode>(mut self, reports: &[Report<D, S>]) -> ExitCode
         ensures { (failure : Option PrintError) × (exit_status result ≡ run_status (with_all self.counts
-            (map (severity_of D.meaning S.source) reports.now)) failure) }
+            (map (counted_severity D.meaning S.source) reports.now)) failure) }
     {
         self.report_each(reports);
         self.finish()

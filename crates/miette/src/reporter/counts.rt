@@ -1,4 +1,4 @@
-//! How many reports a run had of each severity.
+//! Counts the reports of a session by severity.
 
 ghost use Rattle.std.specs.Prelude.{◌≡◌};
 ghost use Rattle.miette.specs.rules.Counting.{no_counts, plural, with_one};
@@ -6,11 +6,11 @@ ghost use Rattle.miette.specs.rules.Counting.{no_counts, plural, with_one};
 use miette_protocol::protocol::Severity;
 use std::fmt;
 
-/// How many reports there were of each severity, up to `usize::MAX`. Related reports and causes don't count: they are
-/// parts of a report.
+/// Number of reports of each severity, at most `usize::MAX`. Related reports and causes aren't counted: they are parts
+/// of a report.
 #[derive(Clone, Copy, Debug, PartialEq, Eq)]
 pub struct Counts {
-    /// Errors, and reports without a severity.
+    /// Error reports, and reports without a severity.
     pub errors: usize,
     /// Warnings.
     pub warnings: usize,
@@ -19,8 +19,8 @@ pub struct Counts {
 }
 
 impl Counts {
-    /// None yet.
-    pub fn none() -> Counts
+    /// All counts are zero.
+    pub fn zero() -> Counts
         ensures { result ≡ no_counts }
     {
         Counts {
@@ -30,7 +30,7 @@ impl Counts {
         }
     }
 
-    /// These and one report of this severity.
+    /// Adds one report of this severity.
     pub fn with_one(self, severity: Option<Severity>) -> Counts
         ensures { result ≡ with_one self severity }
     {
@@ -59,7 +59,7 @@ impl Counts {
     }
 }
 
-/// As `2 errors, 1 warning`; advice is told where there is some.
+/// Prints like `2 errors, 1 warning`. Advice is printed if there is any.
 impl fmt::Display for Counts {
     ghost use Rattle.std.specs.Prelude.{Some};
     ghost use Rattle.miette.specs.rules.Counting.{counts_text};
@@ -85,7 +85,7 @@ impl fmt::Display for Counts {
     }
 }
 
-// What the word for `count` things ends in.
+// Plural ending of the word after `count`.
 fn plural(count: usize) -> &'static str
     ensures { result.now ≡ plural count }
 {

@@ -1,27 +1,27 @@
-//! The forms in which the reports of a run are written.
+//! The output forms of a session.
 
 ghost use Rattle.std.specs.Prelude.{◌≡◌};
-ghost use Rattle.miette.specs.rules.Forms.{after_it, closing, form_named, front, has_summary};
+ghost use Rattle.miette.specs.rules.Forms.{after_it, closing, report_form_named, front, has_summary};
 
-/// In which form the reports of a run are written, and what stands between two.
+/// The output form of a session's reports, and what separates them.
 #[derive(Clone, Copy, Debug, PartialEq, Eq)]
 pub enum Form {
-    /// As options and terminal choose, a picture unless they say otherwise; a blank row between two.
+    /// The form that options and terminal choose, graphical by default. A blank line separates reports.
     Pictures,
-    /// Narrated; a blank row between two.
+    /// Narrated reports, separated by a blank line.
     Narrated,
-    /// A row for each part, as compilers write them; nothing between two.
+    /// Brief reports: one line for each part, as compilers print them. Nothing separates reports.
     Brief,
-    /// One array of JSON, each report in a row of its own.
+    /// One JSON array, with each report on its own line.
     JsonArray,
-    /// A row of JSON for each report.
+    /// One line of JSON for each report.
     JsonRows,
 }
 
 impl Form {
-    /// The form of this name, as a program's words have it: `pictures`, `narrated`, `brief`, `json` or `json-rows`.
+    /// Returns the form with this name: `pictures`, `narrated`, `brief`, `json` or `json-rows`.
     pub fn named(name: &str) -> Option<Form>
-        ensures { result ≡ form_named name.now }
+        ensures { result ≡ report_form_named name.now }
     {
         if name == "pictures" {
             Some(Form::Pictures)
@@ -38,7 +38,7 @@ impl Form {
         }
     }
 
-    // What stands in front of a report, where others were written before it or none.
+    // The text before a report. `is_begun` says whether a report was written before it.
     pub(crate) fn front(self, is_begun: bool) -> &'static str
         ensures { result.now ≡ front self is_begun }
     {
@@ -50,7 +50,7 @@ impl Form {
         }
     }
 
-    // What stands after each report.
+    // The text after each report.
     pub(crate) fn after_it(self) -> &'static str
         ensures { result.now ≡ after_it self }
     {
@@ -60,7 +60,7 @@ impl Form {
         }
     }
 
-    // What closes the reports, where some were written or none.
+    // The text after the last report. `is_begun` says whether a report was written.
     pub(crate) fn closing(self, is_begun: bool) -> &'static str
         ensures { result.now ≡ closing self is_begun }
     {
@@ -71,7 +71,7 @@ impl Form {
         }
     }
 
-    // Whether the form has room for a row that sums the run up.
+    // Whether the form allows a summary line.
     pub(crate) fn has_summary(self) -> bool
         ensures { result ≡ has_summary self }
     {

@@ -14,21 +14,21 @@ use miette_style::theme::Terminal;
 use miette_tree::report::Report;
 use std::alloc::{AllocError, Global};
 
-/// The handler of a form; the parameter is the type of the highlighter that is used.
+/// The handler of a form. The type parameter is the highlighter.
 #[derive(Drop)]
 pub enum FormHandler<H = BlankHighlighter> {
-    /// The one that options and terminal choose.
+    /// The handler that options and terminal choose.
     Chosen(MietteHandler<H>),
-    /// Reports are JSON.
+    /// The JSON handler.
     Json(JSONReportHandler),
 }
 
 impl<H: Highlighter> FormHandler<H> {
-    /// The handler of this form. Brief and narrated forms count before what the options say of it, JSON before all
-    /// options.
+    /// Builds the handler of this form. A brief or narrated form takes precedence over the options, and JSON ignores
+    /// them.
     ///
     /// # Errors
-    /// Where no memory is found for the theme.
+    /// `AllocError` if allocation for the theme fails.
     pub fn build(
         alloc: Global,
         form: Form,

@@ -1,4 +1,4 @@
-//! The reporter: it writes the reports of a run, counts them, and gives the program's status.
+//! The reporter: prints the reports of a session, counts them, and returns the exit code.
 
 ghost use Rattle.std.specs.Prelude.{◌≡◌, ◌⊎◌, ◌||◌, Some, None, true, IfOk, OnOk, OnErr, is_ok, is_some};
 ghost use Rattle.std.specs.Prelude.{string_bytes};
@@ -13,10 +13,10 @@ ghost use Rattle.miette.specs.rules.Counting.{with_one};
 ghost use Rattle.miette.specs.rules.Forms.{IsNext, IsNextBy, ending};
 ghost use Rattle.miette.specs.rules.Printing.{WritesOne, unprinted_row};
 ghost use Rattle.miette.specs.rules.Reported.{IsReported, behaving};
-ghost use Rattle.miette.specs.rules.Run.{EndsBy, new_run, run_status};
+ghost use Rattle.miette.specs.rules.ReporterRun.{EndsBy, new_run, run_status};
 
 use crate::handlers::ReportHandler;
-use crate::print::{Outputs, PrintError, tell};
+use crate::print::{Outputs, PrintError, explain_failure};
 use crate::reporter::counts::Counts;
 use crate::reporter::form::Form;
 use crate::reporter::handler::FormHandler;
@@ -30,10 +30,9 @@ use std::marker::Model;
 use std::process::ExitCode;
 use std::rt::{Stderr, Stdout};
 
-/// Writes the reports of a run one after another, counts them, and says with which status the program ends.
+/// Prints the reports of a session one after another, counts them, and returns the program's exit code.
 ///
-/// The parameters are the handler that makes the texts, the writer that takes them, and the one that is told where
-/// that fails.
+/// The type parameters are the handler, the writer of the reports, and the writer of failures.
 #[derive(Drop)]
 pub struct Reporter<T = FormHandler, W = Stdout, F = Stderr> {
     alloc: Global,
@@ -47,9 +46,9 @@ pub struct Reporter<T = FormHandler, W = Stdout, F = Stderr> {
 }
 
 impl<T, W, F> Model for Reporter<T, W, F> {
-    ghost use Rattle.miette.specs.rules.Run.{Run};
+    ghost use Rattle.miette.specs.rules.ReporterRun.{ReporterRun};
 
-    ghost Value = { Run T W F };
+    ghost Value = { ReporterRun T W F };
 
     ghost view = { λ it. record {
       handler = it.handler;
@@ -63,7 +62,7 @@ impl<T, W, F> Model for Reporter<T, W, F> {
 }
 
 impl<T, W, F> Reporter<T, W, F> {
-    /// A run in this form whose texts this handler makes; nothing was reported yet.
+    /// Creates a reporter with this handler and form. Nothing has been reported yet.
     pub fn with_handler(alloc: Global, handler: T, form: Form, outputs: Outputs<W, F>) -> Self
         ensures { result ≡ new_run handler outputs form }
     {
@@ -72,14 +71,14 @@ impl<T, W, F> Reporter<T, W, F> {
             handler,
             outputs,
             form,
-            counts: Counts::none(),
+            counts: Counts::zero(),
             is_begun: false,
             is_summed: false,
             failure: None,
         }
     }
 
-    /// The run ends with a row that tells the counts, as `2 errors, 1 warning`, but where it is JSON.
+    /// Ends the session with a line of counts, such as `2 errors, 1 warning`. JSON forms have none.
     pub fn with_summary(mut self) -> Self
         ensures { result ≡ record self { is_summed = true } }
     {
@@ -87,28 +86,28 @@ impl<T, W, F> Reporter<T, W, F> {
         self
     }
 
-    /// How many errors were reported, up to `usize::MAX`, as of all counts; a report without a severity is one.
+    /// Number of error reports, at most `usize::MAX`. Reports without a severity are errors.
     pub fn errors(&self) -> usize
         ensures { result ≡ self.now.counts.errors }
     {
         self.counts.errors
     }
 
-    /// How many warnings were reported.
+    /// Number of warnings.
     pub fn warnings(&self) -> usize
         ensures { result ≡ self.now.counts.warnings }
     {
         self.counts.warnings
     }
 
-    /// How many reports were advice.
+    /// Number of advice reports.
     pub fn advices(&self) -> usize
         ensures { result ≡ self.now.counts.advices }
     {
         self.counts.advices
     }
 
-    /// Why a report wasn't written, of the last one that wasn't. After `Write` nothing more is written.
+    /// Why the last failed report wasn't written, if one failed. After `Write` nothing more is written.
     pub fn failure(&self) -> Option<PrintError>
         ensures { result ≡ self.now.failure }
     {
@@ -117,12 +116,13 @@ impl<T, W, F> Reporter<T, W, F> {
 }
 
 impl<T: ReportHandler, W: Write, F: Write> Reporter<T, W, F> {
-    /// Writes one report, with what stands between two in this form, and counts it by its severity, also where it isn't
+    /// Writes one report, with the separator of the form, and counts it by severity. It is counted even if it isn't
     /// written.
     ///
     /// # Errors
-    /// `Memory`; `Refused` as the handler says: nothing was written then, and a further report is. `Write` where the
-    /// writer failed, which may have taken a beginning of the text, and from then on.
+    /// `Memory` if allocation fails, and `Refused` as described for the handler. In both cases nothing was written, and
+    /// later reports still are. `Write` if the writer failed; it may have taken a beginning of the text, and all later
+    /// calls return `Write` too.
     pub fn report<D: Diagnostic, S: SourceCode>(
         &mut self,
         report: &Report<D, S>,
@@ -147,7 +147,7 @@ impl<T: ReportHandler, W: Write, F: Write> Reporter<T, W, F> {
           is_begun = is_ok result || self.old.is_begun;
           failure = option_or (result_err result) self.old.failure;
         } }
-        // all of these as one relation, which `report_each` follows
+        // all of these as one relation, which `report_each` uses
         ensures reported { IsReported (behaving T.gives T.asks T.refuses T.keeps W.contents) result self.old
             (tree_of D.meaning S.source report.now) self.new }
     {
@@ -191,7 +191,7 @@ impl<T: ReportHandler, W: Write, F: Write> Reporter<T, W, F> {
         self.put(text.as_str())
     }
 
-    // The next report's text, with what stands around it.
+    // The text of the next report, with its separator.
     fn next_text<D: Diagnostic, S: SourceCode>(
         &mut self,
         report: &Report<D, S>,
@@ -212,7 +212,7 @@ impl<T: ReportHandler, W: Write, F: Write> Reporter<T, W, F> {
         Ok(text)
     }
 
-    // Writes a text, and nothing else.
+    // Writes a text.
     fn put(&mut self, text: &str) -> Result<(), PrintError>
         ensures ok { OnOk result (Appends (W.contents self.old.outputs.writer)
             (W.contents self.new.outputs.writer) text.now) }
@@ -226,9 +226,9 @@ impl<T: ReportHandler, W: Write, F: Write> Reporter<T, W, F> {
         }
     }
 
-    /// Ends the run: the array's bracket and the summary are written, where there are some, also where a report was
-    /// left out. The status is 0 where no error was reported and all was written, else 1. Where a report or the end
-    /// wasn't written, `faults` is told why, by the row of `print_on`. A run is ended once.
+    /// Ends the session: writes the end of the array or the summary, if the form has one. The exit code is 0 if there
+    /// was no error report and all was written, else 1. If a report or the end wasn't written, the reason is printed to
+    /// `faults` as by `print_with_outputs`. Call it once.
     pub fn finish(&mut self) -> ExitCode
         ensures ended { EndsBy self.new.failure (Appends (W.contents self.old.outputs.writer)
             (W.contents self.new.outputs.writer)
@@ -247,10 +247,10 @@ impl<T: ReportHandler, W: Write, F: Write> Reporter<T, W, F> {
         }
     }
 
-    /// As `finish`.
+    /// Like `finish`.
     ///
     /// # Errors
-    /// That of `faults`, where it was told and did not take the row.
+    /// The error of `faults`, if it didn't take that line.
     pub fn try_finish(&mut self) -> io::Result<ExitCode>
         ensures ended { EndsBy self.new.failure (Appends (W.contents self.old.outputs.writer)
             (W.contents self.new.outputs.writer)
@@ -271,7 +271,7 @@ impl<T: ReportHandler, W: Write, F: Write> Reporter<T, W, F> {
         Ok(self.status())
     }
 
-    // Writes the end, and remembers where that fails.
+    // Writes the end, and stores the reason if that fails.
     fn end(&mut self)
         ensures ended { EndsBy self.new.failure (Appends (W.contents self.old.outputs.writer)
             (W.contents self.new.outputs.writer)
@@ -306,7 +306,7 @@ impl<T: ReportHandler, W: Write, F: Write> Reporter<T, W, F> {
         self.put(text.as_str())
     }
 
-    // What ends the run.
+    // The text that ends a session.
     fn end_text(&self) -> Result<String, AllocError>
         ensures { IfOk result (λ text. string_bytes text
             ≡ ending self.now.form self.now.is_begun self.now.is_summed self.now.counts) }
@@ -320,7 +320,7 @@ impl<T: ReportHandler, W: Write, F: Write> Reporter<T, W, F> {
         }
     }
 
-    // Tells why a report wasn't written, where one wasn't.
+    // Prints why a report wasn't written, if one wasn't.
     fn tell_failure(&mut self) -> io::Result<()>
         ensures told { OnOk result ((why : PrintError) → (self.old.failure ≡ Some why) →
             Appends (F.contents self.old.outputs.faults) (F.contents self.new.outputs.faults) (unprinted_row why)) }
@@ -330,12 +330,12 @@ impl<T: ReportHandler, W: Write, F: Write> Reporter<T, W, F> {
         ensures state { self.new ≡ record self.old { outputs = self.new.outputs } }
     {
         match self.failure {
-            Some(why) => tell(why, &mut self.outputs.faults),
+            Some(why) => explain_failure(why, &mut self.outputs.faults),
             None => Ok(()),
         }
     }
 
-    // The status of a run that is at its end.
+    // The exit code at the end of a session.
     fn status(&self) -> ExitCode
         ensures { exit_status result ≡ run_status self.now.counts self.now.failure }
     {

@@ -1,4 +1,4 @@
-//! The beginning of a run: the handler is chosen by its form, options and the terminal at hand.
+//! Starts a session: form, options and terminal choose the handler.
 
 ghost use Rattle.std.specs.Prelude.{◌≡◌, IfOk};
 ghost use Rattle.miette.specs.rules.Detection.{IsToldBy};
@@ -9,15 +9,15 @@ use crate::print::Outputs;
 use crate::reporter::form::Form;
 use crate::reporter::handler::FormHandler;
 use crate::reporter::run::Reporter;
-use crate::terminal::{Lookup, Stream, Streams, detect};
+use crate::terminal::{Lookup, Stream, Streams, detect_terminal};
 use miette_highlight::highlight::Highlighter;
 use std::alloc::AllocError;
 
 impl<H: Highlighter, W: Drop, F: Drop> Reporter<FormHandler<H>, W, F> {
-    /// A run on standard output, as its terminal has it: by the handler that form and options choose.
+    /// Starts a session on standard output, with the handler that form and options choose for its terminal.
     ///
     /// # Errors
-    /// Where no memory is found for variables and theme.
+    /// `AllocError` if allocation for variables or theme fails.
     pub fn new<R: Lookup + AllocGlobal + Streams<Out = W, Faults = F>>(
         rt: &R,
         form: Form,
@@ -27,14 +27,14 @@ impl<H: Highlighter, W: Drop, F: Drop> Reporter<FormHandler<H>, W, F> {
             form options) }
     {
         let outputs = Outputs::new(rt.output(), rt.faults());
-        Reporter::begun_on(rt, Stream::Stdout, form, options, outputs)
+        Reporter::on_stream(rt, Stream::Stdout, form, options, outputs)
     }
 
-    /// A run on a writer, by the handler that form and options choose for the terminal of the stream.
+    /// Starts a session on a writer, with the handler that form and options choose for the stream's terminal.
     ///
     /// # Errors
-    /// Where no memory is found for variables and theme.
-    pub fn begun_on<R: Lookup + AllocGlobal + Streams>(
+    /// `AllocError` if allocation for variables or theme fails.
+    pub fn on_stream<R: Lookup + AllocGlobal + Streams>(
         rt: &R,
         stream: Stream,
         form: Form,
@@ -45,18 +45,18 @@ impl<H: Highlighter, W: Drop, F: Drop> Reporter<FormHandler<H>, W, F> {
             form options) }
         ensures outputs { IfOk result (λ it. it.outputs ≡ outputs) }
     {
-        let terminal = detect(rt, stream)?;
+        let terminal = detect_terminal(rt, stream)?;
         let handler = FormHandler::build(rt.alloc(), form, options, &terminal)?;
         Ok(Reporter::with_handler(rt.alloc(), handler, form, outputs))
     }
 }
 
 impl<H: Highlighter, F: Drop> Reporter<FormHandler<H>, F, F> {
-    /// As `new`, on standard error.
+    /// Like `new`, but on standard error.
     ///
     /// # Errors
-    /// Where no memory is found for variables and theme.
-    pub fn on_faults<R: Lookup + AllocGlobal + Streams<Faults = F>>(
+    /// `AllocError` if allocation for variables or theme fails.
+    pub fn on_stderr<R: Lookup + AllocGlobal + Streams<Faults = F>>(
         rt: &R,
         form: Form,
         options: MietteHandlerOpts<H>,
@@ -65,6 +65,6 @@ impl<H: Highlighter, F: Drop> Reporter<FormHandler<H>, F, F> {
             form options) }
     {
         let outputs = Outputs::new(rt.faults(), rt.faults());
-        Reporter::begun_on(rt, Stream::Stderr, form, options, outputs)
+        Reporter::on_stream(rt, Stream::Stderr, form, options, outputs)
     }
 }

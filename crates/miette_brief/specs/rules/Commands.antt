@@ -1,33 +1,33 @@
--- Workflow commands of GitHub as data, and how they are spelled.
+-- GitHub workflow commands as data, and their text.
 use Rattle.std.specs.Prelude.{ℕ, ◌+◌, ◌/◌, ◌%◌, ◌==◌, nat_lt, max, Bool, true, false, ◌||◌, List, [], ◌∷◌, ◌++◌, Option}
 use Rattle.std.specs.Prelude.{Some}
 use Rattle.std.specs.Prelude.{None, codes, decimal, if◌then◌else◌}
 use Rattle.std.specs.List.{flat_map}
 use Rattle.miette_protocol.specs.declared.protocol.Severity.{Severity}
 use Rattle.miette_protocol.specs.declared.protocol.Severity.TheVariants.{Advice, Warning, Error}
-use Rattle.miette_positions.specs.declared.place.Region.{Region}
-use Rattle.miette_brief.specs.declared.escapes.Part.{Part}
-use Rattle.miette_brief.specs.declared.escapes.Part.TheVariants.{Message, Property as InProperty}
+use Rattle.miette_positions.specs.declared.position.Region.{Region}
+use Rattle.miette_brief.specs.declared.escapes.CommandPart.{CommandPart}
+use Rattle.miette_brief.specs.declared.escapes.CommandPart.TheVariants.{Message, Property as InProperty}
 
 -- ---- a command
 
--- a file with a name, and a part of it, if one is told
-pub record Site : Type 0 where
+-- the file that a command names, and the region in it, if one is given
+pub record FileLocation : Type 0 where
   pub file : List ℕ
   pub region : Option Region
 
--- a row of a message below the first: what names it, and its text
-pub record Saying : Type 0 where
+-- a row of a message below the first: its title and its text
+pub record MessageRow : Type 0 where
   pub title : List ℕ
   pub text : List ℕ
 
--- how bad it is, where it lies, what titles it, the first text of its message, and what stands below that
+-- severity, file location, title, first row of the message, and the rows below
 pub record Command : Type 0 where
   pub severity : Option Severity
-  pub site : Option Site
+  pub site : Option FileLocation
   pub title : Option (List ℕ)
   pub message : List ℕ
-  pub sayings : List Saying
+  pub message_rows : List MessageRow
 
 -- ---- properties
 
@@ -35,37 +35,37 @@ pub record Property : Type 0 where
   pub key : List ℕ
   pub value : List ℕ
 
--- the columns of a region on one line, from 1: its first one, and its last one, which is the first where it is empty
-abbrev pub line_columns : Region → List Property
-line_columns r =
+-- the columns of a region on one line, from 1: the first and the last column; the last is at least the first
+abbrev pub one_line_columns : Region → List Property
+one_line_columns r =
     record { key = codes "col"; value = decimal (r.start.column + 1) }
     ∷ record { key = codes "endColumn"; value = decimal (max (r.start.column + 1) r.end.column) } ∷ []
 
--- none of a region on several lines
+-- no columns for a region on several lines
 abbrev pub columns_if : Bool → Region → List Property
-columns_if true r = line_columns r
+columns_if true r = one_line_columns r
 columns_if false r = []
 
 abbrev pub columns : Region → List Property
 columns r = columns_if (r.start.line == r.end.line) r
 
--- its lines, from 1, and its columns
+-- the lines of a region, from 1, and its columns
 abbrev pub region_properties : Option Region → List Property
 region_properties None = []
 region_properties (Some r) =
     record { key = codes "line"; value = decimal (r.start.line + 1) }
     ∷ record { key = codes "endLine"; value = decimal (r.end.line + 1) } ∷ columns r
 
-abbrev pub site_properties : Option Site → List Property
-site_properties None = []
-site_properties (Some site) = record { key = codes "file"; value = site.file } ∷ region_properties site.region
+abbrev pub file_properties : Option FileLocation → List Property
+file_properties None = []
+file_properties (Some site) = record { key = codes "file"; value = site.file } ∷ region_properties site.region
 
 abbrev pub title_properties : Option (List ℕ) → List Property
 title_properties None = []
 title_properties (Some title) = record { key = codes "title"; value = title } ∷ []
 
 abbrev pub properties : Command → List Property
-properties c = site_properties c.site ++ title_properties c.title
+properties c = file_properties c.site ++ title_properties c.title
 
 -- ---- escapes
 
@@ -73,12 +73,12 @@ properties c = site_properties c.site ++ title_properties c.title
 abbrev pub is_escaped_everywhere : ℕ → Bool
 is_escaped_everywhere b = (b == 37) || ((b == 13) || (b == 10))
 
--- these stand in no message, nor in a property, where `:` and `,` don't stand either
-abbrev pub is_escaped : Part → ℕ → Bool
-is_escaped Message b = is_escaped_everywhere b
-is_escaped InProperty b = is_escaped_everywhere b || ((b == 58) || (b == 44))
+-- the bytes that are escaped: `%`, CR and LF everywhere, and `:` and `,` in properties
+abbrev pub is_percent_escaped : CommandPart → ℕ → Bool
+is_percent_escaped Message b = is_escaped_everywhere b
+is_percent_escaped InProperty b = is_escaped_everywhere b || ((b == 58) || (b == 44))
 
--- a digit in base 16, in upper case
+-- a hexadecimal digit in upper case
 abbrev pub hex_digit : ℕ → ℕ
 hex_digit n = if nat_lt n 10 then 48 + n else 55 + n
 
@@ -86,10 +86,10 @@ hex_digit n = if nat_lt n 10 then 48 + n else 55 + n
 abbrev pub percent : ℕ → List ℕ
 percent b = 37 ∷ hex_digit (b / 16) ∷ hex_digit (b % 16) ∷ []
 
-abbrev pub byte_text : Part → ℕ → List ℕ
-byte_text part b = if is_escaped part b then percent b else b ∷ []
+abbrev pub byte_text : CommandPart → ℕ → List ℕ
+byte_text part b = if is_percent_escaped part b then percent b else b ∷ []
 
-abbrev pub escaped : Part → List ℕ → List ℕ
+abbrev pub escaped : CommandPart → List ℕ → List ℕ
 escaped part text = flat_map (byte_text part) text
 
 -- ---- spelling
@@ -106,7 +106,7 @@ abbrev pub properties_text : List Property → List ℕ
 properties_text [] = []
 properties_text (p ∷ ps) = codes " " ++ (property_text p ++ flat_map further_property ps)
 
--- an error where nothing else is said
+-- `error` without a severity
 abbrev pub command_name : Option Severity → List ℕ
 command_name None = codes "error"
 command_name (Some Error) = codes "error"
@@ -114,19 +114,19 @@ command_name (Some Warning) = codes "warning"
 command_name (Some Advice) = codes "notice"
 
 -- `%0Ahelp: try it`
-abbrev pub saying_text : Saying → List ℕ
-saying_text it = codes "%0A" ++ (escaped Message it.title ++ escaped Message it.text)
+abbrev pub message_row_text : MessageRow → List ℕ
+message_row_text it = codes "%0A" ++ (escaped Message it.title ++ escaped Message it.text)
 
-abbrev pub sayings_text : List Saying → List ℕ
-sayings_text its = flat_map saying_text its
+abbrev pub message_rows_text : List MessageRow → List ℕ
+message_rows_text its = flat_map message_row_text its
 
 -- `::error file=bad_file.rs,line=2::oops!%0Ahelp: try it`
 abbrev pub command_text : Command → List ℕ
 command_text c =
     codes "::" ++ (command_name c.severity ++ (properties_text (properties c)
-    ++ (codes "::" ++ (escaped Message c.message ++ sayings_text c.sayings))))
+    ++ (codes "::" ++ (escaped Message c.message ++ message_rows_text c.message_rows))))
 
--- each with a line feed at its end
+-- commands, each ended by a line feed
 abbrev pub commands_text : List Command → List ℕ
 commands_text [] = []
 commands_text (c ∷ cs) = command_text c ++ (10 ∷ commands_text cs)

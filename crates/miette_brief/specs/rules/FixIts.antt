@@ -1,31 +1,31 @@
--- The row of an edit, as GCC and clang print it for `-fdiagnostics-parseable-fixits`.
+-- Edits as GCC and clang print them for `-fdiagnostics-parseable-fixits`.
 use Rattle.std.specs.Prelude.{ℕ, ◌+◌, ◌/◌, ◌%◌, ◌==◌, nat_le, nat_lt, Bool, ◌&&◌, ◌||◌, List, [], ◌∷◌, ◌++◌, Option}
 use Rattle.std.specs.Prelude.{codes, decimal, if◌then◌else◌, unwrap_or}
 use Rattle.std.specs.List.{flat_map}
-use Rattle.miette_brief.specs.declared.fix_its.Position.{Position}
+use Rattle.miette_brief.specs.declared.fix_its.LineColumn.{LineColumn}
 
--- an edit of a source, which may have a name: where it begins, where it ends, after its last byte, and its text
+-- an edit: the name of its source, if any; its range, whose end is exclusive; and its text
 pub record FixIt : Type 0 where
   pub name : Option (List ℕ)
-  pub start : Position
-  pub end : Position
+  pub start : LineColumn
+  pub end : LineColumn
   pub text : List ℕ
 
 -- `\303`: a byte as three octal digits
 abbrev pub octal : ℕ → List ℕ
 octal b = 92 ∷ (48 + b / 64 % 8) ∷ (48 + b / 8 % 8) ∷ (48 + b % 8) ∷ []
 
--- a byte of printable ASCII
-abbrev pub is_printable : ℕ → Bool
-is_printable b = nat_le 32 b && nat_lt b 127
+-- whether a byte is printable ASCII
+abbrev pub is_printable_ascii : ℕ → Bool
+is_printable_ascii b = nat_le 32 b && nat_lt b 127
 
--- a quote and a backslash have a backslash before them, LF and tab are `\n` and `\t`
+-- a quote and a backslash are escaped by a backslash; LF and tab are `\n` and `\t`
 abbrev pub escaped_byte : ℕ → List ℕ
 escaped_byte b =
     if (b == 34) || (b == 92) then 92 ∷ b ∷ []
     else (if b == 10 then 92 ∷ 110 ∷ []
     else (if b == 9 then 92 ∷ 116 ∷ []
-    else (if is_printable b then b ∷ [] else octal b)))
+    else (if is_printable_ascii b then b ∷ [] else octal b)))
 
 abbrev pub escaped : List ℕ → List ℕ
 escaped bytes = flat_map escaped_byte bytes
@@ -35,14 +35,14 @@ abbrev pub in_quotes : List ℕ → List ℕ
 in_quotes bytes = codes "\"" ++ (escaped bytes ++ codes "\"")
 
 -- `2:5`
-abbrev pub position_text : Position → List ℕ
+abbrev pub position_text : LineColumn → List ℕ
 position_text at = decimal at.line ++ (codes ":" ++ decimal at.column)
 
 -- `{2:5-2:5}`
-abbrev pub range_text : Position → Position → List ℕ
+abbrev pub range_text : LineColumn → LineColumn → List ℕ
 range_text start end = codes "{" ++ (position_text start ++ (codes "-" ++ (position_text end ++ codes "}")))
 
--- `fix-it:"f.py":{2:5-2:5}:":"`; no name is an empty one
+-- `fix-it:"f.py":{2:5-2:5}:":"`; a missing name is empty
 abbrev pub fix_it_text : FixIt → List ℕ
 fix_it_text it =
     codes "fix-it:" ++ (in_quotes (unwrap_or it.name [])

@@ -1,80 +1,82 @@
--- The commands of a report: one for it and for each related report.
+-- The commands of a report: one for itself and one for each related report.
 use Rattle.std.specs.Prelude.{ℕ, Bool, true, false, List, [], ◌∷◌, ◌++◌, map, Option, Some, None, codes}
 use Rattle.std.specs.List.{flat_map}
 use Rattle.miette_protocol.specs.rules.Reading.{Source}
-use Rattle.miette_positions.specs.declared.place.PositionEncoding.TheVariants.{Utf16}
-use Rattle.miette_positions.specs.declared.place.Region.{Region}
+use Rattle.miette_positions.specs.declared.position.PositionEncoding.TheVariants.{Utf16}
+use Rattle.miette_positions.specs.declared.position.Region.{Region}
 use Rattle.miette_positions.specs.rules.Regions.{region_of}
-use Rattle.miette_fixes.specs.rules.Edits.{Proposal}
+use Rattle.miette_fixes.specs.rules.Edits.{FixModel}
 use Rattle.miette_tree.specs.rules.Diagnosis.{Diagnosis}
 use Rattle.miette_tree.specs.rules.DiagnosticParts.{given_labels}
 use Rattle.miette_tree.specs.rules.Tree.{Cause, causes_of}
-use Rattle.miette_label_rules.specs.rules.Groups.{in_order}
-use Rattle.miette_brief.specs.rules.Places.{Spot, primary_spot, source_place}
-use Rattle.miette_brief.specs.rules.Commands.{Command, Site, Saying}
-use Rattle.miette_brief.specs.rules.Marks.{Mark, marks, primary_first}
+use Rattle.miette_labels.specs.rules.Groups.{in_order}
+use Rattle.miette_brief.specs.rules.Locations.{SpanInSource, primary_span, source_location}
+use Rattle.miette_brief.specs.rules.Commands.{Command, FileLocation, MessageRow}
+use Rattle.miette_brief.specs.rules.LocatedLabels.{LocatedLabel, marks, primary_first}
 
 -- ---- where a diagnostic lies
 
--- a text that isn't empty
+-- a text, unless it is empty
 abbrev pub nonempty : Option (List ℕ) → Option (List ℕ)
 nonempty None = None
 nonempty (Some []) = None
 nonempty (Some (b ∷ bs)) = Some (b ∷ bs)
 
--- a file with a name that isn't empty
-abbrev pub site_in : Option (List ℕ) → Option Region → Option Site
-site_in None region = None
-site_in (Some []) region = None
-site_in (Some (b ∷ bs)) region = Some (record { file = b ∷ bs; region = region })
+-- a file location, unless the name is missing or empty
+abbrev pub named_file_location : Option (List ℕ) → Option Region → Option FileLocation
+named_file_location None region = None
+named_file_location (Some []) region = None
+named_file_location (Some (b ∷ bs)) region = Some (record { file = b ∷ bs; region = region })
 
--- where a primary label lies in its source, in UTF-16, else the name of the first source alone
-abbrev pub chosen_site : Option Source → Bool → Option Spot → Option Site
-chosen_site source fault None = site_in (source_place source fault).name None
-chosen_site source fault (Some spot) = site_in spot.source.name (region_of Utf16 spot.source.bytes spot.span)
+-- the region of the primary label in its source, in UTF-16, else the name of the first source
+abbrev pub primary_file_location : Option Source → Bool → Option SpanInSource → Option FileLocation
+primary_file_location source fault None = named_file_location (source_location source fault).name None
+primary_file_location source fault (Some spot) = named_file_location spot.source.name
+    (region_of Utf16 spot.source.bytes spot.span)
 
--- where a diagnostic lies over a first source, of which the read for its name meets a fault or not
-abbrev pub diagnostic_site : Option Source → Bool → Diagnosis → Option Site
-diagnostic_site source fault m =
-    chosen_site source fault (primary_spot source (in_order (given_labels m.labels)) m.snippets)
+-- the file location of a diagnostic; the flag says whether the read for the source's name failed
+abbrev pub diagnostic_file_location : Option Source → Bool → Diagnosis → Option FileLocation
+diagnostic_file_location source fault m =
+    primary_file_location source fault (primary_span source (in_order (given_labels m.labels)) m.snippets)
 
 -- ---- its message
 
-abbrev pub saying : List ℕ → List ℕ → Saying
-saying title text = record { title = title; text = text }
+abbrev pub message_row : List ℕ → List ℕ → MessageRow
+message_row title text = record { title = title; text = text }
 
--- a row for a text, where there is one
-abbrev pub saying_if : List ℕ → Option (List ℕ) → List Saying
-saying_if title None = []
-saying_if title (Some text) = saying title text ∷ []
+-- a message row, if there is a text
+abbrev pub message_row_if : List ℕ → Option (List ℕ) → List MessageRow
+message_row_if title None = []
+message_row_if title (Some text) = message_row title text ∷ []
 
-abbrev pub note_saying : Mark → List Saying
-note_saying it = saying_if (codes "note: ") it.label.text
+abbrev pub note_message_row : LocatedLabel → List MessageRow
+note_message_row it = message_row_if (codes "note: ") it.label.text
 
--- a row for each label that has a text, the primary one's first
-abbrev pub note_sayings : List Mark → List Saying
-note_sayings its = flat_map note_saying its
+-- a row for each label that has a text, the primary label's first
+abbrev pub note_message_rows : List LocatedLabel → List MessageRow
+note_message_rows its = flat_map note_message_row its
 
--- the causes where they are told
-abbrev pub cause_sayings : Bool → List (List ℕ) → List Saying
-cause_sayings true causes = map (saying (codes "caused by: ")) causes
-cause_sayings false causes = []
+-- the causes, if they are printed
+abbrev pub cause_message_rows : Bool → List (List ℕ) → List MessageRow
+cause_message_rows true causes = map (message_row (codes "caused by: ")) causes
+cause_message_rows false causes = []
 
-abbrev pub fix_saying : Proposal → Saying
-fix_saying proposal = saying (codes "fix: ") proposal.message
+abbrev pub fix_message_row : FixModel → MessageRow
+fix_message_row proposal = message_row (codes "fix: ") proposal.message
 
--- help, fixes without their edits, and an address
-abbrev pub advice_sayings : Diagnosis → List Saying
-advice_sayings m =
-    saying_if (codes "help: ") m.help ++ (map fix_saying m.fixes ++ saying_if (codes "see: ") m.url)
+-- help, fixes without their edits, and the url
+abbrev pub advice_message_rows : Diagnosis → List MessageRow
+advice_message_rows m =
+    message_row_if (codes "help: ") m.help ++ (map fix_message_row m.fixes ++ message_row_if (codes "see: ") m.url)
 
 -- ---- the command
 
 abbrev pub command : Bool → Option Source → Bool → Diagnosis → Cause → Command
 command chain source fault m c = record {
   severity = m.severity;
-  site = diagnostic_site source fault m;
+  site = diagnostic_file_location source fault m;
   title = nonempty m.code;
   message = m.message;
-  sayings = note_sayings (primary_first (marks source m)) ++ (cause_sayings chain (causes_of c) ++ advice_sayings m);
+  message_rows = note_message_rows (primary_first (marks source m)) ++ (cause_message_rows chain (causes_of c)
+      ++ advice_message_rows m);
 }

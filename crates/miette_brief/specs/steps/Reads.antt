@@ -1,82 +1,84 @@
--- What reads for places gave.
+-- Results of the reads for locations.
 use Rattle.std.specs.Prelude.{◌≡◌, List, Option, Some, None, Bool, false, ◌&&◌, ⊤}
-use Rattle.miette_source_lines.specs.declared.near.KnownLines.{KnownLines}
-use Rattle.miette_source_lines.specs.views.Known.{IsKnown}
+use Rattle.miette_lines.specs.declared.near.KnownLines.{KnownLines}
+use Rattle.miette_lines.specs.views.Known.{IsKnown}
 use Rattle.miette_protocol.specs.views.Meaning.{Label}
-use Rattle.miette_protocol.specs.rules.Reading.{Span, Source, IsAccepted}
-use Rattle.miette_brief.specs.rules.Rows.{Place}
-use Rattle.miette_label_rules.specs.rules.Groups.{in_order}
+use Rattle.miette_protocol.specs.rules.Reading.{Span, Source, IsInBounds}
+use Rattle.miette_brief.specs.rules.Rows.{BriefLocation}
+use Rattle.miette_labels.specs.rules.Groups.{in_order}
 use Rattle.miette_tree.specs.rules.Diagnosis.{Diagnosis, Section}
 use Rattle.miette_tree.specs.rules.DiagnosticParts.{given_labels}
-use Rattle.miette_brief.specs.rules.Places.{span_place, name_place, source_place, diagnostic_place, cause_place, Spot}
-use Rattle.miette_brief.specs.rules.Places.{source_of_spot}
-use Rattle.miette_tree.specs.rules.Reads.{MayMeet, accepts, holds_further}
-use Rattle.miette_brief.specs.declared.spots.Found.{Found}
-use Rattle.miette_brief.specs.declared.spots.Found.TheVariants as found
-use Rattle.miette_brief.specs.steps.Conversions.{place_of}
+use Rattle.miette_brief.specs.rules.Locations.{span_location, name_location, source_location, diagnostic_location}
+use Rattle.miette_brief.specs.rules.Locations.{cause_location, SpanInSource}
+use Rattle.miette_brief.specs.rules.Locations.{source_of_span}
+use Rattle.miette_tree.specs.rules.Reads.{MayMeet, accepts, further_pass}
+use Rattle.miette_brief.specs.declared.primary.PrimaryRead.{PrimaryRead}
+use Rattle.miette_brief.specs.declared.primary.PrimaryRead.TheVariants as found
+use Rattle.miette_brief.specs.steps.Conversions.{brief_location_of}
 
--- a read that was refused: of a span that isn't accepted, or by a source that doesn't always read
-abbrev pub IsUnread : Option Source → Span → Type 0
-IsUnread None span = ⊥
-IsUnread (Some source) span = IsAccepted source.bytes span → source.always_reads ≡ false
+-- a refused read: its span is out of bounds, or its source doesn't always read
+abbrev pub IsRefusedRead : Option Source → Span → Type 0
+IsRefusedRead None span = ⊥
+IsRefusedRead (Some source) span = IsInBounds source.bytes span → source.always_reads ≡ false
 
--- whether the labels of a diagnostic over its own source, and those over further ones, are accepted
-abbrev pub labels_accepted : Option Source → Diagnosis → Bool
-labels_accepted source m = accepts source (in_order (given_labels m.labels)) && holds_further accepts m.snippets
+-- whether all labels of a diagnostic are in bounds, over its own source and over further ones
+abbrev pub brief_labels_accepted : Option Source → Diagnosis → Bool
+brief_labels_accepted source m = accepts source (in_order (given_labels m.labels)) && further_pass accepts m.snippets
 
--- a span that was read, where there is a source
+-- the span was read, if there is a source
 abbrev pub IsReadAt : Option Source → Span → Type 0
 IsReadAt None span = ⊤
-IsReadAt (Some source) span = IsAccepted source.bytes span
+IsReadAt (Some source) span = IsInBounds source.bytes span
 
--- lines of a source that are known; without one there are none
+-- the known lines are those of the source; without a source there are none
 abbrev pub AreKnown : Option Source → KnownLines → Type 0
 AreKnown None known = ⊤
 AreKnown (Some source) known = IsKnown source.bytes known.first × IsKnown source.bytes known.last
 
--- the read of a span: where it begins, or that it was refused
-abbrev pub IsBegin : Source → Span → Option Place → Type 0
-IsBegin source span None = IsUnread (Some source) span
-IsBegin source span (Some at) = IsAccepted source.bytes span × (at ≡ span_place source span)
+-- the result of reading a span: its location, or a refusal
+abbrev pub IsBegin : Source → Span → Option BriefLocation → Type 0
+IsBegin source span None = IsRefusedRead (Some source) span
+IsBegin source span (Some at) = IsInBounds source.bytes span × (at ≡ span_location source span)
 
--- a label that was read, or not
-pub record IsSpotUnread (primary : Option Spot) : Type 0 where
-  pub spot : Spot
+-- the label was refused, or it is at this location
+pub record IsSpanUnread (primary : Option SpanInSource) : Type 0 where
+  pub spot : SpanInSource
   pub is : primary ≡ Some spot
-  pub unread : IsUnread (Some spot.source) spot.span
+  pub unread : IsRefusedRead (Some spot.source) spot.span
 
-pub record IsSpotAt (primary : Option Spot) (at : Place) : Type 0 where
-  pub spot : Spot
+pub record IsSpanAt (primary : Option SpanInSource) (at : BriefLocation) : Type 0 where
+  pub spot : SpanInSource
   pub is : primary ≡ Some spot
   pub begin : IsBegin spot.source spot.span (Some at)
 
--- what the read of a primary label gave
-abbrev pub IsFound : Option Spot → Found → Type 0
-IsFound primary found.Nothing = primary ≡ None
-IsFound primary found.Unread = IsSpotUnread primary
-IsFound primary (found.At at) = IsSpotAt primary (place_of at)
+-- the result of reading the primary label
+abbrev pub IsPrimaryRead : Option SpanInSource → PrimaryRead → Type 0
+IsPrimaryRead primary found.Nothing = primary ≡ None
+IsPrimaryRead primary found.Unread = IsSpanUnread primary
+IsPrimaryRead primary (found.At at) = IsSpanAt primary (brief_location_of at)
 
--- the place of the name alone, for some answer
-pub record IsNamePlace (source : Source) (at : Place) : Type 0 where
+-- the location has only the source's name, for some answer
+pub record IsNameLocation (source : Source) (at : BriefLocation) : Type 0 where
   pub fault : Bool
   pub possible : MayMeet (Some source) fault
-  pub is : at ≡ name_place source fault
+  pub is : at ≡ name_location source fault
 
--- the place of a source without a label, for some answer
-pub record IsSourcePlace (source : Option Source) (at : Place) : Type 0 where
+-- the location of a source without a label, for some answer
+pub record IsSourceLocation (source : Option Source) (at : BriefLocation) : Type 0 where
   pub fault : Bool
   pub possible : MayMeet source fault
-  pub is : at ≡ source_place source fault
+  pub is : at ≡ source_location source fault
 
--- the place of a diagnostic with these labels by offset and these further sources, for some answer
-pub record IsDiagnosticPlace (source : Option Source) (labels : List Label) (further : List Section) (at : Place)
+-- the location of a diagnostic with these labels by offset and these further sources, for some answer
+pub record IsDiagnosticLocation (source : Option Source) (labels : List Label) (further : List Section)
+    (at : BriefLocation)
     : Type 0 where
   pub fault : Bool
   pub possible : MayMeet source fault
-  pub is : at ≡ diagnostic_place source fault labels further
+  pub is : at ≡ diagnostic_location source fault labels further
 
--- the place of a cause with this primary label, or none, below a diagnostic at a place, for some answer
-pub record IsCausePlace (at : Place) (primary : Option Spot) (own : Place) : Type 0 where
+-- the location of a cause with this primary label, or none, below a diagnostic at `at`, for some answer
+pub record IsCauseLocation (at : BriefLocation) (primary : Option SpanInSource) (own : BriefLocation) : Type 0 where
   pub fault : Bool
-  pub possible : MayMeet (source_of_spot primary) fault
-  pub is : own ≡ cause_place at fault primary
+  pub possible : MayMeet (source_of_span primary) fault
+  pub is : own ≡ cause_location at fault primary

@@ -1,5 +1,4 @@
--- The tree of reports that a JSON value describes, where it describes one. Other keys than those that are looked up
--- are ignored.
+-- The tree of reports that a JSON value describes, if it does. Unknown keys are ignored.
 use Rattle.std.specs.Prelude.{ℕ, List, [], ◌∷◌, Option, Some, None, option_and_then, option_map, is_some, unwrap_or}
 use Rattle.std.specs.Prelude.{if◌then◌else◌, codes}
 use Rattle.std.specs.Ordering.{nat_cmp, match_ordering}
@@ -13,9 +12,10 @@ use Rattle.miette_protocol.specs.rules.Reading.{Source}
 use Rattle.miette_tree.specs.rules.Diagnosis.{Diagnosis}
 use Rattle.miette_tree.specs.rules.Tree.{Tree, tree, Cause, diagnostic, texts, Trees, no_trees, more_trees}
 use Rattle.miette_tree.specs.rules.Tree.{wrapped_tree}
-use Rattle.miette_description.specs.rules.Members.{and_then, at_key, optional_value, list_of, source_of, diagnosis_in}
+use Rattle.miette_description.specs.rules.Members.{and_then, at_key, optional_value, list_of, described_source}
+use Rattle.miette_description.specs.rules.Members.{diagnosis_in}
 
--- a description or a list of texts, and not both
+-- a description or a list of texts, but not both
 abbrev pub one_cause : Option Tree → Option (List (List ℕ)) → Option Cause
 one_cause None ts = Some (texts (unwrap_or ts []))
 one_cause (Some t) None = Some (diagnostic t)
@@ -25,30 +25,30 @@ abbrev pub wrapped_in : List (List ℕ) → Tree → Tree
 wrapped_in [] t = t
 wrapped_in (m ∷ ms) t = wrapped_in ms (wrapped_tree m t)
 
--- the report that has these parts
+-- the report with these parts
 abbrev pub tree_of_parts : Diagnosis → Option Source → Option Tree → Option (List (List ℕ)) → Option Trees →
     Option (List (List ℕ)) → Option Tree
 tree_of_parts m s one several related contexts =
     option_map (λ c. wrapped_in (unwrap_or contexts []) (tree m s c (unwrap_or related no_trees)))
     (one_cause one several)
 
--- the report of a description whose `cause` and `related` are read
+-- the report of a description whose `cause` and `related` are read already
 abbrev pub report_from : Option (Option Tree) → Option (Option Trees) → Data → Option Tree
 report_from cause related d =
     and_then (diagnosis_in d) (λ m.
-    and_then (optional_value source_of (at_key (codes "source") d)) (λ s.
+    and_then (optional_value described_source (at_key (codes "source") d)) (λ s.
     and_then cause (λ one.
     and_then (optional_value (list_of as_str) (at_key (codes "causes") d)) (λ several.
     and_then related (λ r.
     and_then (optional_value (list_of as_str) (at_key (codes "contexts") d)) (λ contexts.
     tree_of_parts m s one several r contexts))))))
 
--- null is as absent
+-- null counts as absent
 abbrev pub nullable : {A : Type 0} → Data → Option A → Option (Option A)
 nullable d read = if is_some (as_null d) then Some None else option_map Some read
 
--- Only an object is a description. `cause_in` and `related_in` read what stands at these keys; they go through
--- the members as a look-up does.
+-- Only an object is a description. `cause_in` and `related_in` read the values at these keys; they search the members
+-- like a lookup.
 abbrev mutual
   pub report_in : Data → Option Tree
   report_in null = None
@@ -80,10 +80,10 @@ abbrev mutual
   each_in no_items = Some no_trees
   each_in (item d ds) = and_then (report_in d) (λ t. and_then (each_in ds) (λ ts. Some (more_trees t ts)))
 
--- a number that is neither a `u64` nor an `i64` makes a bad description, wherever it stands
+-- a number that is neither a `u64` nor an `i64` makes a description invalid, wherever it is
 abbrev pub described_tree : Data → Option Tree
 described_tree d = if has_float d then None else report_in d
 
--- the tree that the bytes describe, by the JSON value that is read from them (at most 127 deep)
-abbrev pub tree_for : List ℕ → Option Tree
-tree_for bytes = option_and_then described_tree (read bytes)
+-- the tree that the bytes describe, by their JSON value (at most 127 levels)
+abbrev pub tree_of_bytes : List ℕ → Option Tree
+tree_of_bytes bytes = option_and_then described_tree (read bytes)

@@ -1,4 +1,4 @@
--- What a parsed text stands for. Where each of its numbers can be read, that is the JSON value of the text.
+-- What a parsed text represents. If each of its numbers can be read, this is the JSON value of the text.
 use Rattle.std.specs.Prelude.{List, ℕ, Bool, true, ◌&&◌, is_some, unwrap_or}
 use Rattle.std.specs.declared.alloc.Global.{Global}
 use Rattle.json.specs.Json as json
@@ -9,11 +9,11 @@ use Rattle.serde_json.specs.Data.{no_items, item, Members, no_members, put}
 use Rattle.serde_json.specs.Find.{as_u64, to_float}
 use Rattle.serde_json.specs.Read.{number_of}
 
--- a number that is too large for any is a float
+-- a number that is too large is a float
 abbrev pub number_data : List ℕ → Num
 number_data s = unwrap_or (number_of s) (float (to_float (unsigned 0)))
 
--- of a key that comes twice the last value stays
+-- if a key occurs twice, the last value counts
 abbrev mutual
   pub data_of : json.Json → Data
   data_of json.null = null
@@ -31,7 +31,7 @@ abbrev mutual
   members_data json.no_members found = found
   members_data (json.member k j ms) found = members_data ms (put k (data_of j) found)
 
--- each number is a `u64`, also where a later value of its key hides it
+-- each number is a `u64`, even if a later member with the same key replaces it
 abbrev mutual
   pub is_integral : json.Json → Bool
   is_integral json.null = true

@@ -1,7 +1,7 @@
--- A device as its callers see it.
+-- What a device represents.
 use Rattle.std.specs.Prelude.{Bool}
 
--- the reader or writer itself, and whether one of its calls failed
+-- the reader or writer, and whether one of its calls failed
 pub record DeviceState (D : Type 0) : Type 0 where
   pub inner : D
   pub failed : Bool

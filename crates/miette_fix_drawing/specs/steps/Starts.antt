@@ -1,8 +1,8 @@
--- What stands before the text of a line, part by part.
+-- What comes before the text of a line, part by part.
 use Rattle.std.specs.Prelude.{ℕ, ◌-◌, [], ◌∷◌, ◌++◌, length, decimal, replicate}
-use Rattle.miette_page.specs.rules.Rows.{Row, styled_run}
-use Rattle.miette_snippet_rules.specs.rules.Drawing.{blank}
-use Rattle.miette_snippet_rules.specs.rules.Settings.{SnippetSettings}
+use Rattle.miette_style.specs.rules.Rows.{Row, styled_run}
+use Rattle.miette_snippet_rules.specs.rules.LabelRows.{blank}
+use Rattle.miette_snippet_rules.specs.rules.SnippetSettings.{SnippetSettings}
 
 -- a line's number
 abbrev pub digits_row : SnippetSettings → ℕ → ℕ → Row

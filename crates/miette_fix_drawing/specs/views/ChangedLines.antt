@@ -1,7 +1,7 @@
--- A changed line, as a program has it.
+-- A changed line in code.
 use Rattle.std.specs.Prelude.{ℕ, ◌≡◌, ◌+◌, ◌<◌, ◌≤◌, ◌^◌, List, length, Option, Some, None}
 use Rattle.std.specs.List.{filter, list_any}
-use Rattle.miette_cells.specs.rules.Cells.{Cell}
+use Rattle.miette_columns.specs.rules.Cells.{Cell}
 use Rattle.miette_style.specs.declared.style.Style.{Style}
 use Rattle.miette_fix_rows.specs.rules.DiffTexts.{holds_byte, is_on, parts_in}
 use Rattle.miette_fix_drawing.specs.steps.Spans.{AreApart}
@@ -18,11 +18,11 @@ changed_line_of line = record {
   spans = line.spans.now;
 }
 
--- a line that goes with another can be gone through
+-- all offsets of a counterpart are in range
 abbrev pub IsReadable : MadeChangedLine → Type 0
 IsReadable line = (line.start + length line.text.now < 2 ^ 64) × AreApart line.spans.now
 
--- Without the spans that end before the line: it has the same ones in its bytes, and the same edits touch it.
+-- Without the spans that end before the line: the line has the same spans in its bytes, and the same edits touch it.
 pub record IsNear (line near : MadeChangedLine) : Type 0 where
   pub is : changed_line_of near ≡ record (changed_line_of line) { spans = near.spans.now }
   pub apart : AreApart near.spans.now

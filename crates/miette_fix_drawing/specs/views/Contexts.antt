@@ -1,5 +1,5 @@
--- What the rows of a fix are drawn with, as a program has it.
-use Rattle.miette_snippet_rules.specs.views.Settings.{settings_of}
+-- What the rows of a fix are drawn with, in code.
+use Rattle.miette_snippet_rules.specs.views.SnippetSettings.{settings_of}
 use Rattle.miette_fix_rows.specs.rules.DiffRows.{DiffContext}
 use Rattle.miette_fix_drawing.specs.declared.segments.DiffDrawing.{DiffDrawing}
 

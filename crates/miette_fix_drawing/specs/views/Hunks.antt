@@ -1,4 +1,4 @@
--- Hunks, as a program has them.
+-- Hunks in code.
 use Rattle.std.specs.Prelude.{List, map}
 use Rattle.miette_fix_rows.specs.rules.Blocks.{line_texts}
 use Rattle.miette_fix_rows.specs.rules.Hunks.{Hunk}

@@ -1,11 +1,12 @@
--- Where the frames of a diff stand among all its lines.
+-- The frames of a diff among all its lines.
 use Rattle.std.specs.Prelude.{◌≡◌, ◌<◌, ℕ, List, [], ◌∷◌, ◌++◌, length, Bool, true}
-use Rattle.miette_fix_rows.specs.rules.DiffFrames.{DiffFrame, DiffLine, Standing, kept, removed, added, changed_lines}
+use Rattle.miette_fix_rows.specs.rules.DiffFrames.{DiffFrame, DiffLine, DiffPosition, kept, removed, added}
+use Rattle.miette_fix_rows.specs.rules.DiffFrames.{changed_lines}
 use Rattle.miette_fix_rows.specs.rules.DiffFrames.{kept_lines}
 use Rattle.miette_fix_rows.specs.rules.DiffRows.{past}
 use Rattle.miette_fix_rows.specs.rules.Hunks.{Diff, Hunk}
 
--- all lines of a diff, in order: those of hunks, and those that stay after the last of them
+-- all lines of a diff, in order: those of its hunks, and the unchanged ones after the last hunk
 abbrev pub lines_with : List (List ℕ) → List Hunk → List DiffLine
 lines_with after [] = kept_lines after
 lines_with after (hunk ∷ hunks) =
@@ -14,7 +15,7 @@ lines_with after (hunk ∷ hunks) =
 abbrev pub all_lines : Diff → List DiffLine
 all_lines diff = lines_with diff.after_hunks diff.hunks
 
--- of lines those of the source, and those of the applied text
+-- those lines that are in the source, and those that are in the applied text
 abbrev pub old_texts : List DiffLine → List (List ℕ)
 old_texts [] = []
 old_texts (kept text ∷ lines) = text ∷ old_texts lines
@@ -27,17 +28,17 @@ new_texts (kept text ∷ lines) = text ∷ new_texts lines
 new_texts (removed text other ∷ lines) = new_texts lines
 new_texts (added text other ∷ lines) = text ∷ new_texts lines
 
--- after lines
-abbrev pub past_lines : Standing → List DiffLine → Standing
+-- the position after lines
+abbrev pub past_lines : DiffPosition → List DiffLine → DiffPosition
 past_lines at [] = at
 past_lines at (line ∷ lines) = past_lines (past at line) lines
 
-abbrev pub at_start : Standing
+abbrev pub at_start : DiffPosition
 at_start = record { old_line = 0; new_line = 0; old_offset = 0; new_offset = 0 }
 
--- Frames stand among lines: before each one, and after the last, nothing but unchanged lines is left out, and some
--- between two frames. What a frame says of the lines before it is what stands before it.
-abbrev pub StandAmong : Bool → Standing → List DiffFrame → List DiffLine → Type 0
+-- Frames are in order among all lines. Only unchanged lines are left out, and at least one between two frames. Each
+-- frame knows its position in the diff.
+abbrev pub StandAmong : Bool → DiffPosition → List DiffFrame → List DiffLine → Type 0
 StandAmong goes_on at [] lines = (left : List (List ℕ)) × (lines ≡ kept_lines left)
 StandAmong goes_on at (frame ∷ frames) lines =
     (left : List (List ℕ)) × (rest : List DiffLine)

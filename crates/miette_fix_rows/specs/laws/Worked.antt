@@ -1,31 +1,31 @@
--- Worked pictures: the characters of a fix's rows, in a theme without colours.
+-- Examples: the characters of a fix's rows, in a theme without colours.
 use Rattle.std.specs.Prelude.{ℕ, List, [], ◌∷◌, map, codes, Some, None, true, false, nat_lt, if◌then◌else◌}
 use Rattle.miette_style.specs.rules.Themes.{unicode_characters, no_styles}
-use Rattle.miette_page.specs.rules.Rows.{glyphs_of}
+use Rattle.miette_style.specs.rules.Rows.{glyphs_of}
 use Rattle.miette_protocol.specs.rules.Reading.{Source}
 use Rattle.miette_snippet_rules.specs.rules.Defaults.{default_layout}
-use Rattle.miette_snippet_rules.specs.rules.Settings.{SnippetSettings}
+use Rattle.miette_snippet_rules.specs.rules.SnippetSettings.{SnippetSettings}
 use Rattle.miette_fixes.specs.rules.Edits.{Replacement}
 use Rattle.miette_fix_rows.specs.rules.DiffRows.{fix_rows}
 
-abbrev pub settings : SnippetSettings
-settings = record {
+abbrev pub worked_settings : SnippetSettings
+worked_settings = record {
   theme = record { characters = unicode_characters; styles = no_styles };
   width = λ code. if nat_lt code 0x2E80 then 1 else 2;
   layout = default_layout;
 }
 
-abbrev pub named : List ℕ → Source
-named bytes = record { bytes = bytes; name = Some (codes "f"); language = None; always_reads = true }
+abbrev pub named_source : List ℕ → Source
+named_source bytes = record { bytes = bytes; name = Some (codes "f"); language = None; always_reads = true }
 
-abbrev pub edit : ℕ → ℕ → List ℕ → Replacement
-edit offset len text = record { span = record { offset = offset; len = len }; text = text }
+abbrev pub one_edit : ℕ → ℕ → List ℕ → Replacement
+one_edit offset len text = record { span = record { offset = offset; len = len }; text = text }
 
--- what is read of each row
-abbrev pub picture : List ℕ → List Replacement → List (List ℕ)
-picture bytes edits =
-    map (λ row. map (λ glyph. glyph.code) (glyphs_of row)) (fix_rows settings (named bytes) false edits)
+-- the text of each row
+abbrev pub worked_rows : List ℕ → List Replacement → List (List ℕ)
+worked_rows bytes edits =
+    map (λ row. map (λ glyph. glyph.code) (glyphs_of row)) (fix_rows worked_settings (named_source bytes) false edits)
 
--- two characters of two columns, and a blank, on the first of two lines
+-- two characters of two columns each and a space, on the first of two lines
 abbrev pub han : List ℕ
 han = 0xE6 ∷ 0xBC ∷ 0xA2 ∷ 0xE5 ∷ 0xAD ∷ 0x97 ∷ 32 ∷ 10 ∷ 98 ∷ 10 ∷ []

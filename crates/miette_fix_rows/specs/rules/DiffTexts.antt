@@ -1,5 +1,5 @@
--- The text of a shown line: what edits delete and insert of it, in which style it stands, and the marks below it where
--- it looks like the line that goes with it.
+-- The text of a shown line: what edits delete and insert in it, its styles, and the underlines of lines that look
+-- alike.
 use Rattle.std.specs.Prelude.{ℕ, ◌+◌, ◌-◌, List, [], ◌∷◌, ◌++◌, length, map, min, max, replicate}
 use Rattle.std.specs.Prelude.{Bool, false, not, ◌&&◌, ◌||◌, ◌==◌, nat_lt, nat_le, if◌then◌else◌, Option, Some, None}
 use Rattle.std.specs.List.{list_any, filter, take_while}
@@ -7,16 +7,16 @@ use Rattle.std.specs.Str.{bytes_eq}
 use Rattle.std.specs.Char.{is_whitespace}
 use Rattle.miette_style.specs.declared.style.Style.{Style}
 use Rattle.miette_style.specs.rules.Styles.{plain}
-use Rattle.miette_source_lines.specs.rules.Lines.{is_text}
+use Rattle.miette_lines.specs.rules.Lines.{is_text}
 use Rattle.miette_protocol.specs.rules.Reading.{Span}
-use Rattle.miette_label_rules.specs.rules.Answers.{Highlight}
-use Rattle.miette_label_rules.specs.rules.Labels.{DrawnLabel}
-use Rattle.miette_page.specs.rules.Rows.{Row, glyph_of}
-use Rattle.miette_cells.specs.rules.Cells.{Cell, characters, cells_from}
-use Rattle.miette_snippet_rules.specs.rules.Drawing.{blank}
-use Rattle.miette_snippet_rules.specs.rules.Marks.{Mark, Text, marks}
+use Rattle.miette_labels.specs.rules.Answers.{Highlight}
+use Rattle.miette_labels.specs.rules.Labels.{DrawnLabel}
+use Rattle.miette_style.specs.rules.Rows.{Row, glyph_of}
+use Rattle.miette_columns.specs.rules.Cells.{Cell, characters, cells_from}
+use Rattle.miette_snippet_rules.specs.rules.LabelRows.{blank}
+use Rattle.miette_snippet_rules.specs.rules.Underlines.{Underline, MeasuredText, marks}
 use Rattle.miette_snippet_rules.specs.rules.PrintedCells.{cells_width, first_column, text_bytes}
-use Rattle.miette_snippet_rules.specs.rules.Settings.{SnippetSettings}
+use Rattle.miette_snippet_rules.specs.rules.SnippetSettings.{SnippetSettings}
 use Rattle.miette_fixes.specs.rules.Edits.{Replacement, end_of}
 
 -- ---- what edits delete and insert
@@ -24,7 +24,7 @@ use Rattle.miette_fixes.specs.rules.Edits.{Replacement, end_of}
 abbrev pub deleted_spans : List Replacement → List Span
 deleted_spans edits = map (λ edit. edit.span) edits
 
--- where the texts of edits stand in the applied text, after `old` bytes of the source and `new` of that text
+-- the spans of inserted texts in the applied text, after `old` bytes of the source and `new` bytes of the applied text
 abbrev pub inserted_from : ℕ → ℕ → List Replacement → List Span
 inserted_from old new [] = []
 inserted_from old new (edit ∷ edits) =
@@ -36,12 +36,12 @@ inserted_spans edits = inserted_from 0 0 edits
 
 -- ---- a line and its cells
 
--- the text of a line, without its terminator
-abbrev pub text_of_line : List ℕ → List ℕ
-text_of_line line = take_while is_text line
+-- a line without its terminator
+abbrev pub without_terminator : List ℕ → List ℕ
+without_terminator line = take_while is_text line
 
 abbrev pub line_cells : SnippetSettings → ℕ → List ℕ → List Cell
-line_cells s start line = cells_from s.width s.layout.tab_width false start 0 (characters (text_of_line line))
+line_cells s start line = cells_from s.width s.layout.tab_width false start 0 (characters (without_terminator line))
 
 -- ---- styles
 
@@ -49,30 +49,30 @@ abbrev pub holds_byte : Cell → Span → Bool
 holds_byte cell span =
     nat_lt 0 span.len && (nat_lt cell.start (span.offset + span.len) && nat_lt span.offset cell.after)
 
--- characters one after the other that all have a byte of an edit's span or text, or of which none has
-pub record Painted : Type 0 where
+-- consecutive characters that are all changed by edits or all unchanged
+pub record DiffPiece : Type 0 where
   pub changed : Bool
   pub bytes : ℕ
 
-abbrev pub onto_painted : Bool → ℕ → List Painted → List Painted
-onto_painted changed bytes [] = record { changed = changed; bytes = bytes } ∷ []
-onto_painted changed bytes (next ∷ later) =
+abbrev pub prepend_piece : Bool → ℕ → List DiffPiece → List DiffPiece
+prepend_piece changed bytes [] = record { changed = changed; bytes = bytes } ∷ []
+prepend_piece changed bytes (next ∷ later) =
     if (if changed then next.changed else not next.changed) then record next { bytes = bytes + next.bytes } ∷ later
     else record { changed = changed; bytes = bytes } ∷ next ∷ later
 
-abbrev pub painted : List Span → List Cell → List Painted
-painted spans [] = []
-painted spans (cell ∷ cells) =
-    onto_painted (list_any (holds_byte cell) spans) (text_bytes cell.code) (painted spans cells)
+abbrev pub diff_pieces : List Span → List Cell → List DiffPiece
+diff_pieces spans [] = []
+diff_pieces spans (cell ∷ cells) =
+    prepend_piece (list_any (holds_byte cell) spans) (text_bytes cell.code) (diff_pieces spans cells)
 
--- a line's characters in pieces: those of edits in this style, the others plain
+-- a line's text in pieces: changed characters in this style, the others plain
 abbrev pub pieces : Style → List Span → List Cell → List Highlight
 pieces style spans cells =
-    map (λ p. record { bytes = p.bytes; style = if p.changed then style else plain }) (painted spans cells)
+    map (λ p. record { bytes = p.bytes; style = if p.changed then style else plain }) (diff_pieces spans cells)
 
--- ---- marks
+-- ---- underlines
 
--- the part of a span that lies in a line from an offset on with `bytes` bytes
+-- the part of a span in a line that begins at an offset and has `bytes` bytes
 abbrev pub part_in : ℕ → ℕ → Style → Span → DrawnLabel
 part_in start bytes style span = record {
   start = max start span.offset;
@@ -88,19 +88,19 @@ has_bytes part = nat_lt part.start part.after
 abbrev pub parts_in : ℕ → ℕ → Style → List Span → List DrawnLabel
 parts_in start bytes style spans = filter has_bytes (map (part_in start bytes style) spans)
 
--- the marks of what edits delete or insert in a line, in the columns that labels over it would have
-abbrev pub line_text : SnippetSettings → ℕ → List ℕ → Text
-line_text s start line = record {
+-- the underlines of what edits delete or insert in a line, in the columns of labels over the same spans
+abbrev pub measured_line : SnippetSettings → ℕ → List ℕ → MeasuredText
+measured_line s start line = record {
   cells = line_cells s start line;
-  text_end = start + length (text_of_line line);
+  text_end = start + length (without_terminator line);
   width = cells_width 0 (line_cells s start line);
 }
 
-abbrev pub edit_marks : SnippetSettings → ℕ → List ℕ → Style → List Span → List Mark
-edit_marks s start line style spans = marks (line_text s start line) (parts_in start (length line) style spans)
+abbrev pub edit_underlines : SnippetSettings → ℕ → List ℕ → Style → List Span → List Underline
+edit_underlines s start line style spans = marks (measured_line s start line) (parts_in start (length line) style spans)
 
--- a row of marks, each after the spaces before it
-abbrev pub sign_runs : SnippetSettings → ℕ → ℕ → List Mark → Row
+-- a row of underlines, each after the spaces before it
+abbrev pub sign_runs : SnippetSettings → ℕ → ℕ → List Underline → Row
 sign_runs s sign reached [] = []
 sign_runs s sign reached (mark ∷ marks) =
     blank s (mark.from - reached)
@@ -109,7 +109,7 @@ sign_runs s sign reached (mark ∷ marks) =
 
 -- ---- lines that look alike
 
--- what is seen of characters: white space as spaces, and nothing of those without columns
+-- what is visible of characters: white space as spaces, nothing for characters without columns
 abbrev pub seen : List Cell → List ℕ
 seen [] = []
 seen (cell ∷ cells) =
@@ -135,35 +135,34 @@ look_alike s line (Some other) = not (bytes_eq line other) && bytes_eq (look s l
 
 -- ---- cut lines
 
--- Whether an edit is one of a line's: it touches the line. After the last byte of a line with a terminator the next
--- line is.
+-- Whether an edit belongs to a line: it touches the line. What follows a terminator belongs to the next line.
 abbrev pub is_on : ℕ → List ℕ → Span → Bool
 is_on start line span =
     nat_le start (span.offset + span.len)
     && (nat_lt span.offset (start + length line)
-    || ((span.offset == start + length line) && (length (text_of_line line) == length line)))
+    || ((span.offset == start + length line) && (length (without_terminator line) == length line)))
 
 -- the columns of what an edit deletes or inserts in a line
-abbrev pub ends_at : List Mark → List ℕ
+abbrev pub ends_at : List Underline → List ℕ
 ends_at [] = []
 ends_at (mark ∷ marks) = mark.from ∷ (mark.until - 1) ∷ ends_at marks
 
--- the column at which an edit stands in a line, at its start where it stands before the line
-abbrev pub column_in : SnippetSettings → ℕ → List ℕ → Span → ℕ
-column_in s start line span =
-    first_column (line_cells s start line) (start + length (text_of_line line))
+-- the column of an edit in a line; the line's start if the edit begins before it
+abbrev pub edit_column : SnippetSettings → ℕ → List ℕ → Span → ℕ
+edit_column s start line span =
+    first_column (line_cells s start line) (start + length (without_terminator line))
     (cells_width 0 (line_cells s start line))
     (max start span.offset)
 
--- The ends of a changed line: the first and the last column of what each edit deletes (inserts) there, and where an
--- edit of that line has nothing there, the column at which it stands.
-abbrev pub ends_of : SnippetSettings → ℕ → List ℕ → List Span → List ℕ
-ends_of s start line [] = []
-ends_of s start line (span ∷ spans) =
+-- The columns around which a changed line is cut: the first and last column of what each edit deletes or inserts in it.
+-- An edit with nothing in the line has one column, where it is.
+abbrev pub edit_ends : SnippetSettings → ℕ → List ℕ → List Span → List ℕ
+edit_ends s start line [] = []
+edit_ends s start line (span ∷ spans) =
     (if has_bytes (part_in start (length line) plain span)
-    then ends_at (edit_marks s start line plain (span ∷ []))
-    else column_in s start line span ∷ [])
-    ++ ends_of s start line spans
+    then ends_at (edit_underlines s start line plain (span ∷ []))
+    else edit_column s start line span ∷ [])
+    ++ edit_ends s start line spans
 
 abbrev pub line_ends : SnippetSettings → ℕ → List ℕ → List Span → List ℕ
-line_ends s start line spans = ends_of s start line (filter (is_on start line) spans)
+line_ends s start line spans = edit_ends s start line (filter (is_on start line) spans)

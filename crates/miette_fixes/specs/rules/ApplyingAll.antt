@@ -1,48 +1,49 @@
--- Which of several fixes are taken, and the text after them.
+-- Which of several fixes are applied, and the text after them.
 use Rattle.std.specs.Prelude.{ℕ, List, [], ◌∷◌, ◌++◌, Bool, ◌&&◌, ◌||◌, not, ◌==◌, if◌then◌else◌, length, is_none, map}
 use Rattle.std.specs.List.{list_any, flat_map}
 use Rattle.std.specs.Cmp.Lexicographic.{pointwise}
-use Rattle.miette_fixes.specs.rules.Applying.{applied, refusal}
-use Rattle.miette_fixes.specs.rules.Edits.{Proposal, Replacement, overlap}
+use Rattle.miette_fixes.specs.rules.Applying.{applied, edits_error}
+use Rattle.miette_fixes.specs.rules.Edits.{FixModel, Replacement, overlap}
 use denote.Ref.{Bor}
 
 -- the edits of each fix
-abbrev pub lists_of : List (Bor Proposal) → List (List Replacement)
-lists_of fixes = map (λ fix. fix.now.edits) fixes
+abbrev pub edit_lists : List (Bor FixModel) → List (List Replacement)
+edit_lists fixes = map (λ fix. fix.now.edits) fixes
 
--- Two edits conflict where they overlap or begin at one offset.
+-- Two edits conflict if they overlap or begin at the same offset.
 abbrev pub conflict : Replacement → Replacement → Bool
 conflict edit other = (edit.span.offset == other.span.offset) || overlap edit other
 
--- whether one of these edits conflicts with one of those
+-- whether an edit of one list conflicts with an edit of the other
 abbrev pub some_conflict : List Replacement → List Replacement → Bool
 some_conflict edits others = list_any (λ edit. list_any (conflict edit) others) edits
 
--- the same edits, in the order given
+-- the same edits in the same order
 abbrev pub same_edit : Replacement → Replacement → Bool
 same_edit edit other =
     (edit.span.offset == other.span.offset)
     && ((edit.span.len == other.span.len) && pointwise ◌==◌ edit.text other.text)
 
-abbrev pub is_among : List Replacement → List (List Replacement) → Bool
-is_among edits lists = list_any (pointwise same_edit edits) lists
+abbrev pub equals_some_fix : List Replacement → List (List Replacement) → Bool
+equals_some_fix edits lists = list_any (pointwise same_edit edits) lists
 
--- all edits of these lists
-abbrev pub all_of : List (List Replacement) → List Replacement
-all_of lists = flat_map (λ edits. edits) lists
+-- the edits of all lists
+abbrev pub all_edits : List (List Replacement) → List Replacement
+all_edits lists = flat_map (λ edits. edits) lists
 
--- Whether a fix's edits count, beside others that do: they can be applied, and none conflicts with one of these.
+-- whether a fix can be applied with these edits: its edits are valid, and none conflicts with one of them
 abbrev pub counts : ℕ → List Replacement → List Replacement → Bool
-counts n others edits = is_none (refusal n edits) && not (some_conflict edits others)
+counts n others edits = is_none (edits_error n edits) && not (some_conflict edits others)
 
 abbrev pub counted_with : ℕ → List (List Replacement) → List Replacement → List (List Replacement)
-counted_with n before edits = if counts n (all_of before) edits then before ++ edits ∷ [] else before
+counted_with n before edits = if counts n (all_edits before) edits then before ++ edits ∷ [] else before
 
--- a fix is taken where its edits count, or are those of one that was taken
+-- a fix is applied if it can be, or if it has the same edits as one that was
 abbrev pub is_taken : ℕ → List (List Replacement) → List Replacement → Bool
-is_taken n before edits = counts n (all_of before) edits || is_among edits before
+is_taken n before edits = counts n (all_edits before) edits || equals_some_fix edits before
 
--- Of fixes, each as its edits, after those that count already: which are taken, and those that count then.
+-- for each fix, given the edits that were applied before: whether it is applied, and which lists of edits are applied
+-- then
 abbrev pub taken : ℕ → List (List Replacement) → List (List Replacement) → List Bool
 taken n before [] = []
 taken n before (edits ∷ fixes) = is_taken n before edits ∷ taken n (counted_with n before edits) fixes
@@ -51,6 +52,6 @@ abbrev pub counted : ℕ → List (List Replacement) → List (List Replacement)
 counted n before [] = before
 counted n before (edits ∷ fixes) = counted n (counted_with n before edits) fixes
 
--- the text after all edits that count
+-- the text after all edits that are applied
 abbrev pub all_applied : List ℕ → List (List Replacement) → List ℕ
-all_applied source fixes = applied source (all_of (counted (length source) [] fixes))
+all_applied source fixes = applied source (all_edits (counted (length source) [] fixes))

@@ -1,4 +1,4 @@
--- What errors and names print.
+-- The texts of errors and names.
 use Rattle.std.specs.Prelude.{ℕ, List, codes}
 use Rattle.miette_fixes.specs.declared.applicability.Applicability.{Applicability}
 use Rattle.miette_fixes.specs.declared.applicability.Applicability.TheVariants.{MachineApplicable, MaybeIncorrect}
@@ -6,14 +6,14 @@ use Rattle.miette_fixes.specs.declared.applicability.Applicability.TheVariants.{
 use Rattle.miette_fixes.specs.declared.error.FixError.{FixError}
 use Rattle.miette_fixes.specs.declared.error.FixError.TheVariants.{OutOfBounds, Overlap, Memory}
 
--- how sure a fix is, as descriptions and JSON name it
+-- the name of an applicability in descriptions and JSON
 abbrev pub applicability_name : Applicability → List ℕ
 applicability_name MachineApplicable = codes "machine-applicable"
 applicability_name MaybeIncorrect = codes "maybe-incorrect"
 applicability_name HasPlaceholders = codes "has-placeholders"
 applicability_name Unspecified = codes "unspecified"
 
--- what is printed of a fix that isn't applied
+-- what is printed for a fix that can't be applied
 abbrev pub fix_error_text : FixError → List ℕ
 fix_error_text OutOfBounds = codes "an edit ends after the end of the source"
 fix_error_text Overlap = codes "two edits overlap"

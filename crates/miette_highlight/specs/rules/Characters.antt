@@ -1,11 +1,11 @@
--- Pieces of a character each.
+-- Pieces of one character each.
 use Rattle.std.specs.Prelude.{◌≡◌, ℕ, List, [], ◌∷◌, ⊤}
 use Rattle.std.specs.Char.{len_utf8}
-use Rattle.miette_highlight.specs.rules.Pieces.{Piece}
+use Rattle.miette_highlight.specs.rules.Pieces.{StyledPiece}
 use Rattle.miette_style.specs.declared.style.Style.{Style}
 
--- a piece for each character, as long as it, in a style that goes with it
-abbrev pub AreCharacters : (ℕ → Style → Type 0) → List ℕ → List Piece → Type 0
+-- a piece for each character, with its length and a style that fits it
+abbrev pub AreCharacters : (ℕ → Style → Type 0) → List ℕ → List StyledPiece → Type 0
 AreCharacters Goes [] [] = ⊤
 AreCharacters Goes [] (p ∷ ps) = ⊥
 AreCharacters Goes (c ∷ cs) [] = ⊥

@@ -1,4 +1,4 @@
--- The rules of languages, those that count first before others.
+-- The rules of each language, in order of precedence.
 use Rattle.std.specs.Prelude.{ℕ, Bool, true, false, Option, Some, None, List, [], ◌∷◌, map, codes, string_bytes}
 use Rattle.miette_highlight.specs.declared.rule.Pattern.{Pattern}
 use Rattle.miette_highlight.specs.declared.rule.Pattern.TheVariants.{Words, From, Between, Character, Prefixed, Raw}
@@ -7,9 +7,9 @@ use Rattle.miette_style.specs.declared.style.Color.TheVariants.{Green, Yellow, C
 use Rattle.miette_style.specs.declared.style.Style.{Style}
 use Rattle.miette_style.specs.rules.Styles.{coloured_style, plain}
 
--- a rule by its texts: words; a word that begins with a byte from the first up to the last; what lies between
--- delimiters, with the byte that escapes one and whether it goes on over lines; a character between them, with that
--- byte; a word after a byte; or a raw text after a prefix
+-- A rule, with texts as bytes: words; a word whose first byte is in a range; a part between delimiters, with escape
+-- byte and whether it continues on the next line; a character between delimiters, with escape byte; a word after a
+-- byte; a raw string with a prefix.
 pub data RuleText : Type 0 where
   of_words : List (List ℕ) → Style → RuleText
   beginning : ℕ → ℕ → Style → RuleText
@@ -33,15 +33,15 @@ rule_text rule = pattern_text rule.pattern rule.style
 abbrev pub rule_texts : List Rule → List RuleText
 rule_texts rules = map rule_text rules
 
--- ---- texts, comments, words and values
+-- ---- strings, comments, words and values
 
--- a text between delimiters, green
-abbrev pub text_between : List ℕ → List ℕ → Option ℕ → Bool → RuleText
-text_between opens closes escape over_lines = between opens closes escape over_lines (coloured_style Green)
+-- a string between delimiters, green
+abbrev pub string_rule : List ℕ → List ℕ → Option ℕ → Bool → RuleText
+string_rule opens closes escape over_lines = between opens closes escape over_lines (coloured_style Green)
 
--- a comment between delimiters, dimmed; one that ends with its line is closed by a line feed, which no line has
-abbrev pub comment_between : List ℕ → List ℕ → Bool → RuleText
-comment_between opens closes over_lines = between opens closes None over_lines (record plain { dimmed = true })
+-- a comment between delimiters, dimmed; a comment that ends with its line is closed by a line feed, which no line has
+abbrev pub comment_rule : List ℕ → List ℕ → Bool → RuleText
+comment_rule opens closes over_lines = between opens closes None over_lines (record plain { dimmed = true })
 
 -- yellow words, and cyan words that begin with a digit
 abbrev pub values : List (List ℕ) → List RuleText
@@ -50,16 +50,16 @@ values words = of_words words (coloured_style Yellow) ∷ beginning 48 57 (colou
 -- ---- the languages
 
 abbrev pub json_rules : List RuleText
-json_rules = text_between (codes "\"") (codes "\"") (Some 92) false
+json_rules = string_rule (codes "\"") (codes "\"") (Some 92) false
     ∷ values (codes "true" ∷ codes "false" ∷ codes "null" ∷ [])
 
 abbrev pub toml_rules : List RuleText
 toml_rules =
-    comment_between (codes "#") (10 ∷ []) false
-    ∷ text_between (codes "\"\"\"") (codes "\"\"\"") (Some 92) true
-    ∷ text_between (codes "'''") (codes "'''") None true
-    ∷ text_between (codes "\"") (codes "\"") (Some 92) false
-    ∷ text_between (codes "'") (codes "'") None false
+    comment_rule (codes "#") (10 ∷ []) false
+    ∷ string_rule (codes "\"\"\"") (codes "\"\"\"") (Some 92) true
+    ∷ string_rule (codes "'''") (codes "'''") None true
+    ∷ string_rule (codes "\"") (codes "\"") (Some 92) false
+    ∷ string_rule (codes "'") (codes "'") None false
     ∷ values (codes "true" ∷ codes "false" ∷ codes "inf" ∷ codes "nan" ∷ [])
 
 abbrev pub rust_words : List (List ℕ)
@@ -71,21 +71,21 @@ rust_words =
     ∷ codes "struct" ∷ codes "super" ∷ codes "trait" ∷ codes "type" ∷ codes "unsafe" ∷ codes "use" ∷ codes "where"
     ∷ codes "while" ∷ codes "yield" ∷ []
 
--- texts that go on over lines, and in which nothing is escaped: they have as many hashes after as before
+-- raw strings, which may continue on the next line; as many hashes follow as precede
 abbrev pub raw_text : List ℕ → RuleText
 raw_text prefix = raw prefix (coloured_style Green)
 
--- a character in quotes, green; so an apostrophe before a word that isn't one begins a lifetime, which is as a word of
--- the language
+-- a character in quotes is green; an apostrophe before a word that isn't a character begins a lifetime, coloured like a
+-- keyword
 abbrev pub rust_rules : List RuleText
 rust_rules =
-    comment_between (codes "//") (10 ∷ []) false
-    ∷ comment_between (codes "/*") (codes "*/") true
+    comment_rule (codes "//") (10 ∷ []) false
+    ∷ comment_rule (codes "/*") (codes "*/") true
     ∷ character (codes "'") (codes "'") (Some 92) (coloured_style Green)
     ∷ character (codes "b'") (codes "'") (Some 92) (coloured_style Green)
-    ∷ text_between (codes "\"") (codes "\"") (Some 92) true
-    ∷ text_between (codes "b\"") (codes "\"") (Some 92) true
-    ∷ text_between (codes "c\"") (codes "\"") (Some 92) true
+    ∷ string_rule (codes "\"") (codes "\"") (Some 92) true
+    ∷ string_rule (codes "b\"") (codes "\"") (Some 92) true
+    ∷ string_rule (codes "c\"") (codes "\"") (Some 92) true
     ∷ raw_text (codes "r") ∷ raw_text (codes "br") ∷ raw_text (codes "cr")
     ∷ prefixed 39 (coloured_style Magenta) ∷ of_words rust_words (coloured_style Magenta)
     ∷ values (codes "true" ∷ codes "false" ∷ [])

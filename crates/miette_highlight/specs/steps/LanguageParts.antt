@@ -1,6 +1,6 @@
--- A part between delimiters, as the tables of the code have it.
+-- The entries of the tables in the code.
 use Rattle.std.specs.Prelude.{Bool, true, Option, Some, None, if◌then◌else◌, ℕ}
-use Rattle.miette_highlight.specs.declared.sets.DelimitedPart.{DelimitedPart}
+use Rattle.miette_highlight.specs.declared.languages.DelimitedPart.{DelimitedPart}
 use Rattle.miette_highlight.specs.rules.Languages.{RuleText, between, character}
 use Rattle.miette_style.specs.declared.style.Color.TheVariants.{Green}
 use Rattle.miette_style.specs.declared.style.Style.{Style}

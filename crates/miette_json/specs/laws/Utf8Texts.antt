@@ -1,4 +1,4 @@
--- Values that a text may stand for.
+-- Values that a text may denote.
 use Rattle.std.specs.Prelude.{IsUtf8, List, [], ◌∷◌, ⊤}
 use Rattle.miette_json.specs.rules.Json.{Json}
 use Rattle.miette_json.specs.rules.Denotes.{Token, structural, text, whole, tokens_then}
@@ -9,6 +9,6 @@ TextsAreUtf8 (structural x ∷ ts) = TextsAreUtf8 ts
 TextsAreUtf8 (text s ∷ ts) = IsUtf8 s × TextsAreUtf8 ts
 TextsAreUtf8 (whole n ∷ ts) = TextsAreUtf8 ts
 
--- each string of the value and each key in it is UTF-8
+-- each string and each key of the value is UTF-8
 abbrev pub HasUtf8Texts : Json → Type 0
 HasUtf8Texts v = TextsAreUtf8 (tokens_then v [])

@@ -1,5 +1,5 @@
--- RFC 8259 as a relation between bytes and values: a text is UTF-8, and tokens with white space before, between and
--- after them, and the tokens are those of the value.
+-- RFC 8259 as a relation between bytes and values. A text denotes a value if it is UTF-8 and consists of the value's
+-- tokens, with white space before, between and after them.
 use Rattle.std.specs.Prelude.{IsUtf8, ◌≡◌, ◌⊎◌, ◌≢◌, ℕ, ◌+◌, ◌-◌, ◌*◌, ◌<◌, ◌≤◌, List, [], ◌∷◌, ◌++◌, ⊤, cond, ◌||◌}
 use Rattle.std.specs.Prelude.{◌==◌}
 use Rattle.std.specs.Char.{digit_value, encode_utf8}
@@ -11,7 +11,7 @@ pub data Token : Type 0 where
   text : List ℕ → Token
   whole : ℕ → Token
 
--- the tokens of a value, and then those tokens
+-- the tokens of a value, followed by the given tokens
 abbrev mutual
   pub tokens_then : Json → List Token → List Token
   tokens_then (number n) ts = whole n ∷ ts
@@ -38,20 +38,20 @@ abbrev mutual
 
 -- ---- the characters of a string
 
--- a byte that stands for itself; `\` and a letter; `\u` and four hex digits; two of these, a surrogate pair
+-- a plain byte; `\` and a letter; `\u` and four hex digits; two of these, a surrogate pair
 pub data StringPart : Type 0 where
   plain : ℕ → StringPart
   short : ℕ → StringPart
   unit : (a b c d : ℕ) → StringPart
   pair : (a b c d e f g h : ℕ) → StringPart
 
--- what `\` and this letter stand for, or 0 where it is no such letter
+-- the character that `\` and this letter denote, or 0 if there is no such escape
 abbrev pub short_for : ℕ → ℕ
 short_for x =
     cond ((x == 34) || ((x == 92) || (x == 47))) x
     (cond (x == 98) 8 (cond (x == 102) 12 (cond (x == 110) 10 (cond (x == 114) 13 (cond (x == 116) 9 0)))))
 
--- a digit in base 16, in either case of letter
+-- a hexadecimal digit in either case
 abbrev pub IsHex : ℕ → Type 0
 IsHex x = digit_value x < 16
 
@@ -69,14 +69,14 @@ IsStringPart (pair a b c d e f g h) =
     AreHex a b c d × AreHex e f g h × (0xd800 ≤ hex a b c d) × (hex a b c d < 0xdc00) × (0xdc00 ≤ hex e f g h)
     × (hex e f g h < 0xe000)
 
--- a part as it is written, before these bytes
-abbrev pub part_text : StringPart → List ℕ → List ℕ
-part_text (plain x) rest = x ∷ rest
-part_text (short letter) rest = 92 ∷ letter ∷ rest
-part_text (unit a b c d) rest = 92 ∷ 117 ∷ a ∷ b ∷ c ∷ d ∷ rest
-part_text (pair a b c d e f g h) rest = 92 ∷ 117 ∷ a ∷ b ∷ c ∷ d ∷ 92 ∷ 117 ∷ e ∷ f ∷ g ∷ h ∷ rest
+-- a part as written, followed by the given bytes
+abbrev pub string_part_text : StringPart → List ℕ → List ℕ
+string_part_text (plain x) rest = x ∷ rest
+string_part_text (short letter) rest = 92 ∷ letter ∷ rest
+string_part_text (unit a b c d) rest = 92 ∷ 117 ∷ a ∷ b ∷ c ∷ d ∷ rest
+string_part_text (pair a b c d e f g h) rest = 92 ∷ 117 ∷ a ∷ b ∷ c ∷ d ∷ 92 ∷ 117 ∷ e ∷ f ∷ g ∷ h ∷ rest
 
--- the bytes that a part stands for
+-- the bytes that a part denotes
 abbrev pub part_value : StringPart → List ℕ
 part_value (plain x) = x ∷ []
 part_value (short letter) = short_for letter ∷ []
@@ -89,7 +89,7 @@ AreStringParts (p ∷ ps) = IsStringPart p × AreStringParts ps
 
 abbrev pub all_written : List StringPart → List ℕ → List ℕ
 all_written [] rest = rest
-all_written (p ∷ ps) rest = part_text p (all_written ps rest)
+all_written (p ∷ ps) rest = string_part_text p (all_written ps rest)
 
 abbrev pub all_meant : List StringPart → List ℕ
 all_meant [] = []
@@ -104,18 +104,18 @@ abbrev pub AreDigits : List ℕ → Type 0
 AreDigits [] = ⊤
 AreDigits (x ∷ xs) = IsDigit x × AreDigits xs
 
--- the number that digits go on to, after n
+-- the number that n becomes when digits are appended to it
 abbrev pub value_after : ℕ → List ℕ → ℕ
 value_after n [] = n
 value_after n (x ∷ xs) = value_after (n * 10 + (x - 48)) xs
 
--- a zero stands alone
+-- no leading zero, except for the number zero
 abbrev pub NoLeadingZero : List ℕ → Type 0
 NoLeadingZero [] = ⊤
 NoLeadingZero (x ∷ []) = ⊤
 NoLeadingZero (x ∷ y ∷ xs) = 48 < x
 
--- no digit comes next
+-- the next byte is no digit
 abbrev pub NoDigitNext : List ℕ → Type 0
 NoDigitNext [] = ⊤
 NoDigitNext (x ∷ xs) = (x < 48) ⊎ (57 < x)
@@ -148,29 +148,29 @@ pub record IsNumber (n : ℕ) (bytes rest : List ℕ) : Type 0 where
   pub spelled : bytes ≡ first ∷ (others ++ rest)
   pub ends : NoDigitNext rest
 
--- the bytes are the token, and then the rest
-abbrev pub Begins : Token → List ℕ → List ℕ → Type 0
-Begins (structural x) bytes rest = IsStructural x × (bytes ≡ x ∷ rest)
-Begins (text s) bytes rest = IsString s bytes rest
-Begins (whole n) bytes rest = IsNumber n bytes rest
+-- the bytes begin with the token; the rest follows
+abbrev pub BeginsWithToken : Token → List ℕ → List ℕ → Type 0
+BeginsWithToken (structural x) bytes rest = IsStructural x × (bytes ≡ x ∷ rest)
+BeginsWithToken (text s) bytes rest = IsString s bytes rest
+BeginsWithToken (whole n) bytes rest = IsNumber n bytes rest
 
--- white space, and then the token, and then the rest
+-- white space, then the token, then the rest
 pub record Next (t : Token) (bytes rest : List ℕ) : Type 0 where
   pub space : List ℕ
   pub blank : AreBlank space
   pub after : List ℕ
   pub spaced : bytes ≡ space ++ after
-  pub begins : Begins t after rest
+  pub begins : BeginsWithToken t after rest
 
--- the bytes are these tokens
-abbrev pub AreTokens : List Token → List ℕ → Type 0
-AreTokens [] bytes = AreBlank bytes
-AreTokens (t ∷ ts) bytes = (rest : List ℕ) × Next t bytes rest × AreTokens ts rest
+-- the bytes consist of these tokens
+abbrev pub AreJsonTokens : List Token → List ℕ → Type 0
+AreJsonTokens [] bytes = AreBlank bytes
+AreJsonTokens (t ∷ ts) bytes = (rest : List ℕ) × Next t bytes rest × AreJsonTokens ts rest
 
--- byte by byte, the text is the tokens of the value
+-- the text consists of the tokens of the value, byte by byte
 abbrev pub HasTokensOf : List ℕ → Json → Type 0
-HasTokensOf bytes v = AreTokens (tokens_then v []) bytes
+HasTokensOf bytes v = AreJsonTokens (tokens_then v []) bytes
 
--- the text stands for the value: it is UTF-8, and its tokens are those of the value
+-- the text denotes the value: it is UTF-8, and its tokens are those of the value
 abbrev pub Denotes : List ℕ → Json → Type 0
 Denotes bytes v = IsUtf8 bytes × HasTokensOf bytes v

@@ -1,4 +1,4 @@
--- JSON values over whole numbers, strings, lists and objects, and the one spelling that is written for each.
+-- JSON values over whole numbers, strings, lists and objects, and the one text that is written for each.
 use Rattle.std.specs.Prelude.{ℕ, zero, suc, ◌+◌, ◌/◌, ◌%◌, nat_lt, cond, List, [], ◌∷◌, ◌++◌}
 use Rattle.json.specs.Print.{escape_byte}
 
@@ -13,21 +13,21 @@ mutual
     no_items : Items
     item : Json → Items → Items
 
-  -- a key, its value, and the members after it; a key may stand twice
+  -- a key, its value and the members after it; a key may occur twice
   pub data Members : Type 0 where
     no_members : Members
     member : List ℕ → Json → Members → Members
 
--- the decimal digits of n, of which there are at most as many as the first number says
+-- the decimal digits of n; the first number is an upper limit for how many
 abbrev pub digits_within : ℕ → ℕ → List ℕ
 digits_within zero n = []
 digits_within (suc most) n = cond (nat_lt n 10) ((48 + n) ∷ []) (digits_within most (n / 10) ++ (48 + n % 10) ∷ [])
 
--- the decimal digits of a number of any size; the kit's `decimal` gives no more than 64
+-- the decimal digits of a number of any size; the kit's `decimal` gives at most 64
 unfoldable pub numeral : ℕ → List ℕ
 numeral n = digits_within (suc n) n
 
--- each byte of a string by what stands for it: its short escape, \u00 and two digits in base 16, or the byte itself
+-- each byte of a string as written: its short escape, \u00 and two hexadecimal digits, or the byte itself
 abbrev pub escaped_text : List ℕ → List ℕ
 escaped_text [] = []
 escaped_text (x ∷ xs) = escape_byte x ++ escaped_text xs
@@ -36,7 +36,7 @@ escaped_text (x ∷ xs) = escape_byte x ++ escaped_text xs
 abbrev pub quoted_text : List ℕ → List ℕ
 quoted_text s = 34 ∷ (escaped_text s ++ 34 ∷ [])
 
--- the spelling: `,` between items and between members, `: ` after each key, no other space
+-- the text of a value: `,` between items and members, `: ` after each key, no other space
 abbrev mutual
   pub json_text : Json → List ℕ
   json_text (number n) = numeral n

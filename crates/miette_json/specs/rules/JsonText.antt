@@ -6,12 +6,12 @@ use Rattle.miette_json.specs.rules.Json.{Json, json_text}
 use Rattle.miette_json.specs.rules.Denotes.{Denotes}
 use Rattle.miette_json.specs.rules.JsonReport.{IsValueOf, value_of}
 
--- the text of a report whose file names are read from sources that always read
+-- the text of a report if the sources of its file names always read
 abbrev pub value_text : Tree → List ℕ
 value_text t = json_text (value_of t)
 
--- A text is the spelling of a value that the report may have, which is the one value that it has where the sources of
--- its file names always read. The text stands for that value, and for no other.
+-- The text spells a value that the report may have. If the sources of its file names always read, that is the report's
+-- one value. The text denotes that value and no other.
 pub record IsJsonOf (t : Tree) (text : List ℕ) : Type 0 where
   pub value : Json
   pub of_tree : IsValueOf t value

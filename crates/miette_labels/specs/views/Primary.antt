@@ -1,20 +1,20 @@
--- Where a snippet's frame points to, of labels that were read.
+-- The location of a snippet's frame, given the labels that were read.
 use Rattle.std.specs.Prelude.{ℕ, ◌≡◌, List, [], ◌∷◌, Option, Some, None, Bool, true, false, ◌&&◌, if◌then◌else◌, nat_le}
 use Rattle.std.specs.Prelude.{unwrap_or}
-use Rattle.miette_protocol.specs.rules.Reading.{Span, Source, IsAccepted}
+use Rattle.miette_protocol.specs.rules.Reading.{Span, Source, IsInBounds}
 use Rattle.miette_labels.specs.declared.primary.Place.{Place}
 use Rattle.miette_labels.specs.declared.primary.Place.TheVariants as places
 use Rattle.miette_labels.specs.declared.reading.ReadLabel.{ReadLabel}
-use Rattle.miette_label_rules.specs.rules.Contexts.{end_of_span, contents}
+use Rattle.miette_labels.specs.rules.Contexts.{end_of_span, contents}
 
--- the end of a label that must lie in its group: its beginning where labels have their own numbers of context lines
+-- the end that must be within the group: the label's end, or its start if labels have their own context lines
 abbrev pub end_within : Bool → Span → ℕ
 end_within own span = if own then span.offset else end_of_span span
 
 abbrev pub lies_within : Bool → Span → Span → Bool
 lies_within own group span = nat_le group.offset span.offset && nat_le (end_within own span) (end_of_span group)
 
--- the first label of a group that is marked as primary, else the first of it that was found
+-- the first primary label of a group, or else the first label that was found
 abbrev pub chosen_label : Bool → Span → Option Span → List ReadLabel → Option Span
 chosen_label own group first [] = first
 chosen_label own group first (read ∷ reads) =
@@ -22,13 +22,13 @@ chosen_label own group first (read ∷ reads) =
     else chosen_label own group (Some (unwrap_or first read.span)) reads)
     else chosen_label own group first reads
 
--- a place is where a read without context of this label begins; where there is a label, it isn't nowhere
+-- the place is where a read of this label without context begins; if there is a label, it isn't `Nowhere`
 abbrev pub PointsTo : Source → Option Span → Place → Type 0
 PointsTo source None place = place ≡ places.Nowhere
 PointsTo source (Some span) places.Nowhere = ⊥
 PointsTo source (Some span) (places.At line column) =
-    (IsAccepted source.bytes span) × (line ≡ (contents 0 source span).line) × (column ≡ (contents 0 source span).column)
-PointsTo source (Some span) places.Unread = IsAccepted source.bytes span → source.always_reads ≡ false
+    (IsInBounds source.bytes span) × (line ≡ (contents 0 source span).line) × (column ≡ (contents 0 source span).column)
+PointsTo source (Some span) places.Unread = IsInBounds source.bytes span → source.always_reads ≡ false
 
 -- the line and column of a place, and whether it could not be read
 abbrev pub begins_of : Place → Option (ℕ × ℕ)

@@ -1,18 +1,18 @@
--- What a sweep over labels by offset knows at a place between two lines.
+-- The state of a sweep over sorted labels, between two lines.
 use Rattle.std.specs.Prelude.{ℕ, ◌<◌, ◌≤◌, ◌≡◌, List, length, take, Bool, nat_lt}
 use Rattle.std.specs.Prelude.{slice_index_or}
 use Rattle.std.specs.List.{filter}
-use Rattle.miette_label_rules.specs.declared.placed.PlacedLabel.{PlacedLabel}
-use Rattle.miette_labels.specs.declared.sweep.Bounds.{Bounds}
-use Rattle.miette_source_lines.specs.rules.Lines.{Line}
-use Rattle.miette_label_rules.specs.views.GivenLabels.{nothing, drawn_of}
-use Rattle.miette_label_rules.specs.rules.Labels.{reach, is_one_line, is_multi_line}
+use Rattle.miette_labels.specs.declared.placed.PlacedLabel.{PlacedLabel}
+use Rattle.miette_labels.specs.declared.sweep.LineBounds.{LineBounds}
+use Rattle.miette_lines.specs.rules.Lines.{Line}
+use Rattle.miette_labels.specs.views.ProgramLabels.{no_label, drawn_of}
+use Rattle.miette_labels.specs.rules.Labels.{reach, is_one_line, is_multi_line}
 
--- a line from here to there; where its text ends decides nothing
-abbrev pub line_of_bounds : Bounds → Line
+-- a line with these bounds; where its text ends doesn't matter
+abbrev pub line_of_bounds : LineBounds → Line
 line_of_bounds b = record { start = b.start; text_end = b.after; end = b.after }
 
--- whether a label goes on past a place
+-- whether a label continues past an offset
 abbrev pub passes : ℕ → PlacedLabel → Bool
 passes place p = nat_lt place (reach (drawn_of p))
 
@@ -22,23 +22,23 @@ is_one line p = is_one_line line (drawn_of p)
 abbrev pub is_multi : Line → PlacedLabel → Bool
 is_multi line p = is_multi_line line (drawn_of p)
 
--- the k-th label's start
+-- the start of the k-th label
 abbrev pub start_at : List PlacedLabel → ℕ → ℕ
-start_at labels k = (slice_index_or labels k nothing).start
+start_at labels k = (slice_index_or labels k no_label).start
 
--- labels by offset, none of which ends before it starts
+-- sorted labels, none of which ends before it starts
 pub record AreSorted (labels : List PlacedLabel) : Type 0 where
   pub order : (j k : ℕ) → j ≤ k → k < length labels → start_at labels j ≤ start_at labels k
-  pub drawn : (k : ℕ) → k < length labels → start_at labels k ≤ (slice_index_or labels k nothing).after
+  pub drawn : (k : ℕ) → k < length labels → start_at labels k ≤ (slice_index_or labels k no_label).after
 
--- the first `next` labels began before a place, no other did, and these of them go on past it
+-- the first `next` labels began before an offset, no others did, and these of them continue past it
 pub record IsAt (labels : List PlacedLabel) (place next : ℕ) (running : List PlacedLabel) : Type 0 where
   pub count : next ≤ length labels
   pub before : (k : ℕ) → k < next → start_at labels k < place
   pub later : (k : ℕ) → next ≤ k → k < length labels → place ≤ start_at labels k
   pub carried : running ≡ filter (passes place) (take next labels)
 
--- the first `next` labels begin before a line's end, no other does, and these of several lines lie on it
+-- the first `next` labels begin before the line's end, no others do, and these multi-line labels are on it
 pub record IsOn (labels : List PlacedLabel) (line : Line) (next : ℕ) (running : List PlacedLabel) : Type 0 where
   pub count : next ≤ length labels
   pub before : (k : ℕ) → k < next → start_at labels k < line.end

@@ -1,9 +1,9 @@
--- Labels in turn.
+-- Labels in sorted order.
 use Rattle.std.specs.Prelude.{List, map}
 use Rattle.miette_protocol.specs.views.Meaning.{Label}
-use Rattle.miette_labels.specs.declared.order.Turn.{Turn}
-use Rattle.miette_label_rules.specs.views.GivenLabels.{label_at}
+use Rattle.miette_labels.specs.declared.order.OrderedLabel.{OrderedLabel}
+use Rattle.miette_labels.specs.views.ProgramLabels.{label_at}
 
--- the labels that turns name, in their order
-abbrev pub turned : List Label → List Turn → List Label
-turned labels turns = map (λ turn. label_at labels turn.index) turns
+-- the labels in the order of these indices
+abbrev pub ordered_labels : List Label → List OrderedLabel → List Label
+ordered_labels labels turns = map (λ turn. label_at labels turn.index) turns

@@ -1,26 +1,26 @@
--- What `lint` finds in a document, as diagnostics of the Language Server Protocol (3.17).
+-- Findings of `lint` in a document, as diagnostics of the Language Server Protocol (3.17).
 use Rattle.std.specs.Prelude.{ℕ, ℤ, List, [], ◌∷◌, Option, Some, None, codes, map}
 use Rattle.std.specs.Option.{unwrap_or}
 use Rattle.serde_json.specs.Data.{Data, Members, member, no_members, number, object, string, unsigned}
 use Rattle.serde_json.specs.Find.{of_integer}
-use Rattle.miette_fixes.specs.rules.Edits.{Proposal}
-use Rattle.miette_lint.specs.rules.Coded.{Coded, coded_findings}
-use Rattle.miette_positions.specs.declared.place.PositionEncoding.TheVariants.{Utf16}
-use Rattle.miette_positions.specs.rules.Regions.{Placed}
+use Rattle.miette_fixes.specs.rules.Edits.{FixModel}
+use Rattle.miette_lint.specs.rules.FindingWithFixes.{FindingWithFixes, coded_findings}
+use Rattle.miette_positions.specs.declared.position.PositionEncoding.TheVariants.{Utf16}
+use Rattle.miette_positions.specs.rules.Regions.{EncodedSource}
 use Rattle.miette_language_server.specs.rules.Documents.{OpenDocument}
 use Rattle.miette_language_server.specs.rules.Values.{fix_value, list_value, part, range_value}
 
--- a text whose columns are counted in units of UTF-16
-abbrev pub placed : List ℕ → Placed
-placed text = record { source = text; encoding = Utf16 }
+-- a text whose columns are UTF-16 code units
+abbrev pub utf16_positions : List ℕ → EncodedSource
+utf16_positions text = record { source = text; encoding = Utf16 }
 
--- what is proposed for a finding
-abbrev pub fixes_value : List ℕ → Placed → List Proposal → Data
+-- the proposed fixes of a finding
+abbrev pub fixes_value : List ℕ → EncodedSource → List FixModel → Data
 fixes_value uri source fixes =
     object (member (codes "fixes") (list_value (map (fix_value uri source) fixes)) no_members)
 
--- what all diagnostics have, from their message on
-abbrev pub told : Placed → Coded → Members
+-- the members that all diagnostics have, from the message on
+abbrev pub told : EncodedSource → FindingWithFixes → Members
 told source c = member (codes "message") (string (unwrap_or c.label.text []))
     (member (codes "range") (range_value (part source c.label.span))
     (member (codes "severity") (number (unsigned 2))
@@ -29,27 +29,27 @@ told source c = member (codes "message") (string (unwrap_or c.label.text []))
 abbrev pub coded_value : List ℕ → Members → Data
 coded_value code rest = object (member (codes "code") (string code) rest)
 
--- of a finding for which nothing is proposed
-abbrev pub plain_value : Placed → Coded → Data
+-- a diagnostic without fixes
+abbrev pub plain_value : EncodedSource → FindingWithFixes → Data
 plain_value source c = coded_value c.code (told source c)
 
--- of one for which something is
-abbrev pub fixable_value : List ℕ → Placed → Coded → Data
+-- a diagnostic with fixes
+abbrev pub fixable_value : List ℕ → EncodedSource → FindingWithFixes → Data
 fixable_value uri source c =
     coded_value c.code (member (codes "data") (fixes_value uri source c.fixes) (told source c))
 
--- the first where nothing is proposed, else the second
-abbrev pub by_fixes : List Proposal → Data → Data → Data
+-- the first value without fixes, else the second
+abbrev pub by_fixes : List FixModel → Data → Data → Data
 by_fixes [] plain fixable = plain
 by_fixes (fix ∷ fixes) plain fixable = fixable
 
--- a finding is a warning
-abbrev pub diagnostic_value : List ℕ → Placed → Coded → Data
+-- findings are warnings
+abbrev pub diagnostic_value : List ℕ → EncodedSource → FindingWithFixes → Data
 diagnostic_value uri source c = by_fixes c.fixes (plain_value source c) (fixable_value uri source c)
 
--- all that is found in a text of lines that may have `width` columns
+-- all findings in a text with lines of at most `width` columns
 abbrev pub diagnostics : ℕ → List ℕ → List ℕ → List Data
-diagnostics width uri text = map (diagnostic_value uri (placed text)) (coded_findings text width)
+diagnostics width uri text = map (diagnostic_value uri (utf16_positions text)) (coded_findings text width)
 
 -- ---- as the client is told
 
@@ -57,11 +57,11 @@ abbrev pub version_members : Option ℤ → Members
 version_members None = no_members
 version_members (Some version) = member (codes "version") (number (of_integer version)) no_members
 
--- the diagnostics of the document with this uri, and the version that they are of
-abbrev pub published_value : List ℕ → Option ℤ → List Data → Data
-published_value uri version list = object (member (codes "diagnostics") (list_value list)
+-- the diagnostics of the document with this URI, and its version
+abbrev pub publish_params : List ℕ → Option ℤ → List Data → Data
+publish_params uri version list = object (member (codes "diagnostics") (list_value list)
     (member (codes "uri") (string uri) (version_members version)))
 
 abbrev pub diagnostics_of : ℕ → OpenDocument → Data
 diagnostics_of width document =
-    published_value document.uri document.version (diagnostics width document.uri document.text)
+    publish_params document.uri document.version (diagnostics width document.uri document.text)

@@ -1,11 +1,10 @@
--- The members of a message, by their paths. One that is of another type than its protocol says is as if it weren't
--- there.
+-- Members of a message by their paths. A member with another type than the protocol's counts as missing.
 use Rattle.std.specs.Prelude.{ℕ, ℤ, List, [], ◌∷◌, Option, Some, None, codes, if◌then◌else◌, option_and_then}
 use Rattle.std.specs.Prelude.{Bool, ◌||◌, is_some}
 use Rattle.serde_json.specs.Data.{Data, Items, no_items, item}
 use Rattle.serde_json.specs.Find.{as_array, as_i64, as_number, as_str, as_u64, pointer}
-use Rattle.miette_positions.specs.declared.place.Position.{Position}
-use Rattle.miette_positions.specs.declared.place.Region.{Region}
+use Rattle.miette_positions.specs.declared.position.Position.{Position}
+use Rattle.miette_positions.specs.declared.position.Region.{Region}
 
 abbrev pub text_at : List ℕ → Data → Option (List ℕ)
 text_at path d = option_and_then as_str (pointer path d)
@@ -20,7 +19,7 @@ abbrev pub listed : Items → List Data
 listed no_items = []
 listed (item d ds) = d ∷ listed ds
 
--- the items of a list; what is no list has none
+-- the items of a list; none for another value
 abbrev pub items_of_list : Option Items → List Data
 items_of_list None = []
 items_of_list (Some ds) = listed ds
@@ -30,7 +29,7 @@ items_at path d = items_of_list (option_and_then as_array (pointer path d))
 
 -- ---- what a request is answered by
 
--- a text or an integer names a request
+-- a string or an integer may be a request's id
 abbrev pub is_id : Data → Bool
 is_id d = is_some (as_str d) || (is_some (option_and_then as_i64 (as_number d))
     || is_some (option_and_then as_u64 (as_number d)))

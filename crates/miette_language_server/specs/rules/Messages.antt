@@ -1,4 +1,4 @@
--- What a server writes: answers, refusals and notifications of JSON-RPC 2.0.
+-- Messages that the server writes: responses, errors and notifications of JSON-RPC 2.0.
 use Rattle.std.specs.Prelude.{ℕ, ℤ, negsuc, List, true, codes}
 use Rattle.serde_json.specs.Data.{Data, Members, array, boolean, item, member, no_items, no_members, number, object}
 use Rattle.serde_json.specs.Data.{string, unsigned}
@@ -9,9 +9,10 @@ use Rattle.miette_language_server.specs.declared.messages.Refusal.TheVariants.{N
 abbrev pub version_member : Members → Members
 version_member rest = member (codes "jsonrpc") (string (codes "2.0")) rest
 
--- what a request with this id is answered by
-abbrev pub answer : Data → Data → Data
-answer id result = object (member (codes "id") id (version_member (member (codes "result") result no_members)))
+-- the response to the request with this id
+abbrev pub success_response : Data → Data → Data
+success_response id result = object (member (codes "id") id (version_member (member (codes "result") result
+    no_members)))
 
 abbrev pub code_of : Refusal → ℤ
 code_of NotJson = negsuc 32699
@@ -29,18 +30,20 @@ abbrev pub error_value : Refusal → Data
 error_value why = object (member (codes "code") (number (of_integer (code_of why)))
     (member (codes "message") (string (reason_of why)) no_members))
 
--- what refuses a request with this id
-abbrev pub refused : Data → Refusal → Data
-refused id why = object (member (codes "error") (error_value why) (member (codes "id") id (version_member no_members)))
+-- the error response to the request with this id
+abbrev pub error_response : Data → Refusal → Data
+error_response id why = object (member (codes "error") (error_value why)
+    (member (codes "id") id (version_member no_members)))
 
--- a notification of diagnostics
-abbrev pub publication : Data → Data
-publication params = object (version_member (member (codes "method") (string (codes "textDocument/publishDiagnostics"))
+-- the notification that publishes diagnostics
+abbrev pub diagnostics_notification : Data → Data
+diagnostics_notification params = object (version_member (member (codes "method")
+    (string (codes "textDocument/publishDiagnostics"))
     (member (codes "params") params no_members)))
 
 -- ---- what a server can do
 
--- a document is opened, closed and saved, and told as a whole where it changes
+-- the client sends documents when they are opened, closed and saved, and their whole text when they change
 abbrev pub sync_value : Data
 sync_value = object (member (codes "change") (number (unsigned 1)) (member (codes "openClose") (boolean true)
     (member (codes "save") (boolean true) no_members)))
@@ -53,7 +56,7 @@ capabilities = object (member (codes "codeActionProvider") actions_kinds
     (member (codes "positionEncoding") (string (codes "utf-16"))
     (member (codes "textDocumentSync") sync_value no_members)))
 
--- the answer to `initialize`
-abbrev pub server_value : Data
-server_value = object (member (codes "capabilities") capabilities
+-- the result of `initialize`
+abbrev pub initialize_result : Data
+initialize_result = object (member (codes "capabilities") capabilities
     (member (codes "serverInfo") (object (member (codes "name") (string (codes "lint")) no_members)) no_members))

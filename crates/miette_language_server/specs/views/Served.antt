@@ -3,43 +3,43 @@ use Rattle.std.specs.Prelude.{◌≡◌, ℕ, ◌<◌, List, Option, Some, None,
 use Rattle.std.specs.Io.KnownBytes.{Appends}
 use Rattle.miette_devices.specs.views.Device.{TakesBeginning}
 use Rattle.miette_language_server.specs.rules.Serving.{Service, served_from}
-use Rattle.miette_language_server.specs.rules.Session.{State}
+use Rattle.miette_language_server.specs.rules.Session.{SessionState}
 
--- a service goes from what the writer has to this, with this status
-abbrev pub Gives : Option (List ℕ) → Option (List ℕ) → ℕ → Service → Type 0
-Gives w v status it = Appends w v it.output × (status ≡ it.status)
+-- the writer got all output of a service, which ended with this exit code
+abbrev pub GivesService : Option (List ℕ) → Option (List ℕ) → ℕ → Service → Type 0
+GivesService w v status it = Appends w v it.output × (status ≡ it.status)
 
--- the service of what the reader has, in a state, does
-abbrev pub IsServed : State → Option (List ℕ) → Option (List ℕ) → Option (List ℕ) → ℕ → Type 0
+-- the same for the service of the remaining input, in a state
+abbrev pub IsServed : SessionState → Option (List ℕ) → Option (List ℕ) → Option (List ℕ) → ℕ → Type 0
 IsServed s None w v status = Unit {0}
-IsServed s (Some bytes) w v status = (n : ℕ) → length bytes < n → Gives w v status (served_from n s bytes)
+IsServed s (Some bytes) w v status = (n : ℕ) → length bytes < n → GivesService w v status (served_from n s bytes)
 
--- a service was begun: what the writer took is a beginning of what the service writes
-abbrev pub Begins : Option (List ℕ) → Option (List ℕ) → Service → Type 0
-Begins w v it = TakesBeginning w v it.output
+-- the writer got a beginning of a service's output
+abbrev pub BeginsOutput : Option (List ℕ) → Option (List ℕ) → Service → Type 0
+BeginsOutput w v it = TakesBeginning w v it.output
 
--- the service of what the reader has, in a state, was begun
-abbrev pub IsBegun : State → Option (List ℕ) → Option (List ℕ) → Option (List ℕ) → Type 0
-IsBegun s None w v = Unit {0}
-IsBegun s (Some bytes) w v = (n : ℕ) → length bytes < n → Begins w v (served_from n s bytes)
+-- the same for the service of the remaining input, in a state
+abbrev pub IsServiceBegun : SessionState → Option (List ℕ) → Option (List ℕ) → Option (List ℕ) → Type 0
+IsServiceBegun s None w v = Unit {0}
+IsServiceBegun s (Some bytes) w v = (n : ℕ) → length bytes < n → BeginsOutput w v (served_from n s bytes)
 
--- a state, what the reader has, and what the writer has
+-- a state, the remaining input, and the bytes that the writer has
 pub record Moment : Type 0 where
-  pub state : State
+  pub state : SessionState
   pub input : Option (List ℕ)
   pub output : Option (List ℕ)
 
-abbrev pub moment : State → Option (List ℕ) → Option (List ℕ) → Moment
+abbrev pub moment : SessionState → Option (List ℕ) → Option (List ℕ) → Moment
 moment state input output = record { state = state; input = input; output = output }
 
--- from one moment to another: the service from the second on is that from the first on, and where it was begun, so was
--- that
+-- the service from the second moment on is the rest of that from the first on, also if it is only begun
 pub record GoesOn (a b : Moment) : Type 0 where
   pub served : (v : Option (List ℕ)) (status : ℕ) → IsServed b.state b.input b.output v status
       → IsServed a.state a.input a.output v status
-  pub begun : (v : Option (List ℕ)) → IsBegun b.state b.input b.output v → IsBegun a.state a.input a.output v
+  pub begun : (v : Option (List ℕ)) → IsServiceBegun b.state b.input b.output v
+      → IsServiceBegun a.state a.input a.output v
 
--- so it is where a server goes on; with a status it is done
+-- one turn of the server: it goes on, or it ends with an exit code
 abbrev pub IsTurn : Moment → Moment → Option ℕ → Type 0
 IsTurn a b None = GoesOn a b
 IsTurn a b (Some status) = IsServed a.state a.input a.output b.output status

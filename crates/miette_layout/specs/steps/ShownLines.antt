@@ -1,16 +1,16 @@
 -- What a line's own rows show.
 use Rattle.std.specs.Prelude.{List, ◌++◌, map, false}
-use Rattle.miette_frames.specs.declared.line_context.LineContext.{LineContext}
+use Rattle.miette_snippet_frames.specs.declared.line_context.LineContext.{LineContext}
 use Rattle.miette_layout.specs.declared.shown_line.ShownLine.{ShownLine}
-use Rattle.miette_page.specs.rules.Rows.{Row}
-use Rattle.miette_label_rules.specs.rules.Labels.{DrawnLabel}
-use Rattle.miette_label_rules.specs.views.GivenLabels.{drawn_of}
-use Rattle.miette_cells.specs.rules.Widths.{width_of}
+use Rattle.miette_style.specs.rules.Rows.{Row}
+use Rattle.miette_labels.specs.rules.Labels.{DrawnLabel}
+use Rattle.miette_labels.specs.views.ProgramLabels.{drawn_of}
+use Rattle.miette_columns.specs.rules.Widths.{width_of}
 use Rattle.miette_snippet_rules.specs.rules.Gutters.{number_gutter}
 use Rattle.miette_snippet_rules.specs.rules.Frames.{number_start}
-use Rattle.miette_cells.specs.rules.Cells.{Cell, cells_from, characters}
-use Rattle.miette_source_lines.specs.views.Walking.{line_of_text}
-use Rattle.miette_frames.specs.views.LineContexts.{settings, multi_labels}
+use Rattle.miette_columns.specs.rules.Cells.{Cell, cells_from, characters}
+use Rattle.miette_lines.specs.views.Walking.{line_of_text}
+use Rattle.miette_snippet_frames.specs.views.LineContexts.{settings, multi_labels}
 
 -- the cells of the line's text
 abbrev pub shown_cells : LineContext → ShownLine → List Cell
@@ -18,11 +18,11 @@ shown_cells context shown =
     cells_from width_of context.frame.settings.layout.now.tab_width false context.line.start 0
     (characters shown.text.now)
 
--- the labels that lie on the line alone, with their texts
+-- the one-line labels, with their texts
 abbrev pub labels_alone : LineContext → ShownLine → List DrawnLabel
 labels_alone context shown = map drawn_of shown.one.now
 
--- the number row of the line, with what is shown of its text
+-- the number row of a line, with its shown text
 abbrev pub number_row : LineContext → ShownLine → Row → Row
 number_row context shown text =
     number_start (settings context) context.frame.number_width shown.number

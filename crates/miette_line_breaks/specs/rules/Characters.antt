@@ -1,4 +1,5 @@
--- What the rules see of a character: UAX #14 of Unicode 15.0, over the classes of the kit's later version.
+-- The properties of a character that the rules use: UAX #14 for Unicode 15.0, with the classes of the kit's later
+-- version.
 use Rattle.std.specs.Prelude.{ℕ, Bool, true, false, ◌&&◌, if◌then◌else◌}
 use Rattle.ucd_breaks.specs.LineBreak.{line_break}
 use Rattle.ucd_breaks.specs.declared.LineBreak.{LineBreak}
@@ -22,7 +23,7 @@ abbrev pub is_decimal : GeneralCategory → Bool
 is_decimal DecimalNumber = true
 is_decimal _ = false
 
--- a combining mark, by its general category
+-- a combining mark, by general category
 abbrev pub is_combining : GeneralCategory → Bool
 is_combining NonspacingMark = true
 is_combining SpacingMark = true
@@ -39,8 +40,8 @@ is_wide Wide = true
 is_wide Halfwidth = true
 is_wide _ = false
 
--- LB1: the class that stands for those about which the rules say nothing. Classes that Unicode 15.0 didn't have count
--- as what their characters were there.
+-- LB1: replaces the classes that the rules don't mention. Classes that Unicode 15.0 didn't have are replaced by the
+-- class that their characters had then.
 abbrev pub resolved : ℕ → LineBreak → LineBreak
 resolved c Ambiguous = Alphabetic
 resolved c Surrogate = Alphabetic
@@ -55,7 +56,7 @@ resolved c ConditionalJapaneseStarter = Nonstarter
 resolved c ComplexContext = if is_combining (general_category c) then CombiningMark else Alphabetic
 resolved c class = class
 
--- its class, whether it is wide (LB30), and whether it is an emoji that isn't assigned yet (LB30b)
+-- its class, whether it is wide (LB30), and whether it is reserved for emoji (LB30b)
 abbrev pub character_of : ℕ → Character
 character_of c = record {
   class = resolved c (line_break c);
@@ -63,6 +64,6 @@ character_of c = record {
   is_future_emoji = is_unassigned (general_category c) && is_extended_pictographic c;
 }
 
--- LB10: what a mark counts as that has no character before it to belong to
+-- LB10: what a combining mark without a base counts as
 abbrev pub lone_mark : Character
 lone_mark = record { class = Alphabetic; is_wide = false; is_future_emoji = false }

@@ -1,4 +1,4 @@
--- Sets of classes that the rules of UAX #14 speak of.
+-- Sets of line break classes that the rules of UAX #14 use.
 use Rattle.std.specs.Prelude.{Bool, true, false}
 use Rattle.ucd_breaks.specs.declared.LineBreak.{LineBreak}
 use Rattle.ucd_breaks.specs.declared.LineBreak.TheVariants.{Alphabetic, BreakAfter, BreakBefore, BreakBoth}
@@ -22,7 +22,7 @@ abbrev pub is_line_feed : LineBreak → Bool
 is_line_feed LineFeed = true
 is_line_feed _ = false
 
--- a character after which a line must be broken: BK, CR, LF, NL
+-- mandatory breaks: BK, CR, LF, NL
 abbrev pub is_hard : LineBreak → Bool
 is_hard MandatoryBreak = true
 is_hard CarriageReturn = true
@@ -31,9 +31,9 @@ is_hard NextLine = true
 is_hard _ = false
 
 -- a space: SP
-abbrev pub is_space : LineBreak → Bool
-is_space Space = true
-is_space _ = false
+abbrev pub is_space_class : LineBreak → Bool
+is_space_class Space = true
+is_space_class _ = false
 
 -- a zero width space: ZW
 abbrev pub is_zero_width_space : LineBreak → Bool
@@ -45,7 +45,7 @@ abbrev pub is_joiner : LineBreak → Bool
 is_joiner Zwj = true
 is_joiner _ = false
 
--- what belongs to the character before: CM, ZWJ
+-- combining marks: CM, ZWJ
 abbrev pub is_mark : LineBreak → Bool
 is_mark CombiningMark = true
 is_mark Zwj = true
@@ -56,12 +56,12 @@ abbrev pub is_word_joiner : LineBreak → Bool
 is_word_joiner WordJoiner = true
 is_word_joiner _ = false
 
--- what is not parted from its neighbours: GL
+-- non-breaking: GL
 abbrev pub is_glue : LineBreak → Bool
 is_glue Glue = true
 is_glue _ = false
 
--- what no line begins with, even after spaces: CL, CP, EX, IS, SY
+-- no line begins with these, even after spaces: CL, CP, EX, IS, SY
 abbrev pub is_closing : LineBreak → Bool
 is_closing ClosePunctuation = true
 is_closing CloseParenthesis = true
@@ -91,43 +91,43 @@ abbrev pub is_parenthesis_end : LineBreak → Bool
 is_parenthesis_end CloseParenthesis = true
 is_parenthesis_end _ = false
 
--- what no line begins with: NS
+-- nonstarter: NS
 abbrev pub is_nonstarter : LineBreak → Bool
 is_nonstarter Nonstarter = true
 is_nonstarter _ = false
 
--- a dash that may be broken on both sides: B2
+-- dash with breaks allowed on both sides: B2
 abbrev pub is_dash : LineBreak → Bool
 is_dash BreakBoth = true
 is_dash _ = false
 
--- what other information decides about: CB
+-- contingent break: CB
 abbrev pub is_contingent : LineBreak → Bool
 is_contingent ContingentBreak = true
 is_contingent _ = false
 
--- a hyphen, or what a line may be broken after: BA, HY
-abbrev pub is_hyphen : LineBreak → Bool
-is_hyphen BreakAfter = true
-is_hyphen Hyphen = true
-is_hyphen _ = false
+-- break allowed after: BA, HY
+abbrev pub is_hyphen_class : LineBreak → Bool
+is_hyphen_class BreakAfter = true
+is_hyphen_class Hyphen = true
+is_hyphen_class _ = false
 
 -- a hyphen: HY
 abbrev pub is_plain_hyphen : LineBreak → Bool
 is_plain_hyphen Hyphen = true
 is_plain_hyphen _ = false
 
--- what a line may be broken before: BB
+-- break allowed before: BB
 abbrev pub is_break_before : LineBreak → Bool
 is_break_before BreakBefore = true
 is_break_before _ = false
 
--- a symbol that a line may be broken after: SY
+-- symbol with a break allowed after it: SY
 abbrev pub is_slash : LineBreak → Bool
 is_slash BreakSymbols = true
 is_slash _ = false
 
--- a separator of numbers: IS
+-- separator in numbers: IS
 abbrev pub is_infix : LineBreak → Bool
 is_infix InfixNumeric = true
 is_infix _ = false
@@ -153,17 +153,17 @@ abbrev pub is_numeric : LineBreak → Bool
 is_numeric Numeric = true
 is_numeric _ = false
 
--- what stands before a number: PR
+-- prefix of a number: PR
 abbrev pub is_prefix : LineBreak → Bool
 is_prefix PrefixNumeric = true
 is_prefix _ = false
 
--- what stands after a number: PO
+-- postfix of a number: PO
 abbrev pub is_postfix : LineBreak → Bool
 is_postfix PostfixNumeric = true
 is_postfix _ = false
 
--- what stands before or after a number: PR, PO
+-- prefix or postfix of a number: PR, PO
 abbrev pub is_affix : LineBreak → Bool
 is_affix PrefixNumeric = true
 is_affix PostfixNumeric = true
@@ -205,7 +205,7 @@ abbrev pub is_leading_jamo : LineBreak → Bool
 is_leading_jamo Jl = true
 is_leading_jamo _ = false
 
--- what goes on after a leading jamo: JL, JV, H2, H3
+-- continues a leading jamo: JL, JV, H2, H3
 abbrev pub joins_leading_jamo : LineBreak → Bool
 joins_leading_jamo Jl = true
 joins_leading_jamo Jv = true
@@ -219,7 +219,7 @@ is_open_syllable Jv = true
 is_open_syllable H2 = true
 is_open_syllable _ = false
 
--- what goes on after a vowel: JV, JT
+-- continues a vowel: JV, JT
 abbrev pub joins_open_syllable : LineBreak → Bool
 joins_open_syllable Jv = true
 joins_open_syllable Jt = true

@@ -1,6 +1,6 @@
--- Findings of the code, in the terms of the rules.
+-- Findings of the code, as the rules represent them.
 use Rattle.miette_lint.specs.declared.coded.CodedFinding.{CodedFinding}
-use Rattle.miette_lint.specs.rules.Coded.{Coded}
+use Rattle.miette_lint.specs.rules.FindingWithFixes.{FindingWithFixes}
 
-abbrev pub coded_of : CodedFinding → Coded
+abbrev pub coded_of : CodedFinding → FindingWithFixes
 coded_of it = record { code = it.code.now; label = it.label; fixes = it.fixes.items }

@@ -1,64 +1,62 @@
--- The words that `lint` is called with.
-use Rattle.std.specs.Prelude.{◌≡◌, ℕ, List, [], ◌∷◌, ◌++◌, Option, Some, None}
-use Rattle.std.specs.Prelude.{bytes_eq, codes, if◌then◌else◌, ◌||◌}
-use Rattle.miette_lint_program.specs.declared.lint_words.LintForm.{LintForm}
-use Rattle.miette_lint_program.specs.declared.lint_words.LintForm.TheVariants.{Picture, Rows, Commands}
-use Rattle.miette_devices.specs.rules.Words.{IsReadAs}
+-- What `lint` is asked for by the words after its name.
+use Rattle.std.specs.Prelude.{ℕ, ◌^◌, List, [], ◌∷◌, ◌&&◌, nat_lt, Option, Some, None, bytes_eq, codes}
+use Rattle.std.specs.Prelude.{if◌then◌else◌, option_map}
+use Rattle.std.specs.Option.{option_and_then}
+use Rattle.std.specs.Str.{all_ascii_digits}
+use Rattle.std.specs.Str.Parse.{digits_value}
+use Rattle.miette_devices.specs.declared.output.Output.{Output}
+use Rattle.miette_devices.specs.declared.output.Output.TheVariants.{Brief, Github, Sarif}
+use Rattle.miette_devices.specs.rules.Outputs.{output_named}
 
--- the form that a word asks for
-abbrev pub form_named : List ℕ → Option LintForm
-form_named word =
-    if bytes_eq word (codes "--brief") then Some Rows
-    else (if bytes_eq word (codes "--github") || bytes_eq word (codes "--brief=github") then Some Commands else None)
+-- what is written of a source: what is found, in one of five forms, of which a log names a tool; or the fixed text
+pub data Written : Type 0 where
+  graphical : Written
+  brief : Written
+  github : Written
+  sarif : List ℕ → Written
+  diff : Written
+  fixed : Written
 
--- the words that ask for a form: none for a picture
-abbrev pub AskFor : LintForm → List (List ℕ) → Type 0
-AskFor form [] = form ≡ Picture
-AskFor form (word ∷ []) = form_named word ≡ Some form
-AskFor form (word ∷ more ∷ rest) = ⊥
+-- a source to check: what is written of it, its name, and how many columns its lines may have
+pub record Check : Type 0 where
+  pub output : Written
+  pub name : List ℕ
+  pub width : ℕ
 
--- two words, the second of which is a number, and before them perhaps one that asks for a form
-pub record AreLintWords (words : List (List ℕ)) (form : LintForm) (name : List ℕ) (width : ℕ) : Type 0 where
-  pub form_words : List (List ℕ)
-  pub width_word : List ℕ
-  pub are : words ≡ form_words ++ (name ∷ width_word ∷ [])
-  pub form_is : AskFor form form_words
-  pub width_is : IsReadAs width_word (Some width)
+-- to check a source, or to serve an editor, whose lines may have so many columns
+pub data Request : Type 0 where
+  check : Check → Request
+  serve : ℕ → Request
 
--- no reading of the words is one of `lint`'s
-abbrev pub IsNoLintCall : List (List ℕ) → Type 0
-IsNoLintCall words = (form : LintForm) (name : List ℕ) (width : ℕ) → ¬ (AreLintWords words form name width)
+-- the number that a word writes: decimal digits, one or more, of a number below 2 ^ 64
+abbrev pub number_written : List ℕ → Option ℕ
+number_written [] = None
+number_written (d ∷ ds) = if all_ascii_digits (d ∷ ds) && nat_lt (digits_value 10 (d ∷ ds)) (2 ^ 64)
+    then Some (digits_value 10 (d ∷ ds)) else None
 
--- three words: this one, a name and a number
-pub record AreNamedWords (first : List ℕ) (words : List (List ℕ)) (name : List ℕ) (width : ℕ) : Type 0 where
-  pub width_word : List ℕ
-  pub are : words ≡ first ∷ name ∷ width_word ∷ []
-  pub width_is : IsReadAs width_word (Some width)
+-- the forms of output that `lint` has
+abbrev pub form_of_lint : Output → Option Written
+form_of_lint Brief = Some brief
+form_of_lint Github = Some github
+form_of_lint Sarif = Some (sarif (codes "lint"))
+form_of_lint _ = None
 
--- no reading of the words is one of these
-abbrev pub IsNoNamedCall : List ℕ → List (List ℕ) → Type 0
-IsNoNamedCall first words = (name : List ℕ) (width : ℕ) → ¬ (AreNamedWords first words name width)
+-- what a word asks for
+abbrev pub output_for : List ℕ → Option Written
+output_for word =
+    if bytes_eq word (codes "--diff") then Some diff
+    else if bytes_eq word (codes "--fix") then Some fixed else option_and_then form_of_lint (output_named word)
 
--- those of `lint --fix`
-abbrev pub AreFixWords : List (List ℕ) → List ℕ → ℕ → Type 0
-AreFixWords words name width = AreNamedWords (codes "--fix") words name width
+-- to check a source of this name, with the width that a word writes
+abbrev pub checked : Written → List ℕ → List ℕ → Option Request
+checked output name width =
+    option_map (λ n. check (record { output = output; name = name; width = n })) (number_written width)
 
-abbrev pub IsNoFixCall : List (List ℕ) → Type 0
-IsNoFixCall words = IsNoNamedCall (codes "--fix") words
-
--- those of `lint --diff`
-abbrev pub AreDiffWords : List (List ℕ) → List ℕ → ℕ → Type 0
-AreDiffWords words name width = AreNamedWords (codes "--diff") words name width
-
-abbrev pub IsNoDiffCall : List (List ℕ) → Type 0
-IsNoDiffCall words = IsNoNamedCall (codes "--diff") words
-
--- two words: `--lsp` and a number
-pub record AreServerWords (words : List (List ℕ)) (width : ℕ) : Type 0 where
-  pub width_word : List ℕ
-  pub are : words ≡ codes "--lsp" ∷ width_word ∷ []
-  pub width_is : IsReadAs width_word (Some width)
-
--- no reading of the words is one of `lint --lsp`
-abbrev pub IsNoServerCall : List (List ℕ) → Type 0
-IsNoServerCall words = (width : ℕ) → ¬ (AreServerWords words width)
+-- all that `lint` can be asked for
+abbrev pub lint_request : List (List ℕ) → Option Request
+lint_request (word ∷ width ∷ []) =
+    if bytes_eq word (codes "--lsp") then option_map serve (number_written width) else checked graphical word width
+lint_request (word ∷ name ∷ width ∷ []) = option_and_then (λ output. checked output name width) (output_for word)
+lint_request (word ∷ key ∷ tool ∷ name ∷ width ∷ []) =
+    if bytes_eq word (codes "--sarif") && bytes_eq key (codes "--tool") then checked (sarif tool) name width else None
+lint_request _ = None

@@ -1,106 +1,116 @@
--- What the program `lint` reports.
-use Rattle.std.specs.Prelude.{◌≡◌, ℕ, ◌<◌, Bool, true, false, List, [], ◌∷◌, ◌++◌, Some, codes, decimal, length}
+-- What the program `lint` writes of a source.
+use Rattle.std.specs.Prelude.{◌≡◌, ℕ, Bool, true, false, List, [], ◌∷◌, ◌++◌, Some, codes, decimal, length}
+use Rattle.std.specs.Prelude.{⊤, encode_utf8_all, if◌then◌else◌, string_bytes}
+use Rattle.miette_lines.specs.rules.Lists.{is_nil}
 use Rattle.miette_protocol.specs.views.Diagnostic.{message_alone}
-use Rattle.miette_tree.specs.rules.Tree.{Trees, more_trees, no_trees, with_fix}
+use Rattle.miette_tree.specs.rules.Tree.{Tree, Trees, more_trees, no_trees, with_fix}
 use Rattle.miette_brief.specs.declared.form.Form.TheVariants.{Github}
 use Rattle.miette_brief.specs.rules.Report as rows
 use Rattle.miette_protocol.specs.views.Meaning.{Label, Meaning}
 use Rattle.miette_protocol.specs.declared.protocol.Severity.TheVariants.{Warning}
-use Rattle.miette_outputs.specs.rules.Pictures.{over_input, IsPicture}
-use Rattle.miette_lint.specs.rules.Coded.{Coded, coded_findings}
+use Rattle.miette_graphical_rules.specs.rules.Answers.{unlisted}
+use Rattle.miette_graphical_rules.specs.rules.Snippets.{whole_drawing}
+use Rattle.miette_graphical_rules.specs.rules.Text.{report_text}
+use Rattle.miette_draw.specs.rules.Pictures.{draw_settings, over_input}
+use Rattle.miette_language_server.specs.rules.Serving.{served}
+use Rattle.miette_lint.specs.rules.FindingWithFixes.{FindingWithFixes, coded_findings}
 use Rattle.miette_lint.specs.rules.Findings.{findings_of}
 use Rattle.miette_lint.specs.rules.Fixes.{fixed_text}
-use Rattle.miette_lint.specs.rules.Joint.{joint_proposal}
-use Rattle.miette_lint_program.specs.rules.Logs.{finding_trees}
-use Rattle.miette_lint_program.specs.rules.Words.{AreLintWords}
-use Rattle.miette_lint_program.specs.declared.lint_words.LintForm.{LintForm}
-use Rattle.miette_lint_program.specs.declared.lint_words.LintForm.TheVariants.{Picture, Rows, Commands}
+use Rattle.miette_lint.specs.rules.Combined.{combined_proposal}
+use Rattle.miette_lint_program.specs.rules.Logs.{finding_trees, lint_log}
+use Rattle.miette_lint_program.specs.rules.Words.{Check, Request, Written, brief, check, diff, fixed, github, graphical}
+use Rattle.miette_lint_program.specs.rules.Words.{sarif, serve}
+use Rattle.miette_lint_program.specs.declared.lint.Verdict.{Verdict}
+use Rattle.miette_lint_program.specs.declared.lint.Verdict.TheVariants.{Clean, Found, RemainingFindings}
 
 abbrev pub count_text : ℕ → List ℕ
 count_text n = decimal n ++ codes " findings"
 
--- a warning with these labels, which says how many there are
+-- a warning with these labels; its message says how many there are
 abbrev pub warning : List Label → Meaning
 warning found = record (message_alone (count_text (length found))) { severity = Some Warning; labels = Some found }
 
--- in commands of GitHub
+-- GitHub workflow commands
 abbrev pub commands_settings : rows.BriefSettings
-commands_settings = record rows.default_settings { form = Github }
+commands_settings = record rows.default_brief_settings { form = Github }
 
--- the commands of reports, one after the other
+-- the commands of reports, one after another
 abbrev pub commands_of : Trees → List ℕ
 commands_of no_trees = []
 commands_of (more_trees t ts) = rows.brief commands_settings t rows.unlisted ++ commands_of ts
 
-abbrev pub label_of : Coded → Label
+abbrev pub label_of : FindingWithFixes → Label
 label_of it = it.label
 
--- The text for what is found in the input, where that isn't nothing: of one report of all that is read whole, a picture
--- whose lines are cut at this many columns, or brief rows; of reports of each finding, commands.
-abbrev pub IsShown : LintForm → List ℕ → ℕ → List ℕ → List Label → List ℕ → Type 0
-IsShown Picture name width input found text = IsPicture (Some width) (over_input name (warning found) input) text
-IsShown Rows name width input found text =
-    text ≡ rows.brief rows.default_settings (over_input name (warning found) input) rows.unlisted
-IsShown Commands name width input found text =
-    text ≡ commands_of (finding_trees name input (coded_findings input width))
+-- ---- what is found in a source, as a report
 
--- nothing where nothing is found
-abbrev pub IsLinted : LintForm → List ℕ → ℕ → List ℕ → List Label → List ℕ → Type 0
-IsLinted form name width input [] text = text ≡ []
-IsLinted form name width input (l ∷ ls) text = IsShown form name width input (l ∷ ls) text
+-- the picture of a report, whose lines are cut at so many columns
+abbrev pub picture : ℕ → Tree → List ℕ
+picture width t = encode_utf8_all (report_text whole_drawing (draw_settings (Some width)) t unlisted)
 
--- whether there is none
-abbrev pub IsClean : List Label → Bool → Type 0
-IsClean found true = found ≡ []
-IsClean found false = 0 < length found
+-- brief rows of a report
+abbrev pub rows_text : Tree → List ℕ
+rows_text t = rows.brief rows.default_brief_settings t rows.unlisted
 
--- A fact of the text for these words and this input, with whether nothing is found in it.
-abbrev pub Lints : LintForm → List ℕ → ℕ → List ℕ → Bool → (List ℕ → Type 0) → Type 0
-Lints form name width input clean holds =
-    (text : List ℕ) × IsClean (findings_of input width) clean
-    × IsLinted form name width input (findings_of input width) text × holds text
+-- a text, where anything is found
+abbrev pub where_found : List Label → List ℕ → List ℕ
+where_found [] text = []
+where_found (l ∷ ls) text = text
 
--- A fact of the text alone.
-abbrev pub LintsText : LintForm → List ℕ → ℕ → List ℕ → (List ℕ → Type 0) → Type 0
-LintsText form name width input holds =
-    (text : List ℕ) × IsLinted form name width input (findings_of input width) text × holds text
+-- The report on a source in which this is found, in this form: of one warning with all labels, a picture, brief rows,
+-- or a picture with one fix of all that is proposed; of a warning for each finding, commands, or a log. With a fixed
+-- text goes a picture of what is left. Where nothing is found only a log has a text.
+abbrev pub report_in : Written → List ℕ → ℕ → List ℕ → List Label → List ℕ
+report_in graphical name width source found = where_found found (picture width (over_input name (warning found) source))
+report_in brief name width source found = where_found found (rows_text (over_input name (warning found) source))
+report_in github name width source found =
+    where_found found (commands_of (finding_trees name source (coded_findings source width)))
+report_in (sarif tool) name width source found = lint_log tool name width source
+report_in diff name width source found =
+    where_found found (picture width
+    (with_fix (combined_proposal source width) (over_input name (warning found) source)))
+report_in fixed name width source found = where_found found (picture width (over_input name (warning found) source))
 
--- By the words the program finds nothing in the input, or something.
-abbrev pub CallIsClean : List (List ℕ) → List ℕ → Bool → Type 0
-CallIsClean words input clean = (form : LintForm) × (name : List ℕ) × (width : ℕ)
-    × AreLintWords words form name width × IsClean (findings_of input width) clean
+-- the report on a source
+abbrev pub report_on : Check → List ℕ → List ℕ
+report_on it source = report_in it.output it.name it.width source (findings_of source it.width)
 
--- A fact of the text for the words as the program is called with them, with whether nothing is found in the input.
-abbrev pub CallLints : List (List ℕ) → List ℕ → Bool → (List ℕ → Type 0) → Type 0
-CallLints words input clean holds = (form : LintForm) × (name : List ℕ) × (width : ℕ)
-    × AreLintWords words form name width × Lints form name width input clean holds
+-- ---- what comes of an input
 
--- A fact of the text alone.
-abbrev pub CallLintsText : List (List ℕ) → List ℕ → (List ℕ → Type 0) → Type 0
-CallLintsText words input holds = (form : LintForm) × (name : List ℕ) × (width : ℕ)
-    × AreLintWords words form name width × LintsText form name width input holds
+abbrev pub is_fix : Written → Bool
+is_fix fixed = true
+is_fix _ = false
 
--- A fact of the fixed text of an input and of the picture of what is left to be found in it, with whether nothing is.
-abbrev pub LintFixes : List ℕ → ℕ → List ℕ → Bool → (List ℕ → List ℕ → Type 0) → Type 0
-LintFixes name width input clean holds =
-    (left : List ℕ) × IsClean (findings_of (fixed_text input) width) clean
-    × IsLinted Picture name width (fixed_text input) (findings_of (fixed_text input) width) left
-    × holds (fixed_text input) left
+-- the source that is checked: the input, or its fixed text
+abbrev pub source_of : Check → List ℕ → List ℕ
+source_of it input = if is_fix it.output then fixed_text input else input
 
--- The picture of what is found in the input, with one fix of all that is proposed for it: nothing where nothing is
--- found.
-abbrev pub IsDiffed : List ℕ → ℕ → List ℕ → List Label → List ℕ → Type 0
-IsDiffed name width input [] text = text ≡ []
-IsDiffed name width input (l ∷ ls) text = IsPicture (Some width)
-    (with_fix (joint_proposal input width) (over_input name (warning (l ∷ ls)) input)) text
+-- what is written: the report on the input, or its fixed text
+abbrev pub text_of : Check → List ℕ → List ℕ
+text_of it input = if is_fix it.output then fixed_text input else report_on it input
 
--- A fact of that picture, with whether nothing is found in the input.
-abbrev pub LintDiffs : List ℕ → ℕ → List ℕ → Bool → (List ℕ → Type 0) → Type 0
-LintDiffs name width input clean holds =
-    (text : List ℕ) × IsClean (findings_of input width) clean × IsDiffed name width input (findings_of input width) text
-    × holds text
+-- whether nothing is found
+abbrev pub is_clean : Check → List ℕ → Bool
+is_clean it input = is_nil (findings_of (source_of it input) it.width)
 
--- A fact of the picture alone.
-abbrev pub LintDiffsText : List ℕ → ℕ → List ℕ → (List ℕ → Type 0) → Type 0
-LintDiffsText name width input holds =
-    (text : List ℕ) × IsDiffed name width input (findings_of input width) text × holds text
+-- What was found: nothing; something, which was written; or something in the fixed text, with the report on that.
+abbrev pub IsVerdict : Verdict → Check → List ℕ → Type 0
+IsVerdict Clean it input = is_clean it input ≡ true
+IsVerdict Found it input = is_clean it input ≡ false
+IsVerdict (RemainingFindings text) it input =
+    (is_clean it input ≡ false) × (string_bytes text ≡ report_on it (fixed_text input))
+
+-- only of a fixed text there is something left
+abbrev pub IsVerdictIn : Written → Verdict → Type 0
+IsVerdictIn output Clean = ⊤
+IsVerdictIn output Found = is_fix output ≡ false
+IsVerdictIn output (RemainingFindings text) = is_fix output ≡ true
+
+-- the status of a check: 0 where nothing is found
+abbrev pub check_status : Check → List ℕ → ℕ
+check_status it input = if is_clean it input then 0 else 1
+
+-- the status of what `lint` is asked for
+abbrev pub request_status : Request → List ℕ → ℕ
+request_status (check it) input = check_status it input
+request_status (serve width) input = (served width input).status

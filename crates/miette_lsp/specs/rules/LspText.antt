@@ -4,11 +4,11 @@ use Rattle.miette_json.specs.rules.Denotes.{Denotes}
 use Rattle.miette_json.specs.rules.Json.{Json, json_text}
 use Rattle.miette_tree.specs.rules.Tree.{Trees}
 use Rattle.miette_sarif.specs.rules.Findings.{Finding}
-use Rattle.miette_sarif.specs.rules.Gathered.{AreFindingsOf, read_findings}
+use Rattle.miette_sarif.specs.rules.FindingList.{AreFindingsOf, read_findings}
 use Rattle.miette_lsp.specs.rules.Documents.{documents}
 
--- The text is the spelling of the documents of what a tool finds of the reports, for some answers of their sources. It
--- stands for that value, and for no other.
+-- The text spells the documents of the findings of the reports, for some answers of their sources. It denotes that
+-- value and no other.
 pub record IsLspOf (tool : List ℕ) (ts : Trees) (text : List ℕ) : Type 0 where
   pub findings : List Finding
   pub found : AreFindingsOf ts findings
@@ -16,6 +16,6 @@ pub record IsLspOf (tool : List ℕ) (ts : Trees) (text : List ℕ) : Type 0 whe
   pub denotes : Denotes text (documents tool findings)
   pub only : (other : Json) → Denotes text other → other ≡ documents tool findings
 
--- the text where all sources of the reports always read
+-- the text if all sources of the reports always read
 abbrev pub lsp_text : List ℕ → Trees → List ℕ
 lsp_text tool ts = json_text (documents tool (read_findings ts))

@@ -1,4 +1,4 @@
--- The name of the tool that a handler tells.
+-- The name of the tool of a handler.
 use Rattle.std.specs.Prelude.{ℕ, List, string_bytes}
 use Rattle.miette_lsp.specs.declared.handler.LspReportHandler.{LspReportHandler}
 

@@ -1,13 +1,13 @@
--- The rows of labels under a line.
+-- The lines that describe labels, below a source line.
 use Rattle.std.specs.Prelude.{ℕ, ◌+◌, ◌-◌, ◌==◌, min, max, List, [], ◌∷◌, ◌++◌, Option, Some, None, Bool, ◌&&◌, ◌||◌}
 use Rattle.std.specs.Prelude.{if◌then◌else◌, nat_le, decimal, codes}
-use Rattle.miette_source_lines.specs.rules.Lines.{Line}
+use Rattle.miette_lines.specs.rules.Lines.{Line}
 use Rattle.miette_protocol.specs.views.Meaning.{Label}
-use Rattle.miette_cells.specs.rules.Cells.{Character}
-use Rattle.miette_label_rules.specs.rules.Contexts.{end_of_span}
+use Rattle.miette_columns.specs.rules.Cells.{Character}
+use Rattle.miette_labels.specs.rules.Contexts.{end_of_span}
 use Rattle.miette_columns.specs.rules.Columns.{column}
 
--- a row is a text and a line feed
+-- a text and a line feed
 abbrev pub row : List ℕ → List ℕ
 row text = text ++ 10 ∷ []
 
@@ -17,7 +17,7 @@ pub record LabelRange : Type 0 where
   pub after : ℕ
   pub text : Option (List ℕ)
 
--- a label over a source of `n` bytes: its end is cut to the source's
+-- a label over a source of `n` bytes; its end is at most the source's
 abbrev pub label_range : ℕ → Label → LabelRange
 label_range n label = record {
   start = label.span.offset;
@@ -25,8 +25,8 @@ label_range n label = record {
   text = label.text;
 }
 
--- a line of a snippet: where it lies, its number, whether it is the snippet's last, where the snippet's data end, and
--- the characters of its text
+-- a line of a snippet: its offsets, its number, whether it is the snippet's last, where the snippet's data ends, and
+-- its characters
 pub record SnippetLine : Type 0 where
   pub line : Line
   pub number : ℕ
@@ -34,23 +34,23 @@ pub record SnippetLine : Type 0 where
   pub data_end : ℕ
   pub characters : List Character
 
--- Where an offset is: on the line or after it; and before the text's end or there. A label begins on the line or after
--- it where its start reaches it.
+-- Whether an offset is on the line or after it, and whether it is at or before the end of the text.
 abbrev pub reaches_line : SnippetLine → ℕ → Bool
 reaches_line it at = nat_le it.line.start at
 
-abbrev pub begins_within : SnippetLine → ℕ → Bool
-begins_within it start = nat_le start it.line.text_end
+abbrev pub begins_before_text_end : SnippetLine → ℕ → Bool
+begins_before_text_end it start = nat_le start it.line.text_end
 
--- a label ends before the text's end; on the last line also one does that begins in the data or where they end
+-- a label ends at or before the end of the text; on the last line, a label that begins in the data counts as ending
+-- there
 abbrev pub ends_before : SnippetLine → ℕ → ℕ → Bool
 ends_before it start after = nat_le after it.line.text_end || (it.is_last && nat_le start it.data_end)
 
--- the number of its first column
+-- the number of the label's first column, from 1
 abbrev pub first_number : SnippetLine → ℕ → ℕ
 first_number it start = column (start - it.line.start) it.characters + 1
 
--- the number of its last column; an empty label has one column
+-- the number of its last column, from 1; an empty label has one column
 abbrev pub last_number : SnippetLine → ℕ → ℕ → ℕ
 last_number it start after = if start == after then first_number it start
     else column (after - it.line.start) it.characters
@@ -81,10 +81,10 @@ start_row it d = column_row (codes "    label starting at line ") it (first_numb
 abbrev pub end_row : SnippetLine → LabelRange → List ℕ
 end_row it d = column_row (codes "    label ending at line ") it (last_number it d.start d.after) d
 
--- which of them a label has under a line, if it has one there
+-- the one of these that describes a label below a line, if any
 abbrev pub begun_row : SnippetLine → LabelRange → List ℕ
 begun_row it d = if ends_before it d.start d.after then whole_row it d
-    else (if begins_within it d.start then start_row it d else [])
+    else (if begins_before_text_end it d.start then start_row it d else [])
 
 abbrev pub reaching_row : SnippetLine → LabelRange → List ℕ
 reaching_row it d = if ends_before it d.start d.after then end_row it d else []

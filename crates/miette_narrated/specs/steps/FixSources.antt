@@ -1,9 +1,9 @@
--- What fixes are told over, as a program has it.
-use Rattle.miette_narrated.specs.declared.fixes.FixSource.{FixSource}
-use Rattle.miette_narrated.specs.declared.fixes.FixSource.TheVariants as given
-use Rattle.miette_narrated.specs.rules.Fixes.{FixedSource, no_source, unread, read}
+-- The source that fixes apply to, as the code has it.
+use Rattle.miette_narrated.specs.declared.fixes.NarratedFixSource.{NarratedFixSource}
+use Rattle.miette_narrated.specs.declared.fixes.NarratedFixSource.TheVariants as given
+use Rattle.miette_narrated.specs.rules.Fixes.{NarratedFixOrigin, no_source, unread, read}
 
-abbrev pub fixed_over : FixSource → FixedSource
-fixed_over given.Nowhere = no_source
-fixed_over given.Unread = unread
-fixed_over (given.Lines source) = read source.now
+abbrev pub narrated_origin_of : NarratedFixSource → NarratedFixOrigin
+narrated_origin_of given.Nowhere = no_source
+narrated_origin_of given.Unread = unread
+narrated_origin_of (given.Lines source) = read source.now

@@ -1,4 +1,4 @@
--- The rules of the languages that have a highlighter, and what a highlighter of a language is.
+-- The rules of the languages that have a highlighter, and the state of a highlighter.
 use Rattle.std.specs.Prelude.{List, Option, None}
 use Rattle.miette_highlight.specs.rules.FollowingCalls.{FollowTokens}
 use Rattle.miette_highlight.specs.rules.HighlighterCalls.{Call}
@@ -13,7 +13,7 @@ language_rules Toml = toml_rules
 language_rules Json = json_rules
 language_rules Rust = rust_rules
 
--- of which language, by which rules, and what was left open
+-- its language, its rules, and what the previous line left open
 pub record Highlighting : Type 0 where
   pub language : Language
   pub rules : List RuleText
@@ -26,10 +26,10 @@ highlighting_of it = record {
   left_open = it.patterns.left_open;
 }
 
--- that of a language, at the start of a text
+-- the highlighter of a language at the start of a text
 abbrev pub language_highlighting : Language → Highlighting
 language_highlighting it = record { language = it; rules = language_rules it; left_open = None }
 
--- what may follow for such a highlighter: each line is cut into its tokens by the rules
+-- the calls that such a highlighter allows: each line is split into tokens by the rules
 abbrev pub TokensFollow : LanguageHighlighter → List Call → Type 0
 TokensFollow it = FollowTokens it.patterns.rules.items it.patterns.left_open

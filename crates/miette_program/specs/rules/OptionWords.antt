@@ -1,15 +1,15 @@
 -- What the words of `job` and `bench` ask for: a table from words to the handler, its options and the terminal.
-use Rattle.std.specs.Prelude.{◌≡◌, ◌==◌, ℕ, Bool, true, false, ◌&&◌, ◌||◌, List, [], ◌∷◌, length, Option, Some, None}
+use Rattle.std.specs.Prelude.{◌≡◌, ◌==◌, ℕ, Bool, true, false, ◌&&◌, List, [], ◌∷◌, length, Option, Some, None}
 use Rattle.std.specs.Prelude.{if◌then◌else◌, nat_lt, ◌^◌, codes, bytes_eq, string_bytes}
 use Rattle.std.specs.Option.{option_map, option_map_or, option_and_then}
 use Rattle.std.specs.Str.{all_ascii_digits}
 use Rattle.std.specs.Str.Parse.{digits_value}
 use Rattle.miette_style.specs.rules.Themes.{Theme, ansi_styles, ascii_characters, no_styles, unicode_characters}
 use Rattle.miette_style.specs.declared.theme.Terminal.{Terminal}
-use Rattle.miette_wrap_rules.specs.declared.options.WordSeparator.{WordSeparator}
-use Rattle.miette_wrap_rules.specs.declared.options.WordSeparator.TheVariants.{AsciiSpace, UnicodeBreakProperties}
-use Rattle.miette_wrap_rules.specs.declared.options.WordSplitter.{WordSplitter}
-use Rattle.miette_wrap_rules.specs.declared.options.WordSplitter.TheVariants.{HyphenSplitter, NoHyphenation}
+use Rattle.miette_text.specs.declared.options.WordSeparator.{WordSeparator}
+use Rattle.miette_text.specs.declared.options.WordSeparator.TheVariants.{AsciiSpace, UnicodeBreakProperties}
+use Rattle.miette_text.specs.declared.options.WordSplitter.{WordSplitter}
+use Rattle.miette_text.specs.declared.options.WordSplitter.TheVariants.{HyphenSplitter, NoHyphenation}
 use Rattle.miette.specs.rules.Options.{Options, no_options}
 use Rattle.miette_brief.specs.declared.form.Form.TheVariants.{Gcc, Github}
 use Rattle.miette.specs.declared.options.builder.RgbColors.{RgbColors}
@@ -17,16 +17,17 @@ use Rattle.miette.specs.declared.options.builder.RgbColors.TheVariants.{Always, 
 use Rattle.miette_program.specs.declared.language.Language.{Language}
 use Rattle.miette_program.specs.declared.language.Language.TheVariants as language
 use Rattle.miette_program.specs.declared.language.LanguageHighlighter.{LanguageHighlighter}
-use Rattle.miette_program.specs.declared.option_words.Choice.{Choice}
-use Rattle.miette_program.specs.declared.option_words.Choice.TheVariants.{Build, Json, Debug}
-use Rattle.miette_program.specs.declared.option_words.ReportAsked.{ReportAsked}
-use Rattle.miette_program.specs.declared.option_words.ReportAsked.TheVariants as report
+use Rattle.miette_program.specs.declared.arguments.Choice.{Choice}
+use Rattle.miette_program.specs.declared.arguments.Choice.TheVariants.{Build, Json, Debug}
+use Rattle.miette_devices.specs.declared.output.Output.{Output}
+use Rattle.miette_devices.specs.declared.output.Output.TheVariants as output
+use Rattle.miette_devices.specs.rules.Outputs.{output_named}
 use Rattle.miette_program.specs.rules.LanguageRules.{Highlighting, highlighting_of, language_highlighting}
 
 -- ---- what may be asked for
 
 -- what the text goes to, its texts as bytes
-pub record Facts : Type 0 where
+pub record TerminalFacts : Type 0 where
   pub width : Option ℕ
   pub color : Option Bool
   pub unicode : Bool
@@ -36,8 +37,8 @@ pub record Facts : Type 0 where
   pub no_graphics : Option (List ℕ)
   pub no_color : Option (List ℕ)
 
-abbrev pub facts_of : Terminal → Facts
-facts_of t = record {
+abbrev pub terminal_facts_of : Terminal → TerminalFacts
+terminal_facts_of t = record {
   width = t.width;
   color = t.color;
   unicode = t.unicode;
@@ -53,7 +54,7 @@ pub record JobRequest : Type 0 where
   pub choice : Choice
   pub options : Options LanguageHighlighter
   pub highlighting : Option Highlighting
-  pub facts : Facts
+  pub facts : TerminalFacts
 
 -- where nothing is asked for
 abbrev pub nothing_asked : JobRequest
@@ -78,38 +79,31 @@ request_of choice options terminal = record {
   choice = choice;
   options = record options { highlighter = None };
   highlighting = option_map highlighting_of options.highlighter;
-  facts = facts_of terminal;
+  facts = terminal_facts_of terminal;
 }
 
--- with these options, or with the highlighter of this language or this terminal, in place of those before
+-- with these options, this language's highlighter or this terminal instead of the previous ones
 abbrev pub asks : JobRequest → Options LanguageHighlighter → Option JobRequest
 asks r options = Some (record r { options = options })
 
 abbrev pub highlights : JobRequest → Language → Option JobRequest
 highlights r it = Some (record r { highlighting = Some (language_highlighting it) })
 
-abbrev pub knows : JobRequest → Facts → Option JobRequest
+abbrev pub knows : JobRequest → TerminalFacts → Option JobRequest
 knows r facts = Some (record r { facts = facts })
 
 -- ---- the table: what is asked for with one word more, and nothing where there is no such word
 
--- a word without a value
-abbrev pub report_named : List ℕ → Option ReportAsked
-report_named word =
-    if bytes_eq word (codes "--json") then Some report.Json
-    else (if bytes_eq word (codes "--debug") then Some report.Debug
-    else (if bytes_eq word (codes "--brief") then Some report.Brief
-    else (if bytes_eq word (codes "--github") || bytes_eq word (codes "--brief=github") then Some report.Github
-    else (if bytes_eq word (codes "--narrated") then Some report.Narrated
-    else (if bytes_eq word (codes "--graphical") then Some report.Graphical else None)))))
-
-abbrev pub with_report : ReportAsked → JobRequest → JobRequest
-with_report report.Json r = record r { choice = Json }
-with_report report.Debug r = record r { choice = Debug }
-with_report report.Brief r = record r { options = record r.options { brief = true; brief_form = Gcc } }
-with_report report.Github r = record r { options = record r.options { brief = true; brief_form = Github } }
-with_report report.Narrated r = record r { options = record r.options { narrated = Some true } }
-with_report report.Graphical r = record r { options = record r.options { graphical = Some true } }
+-- a word without a value: a form of the report; a log is none
+abbrev pub with_form : Output → JobRequest → Option JobRequest
+with_form output.Graphical r = asks r (record r.options { graphical = Some true })
+with_form output.Narrated r = asks r (record r.options { narrated = Some true })
+with_form output.Brief r = asks r (record r.options { brief = true; brief_form = Gcc })
+with_form output.Github r = asks r (record r.options { brief = true; brief_form = Github })
+with_form output.Json r = Some (record r { choice = Json })
+with_form output.Debug r = Some (record r { choice = Debug })
+with_form output.Sarif r = None
+with_form output.Lsp r = None
 
 -- a word whose value is a number from 1
 abbrev pub with_count : List ℕ → ℕ → JobRequest → Option JobRequest
@@ -239,7 +233,7 @@ abbrev mutual
   pub with_words : List (List ℕ) → JobRequest → Option JobRequest
   with_words [] r = Some r
   with_words (word ∷ words) r =
-      option_map_or (λ asked. with_words words (with_report asked r)) (report_named word)
+      option_map_or (λ form. option_and_then (with_words words) (with_form form r)) (output_named word)
       (with_words_after word words r)
 
   pub with_words_after : List ℕ → List (List ℕ) → JobRequest → Option JobRequest

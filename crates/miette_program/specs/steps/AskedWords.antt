@@ -1,22 +1,23 @@
 -- What the words ask for, as the code keeps it.
 use Rattle.std.specs.Prelude.{◌≡◌, Option, Some, None, Result, Ok, Err}
 use Rattle.miette_program.specs.declared.arguments.Arguments.{Arguments}
-use Rattle.miette_devices.specs.declared.fault.Fault.{Fault}
-use Rattle.miette_devices.specs.declared.fault.Fault.TheVariants.{Usage, Memory, Read, Write, Description, Refused}
+use Rattle.miette_devices.specs.declared.fault.ProgramError.{ProgramError}
+use Rattle.miette_devices.specs.declared.fault.ProgramError.TheVariants.{Usage, Memory, Read, Write, Description}
+use Rattle.miette_devices.specs.declared.fault.ProgramError.TheVariants.{Refused}
 use Rattle.miette_program.specs.declared.option_words.Asked.{Asked}
-use Rattle.miette_program.specs.declared.option_words.Asked.TheVariants.{Report, Value}
+use Rattle.miette_program.specs.declared.option_words.Asked.TheVariants.{Form, Value}
 use Rattle.miette_style.specs.rules.Themes.{theme_of}
 use Rattle.miette_program.specs.declared.option_words.Named.{Named}
 use Rattle.miette_program.specs.declared.option_words.Named.TheVariants.{Theme, Rgb, Separator, Highlighter, Color}
 use Rattle.miette_program.specs.rules.LanguageRules.{highlighting_of}
-use Rattle.miette_program.specs.rules.OptionWords.{JobRequest, request_of, with_report, with_value}
+use Rattle.miette_program.specs.rules.OptionWords.{JobRequest, request_of, with_form, with_value}
 
 abbrev pub asked_of : Arguments → JobRequest
 asked_of it = request_of it.choice it.options it.terminal
 
 -- with the first of the words and what belongs to it
 abbrev pub with_asked : Asked → JobRequest → Option JobRequest
-with_asked (Report asked) r = Some (with_report asked r)
+with_asked (Form form) r = with_form form r
 with_asked (Value word value) r = with_value word.now value.now r
 
 -- with what a word asks for whose value is a name
@@ -29,7 +30,7 @@ with_named (Highlighter it) r = record r { highlighting = Some (highlighting_of 
 with_named (Color color) r = record r { facts = record r.facts { color = color } }
 
 -- the value that the table gives; the usage fault where it gives none; or the fault of memory
-abbrev pub IsGiven : {A B : Type 0} → (A → B) → Option B → Result A Fault → Type 0
+abbrev pub IsGiven : {A B : Type 0} → (A → B) → Option B → Result A ProgramError → Type 0
 IsGiven value given (Ok it) = given ≡ Some (value it)
 IsGiven value given (Err Usage) = given ≡ None
 IsGiven value given (Err Memory) = Unit
@@ -38,5 +39,5 @@ IsGiven value given (Err Write) = ⊥
 IsGiven value given (Err Description) = ⊥
 IsGiven value given (Err Refused) = ⊥
 
-abbrev pub AreGiven : Option JobRequest → Result Arguments Fault → Type 0
+abbrev pub AreGiven : Option JobRequest → Result Arguments ProgramError → Type 0
 AreGiven = IsGiven asked_of

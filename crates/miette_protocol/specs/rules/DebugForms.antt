@@ -1,5 +1,4 @@
--- What `{:?}` writes of offsets, spans, labels and named sources. Of a text past ASCII nothing is said, and so of what
--- holds one.
+-- What `{:?}` prints for offsets, spans, labels and named sources. Texts that aren't ASCII are unspecified.
 use Rattle.std.specs.Prelude.{ℕ, List, ◌++◌, Bool, Option, Some, codes, if◌then◌else◌}
 use Rattle.std.specs.Fmt.{◌++?◌, debug_option, debug_str, decimal}
 use Rattle.miette_protocol.specs.rules.Reading.{Span}
@@ -27,7 +26,7 @@ abbrev pub count_form : Option ℕ → Option (List ℕ)
 count_form = debug_option (λ n. Some (decimal n))
 
 -- `LabeledSpan { label: Some("text"), span: SourceSpan { offset: SourceOffset(9), length: 4 }, primary: false,
--- context_lines: None }`, in one row
+-- context_lines: None }`, in one line
 abbrev pub label_form : Label → Option (List ℕ)
 label_form it = (Some (codes "LabeledSpan { label: ") ++? text_form it.text)
     ++? (Some (codes ", span: ") ++? Some (span_form it.span))
@@ -35,7 +34,7 @@ label_form it = (Some (codes "LabeledSpan { label: ") ++? text_form it.text)
     ++? (Some (codes ", context_lines: ") ++? count_form it.context)
     ++? Some (codes " }")
 
--- `NamedSource { name: "app.toml", source: "<redacted>", language: None }`, of a name and a language
+-- `NamedSource { name: "app.toml", source: "<redacted>", language: None }`
 abbrev pub named_form : List ℕ → Option (List ℕ) → Option (List ℕ)
 named_form name language = (Some (codes "NamedSource { name: ") ++? debug_str name)
     ++? (Some (codes ", source: \"<redacted>\", language: ") ++? text_form language)

@@ -6,12 +6,12 @@ use Rattle.miette_protocol.specs.declared.error.MietteError.TheVariants.{IoError
 use Rattle.miette_protocol.specs.declared.error.RenderError.{RenderError}
 use Rattle.miette_protocol.specs.declared.error.RenderError.TheVariants.{Memory, Refused}
 
--- what is printed, where a contract states it: an error of the system prints itself
+-- what is printed, where a contract states it; an error of the system prints itself
 abbrev pub error_text : MietteError → Option (List ℕ)
 error_text (IoError _) = None
 error_text OutOfBounds = Some (codes "The given offset is outside the bounds of its Source")
 
--- what an error of a source answers as a diagnostic
+-- an error of a source as a diagnostic
 abbrev pub error_meaning : MietteError → Meaning
 error_meaning (IoError _) = record {
   message = codes "a source could not be read";
@@ -30,11 +30,11 @@ error_meaning OutOfBounds = record {
   labels = None;
 }
 
--- what is printed of a report that was not written
+-- what a rendering error prints
 abbrev pub render_text : RenderError → List ℕ
 render_text Memory = codes "memory allocation failed"
 render_text Refused = codes "a source could not be read where a label points"
 
--- what is printed of a range that is too long
+-- what is printed for a range that is too long
 abbrev pub overflow_text : List ℕ
 overflow_text = codes "the length of the range is greater than a usize can say"

@@ -1,4 +1,4 @@
--- A label's own number of context lines, as a reader of values finds it.
+-- How the number of context lines of a label is serialized.
 use Rattle.std.specs.Prelude.{◌≡◌, ◌⊎◌, ℕ, List, Option, Some, None}
 use Rattle.serde.specs.Event.{Event, Log, Logs, WritesOption, unsigned, nothing}
 use Rattle.serde.specs.Steps.{Gives, Stays}
@@ -9,7 +9,7 @@ use Rattle.miette_protocol.specs.views.Meaning.{context_count}
 abbrev pub WritesLines : Option ℕ → Log → Log → Type 0
 WritesLines = WritesOption (λ n old new. Logs old new (unsigned n))
 
--- nothing was read, or, after a look, a number
+-- nothing was read, or a number
 abbrev pub ReadsLines : {F E M : Type 0} → (F → List ℕ → Event → F → Type 0) → (F → F → Type 0) → Deserializer F E M →
     Option ℕ → Deserializer F E M → Type 0
 ReadsLines {F} {E} {M} gives stays old lines new =

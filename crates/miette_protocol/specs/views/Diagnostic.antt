@@ -1,11 +1,11 @@
--- What a `MietteDiagnostic` means, and what its builders make of it.
+-- What a `MietteDiagnostic` represents, and what its builders return.
 use Rattle.std.specs.Prelude.{ℕ, Bool, List, [], ◌∷◌, ◌++◌, Option, Some, None, string_bytes, unwrap_or}
 use Rattle.std.specs.Option.{option_map}
 use Rattle.miette_protocol.specs.rules.Reading.{Span}
 use Rattle.miette_protocol.specs.views.Meaning.{Meaning, Label}
 use Rattle.miette_protocol.specs.declared.diagnostic.MietteDiagnostic.{MietteDiagnostic}
 
--- its public fields, as texts and lists
+-- the public fields, as texts and lists
 abbrev pub meaning_of : MietteDiagnostic → Meaning
 meaning_of it = record {
   message = string_bytes it.message;
@@ -20,11 +20,11 @@ meaning_of it = record {
 abbrev pub message_alone : List ℕ → Meaning
 message_alone m = record { message = m; code = None; severity = None; help = None; url = None; labels = None }
 
--- labels after those that are there, if any are
+-- appends labels to a list that may be missing
 abbrev pub appended_labels : Option (List Label) → List Label → Option (List Label)
 appended_labels labels more = Some (unwrap_or labels [] ++ more)
 
--- with a label on a span after those that are there
+-- appends a label with a span
 abbrev pub with_label_at : Meaning → Span → List ℕ → Bool → Meaning
 with_label_at m span text primary =
     let label : Label = record { text = Some text; span = span; primary = primary; context = None } in

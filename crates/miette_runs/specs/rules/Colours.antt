@@ -1,10 +1,10 @@
--- Which sequences are colours, and which are links'.
+-- Which escape sequences are colours, and which are those of links.
 use Rattle.std.specs.Prelude.{ℕ, Bool, false, ◌&&◌, not, ◌==◌, if◌then◌else◌, List, [], ◌∷◌}
-use Rattle.miette_basics.specs.rules.Lists.{is_nil}
+use Rattle.miette_lines.specs.rules.Lists.{is_nil}
 use Rattle.miette_runs.specs.rules.Sequences.{is_bell, is_line_feed, is_parameter}
 use Rattle.miette_style.specs.rules.Escapes.{is_escape}
 
--- `m`, after digits and `;`
+-- `m` after digits and `;`
 abbrev pub is_colour_end : List ℕ → Bool
 is_colour_end [] = false
 is_colour_end (c ∷ cs) = if c == 109 then is_nil cs else is_parameter c && is_colour_end cs
@@ -13,7 +13,7 @@ abbrev pub is_colour_after : List ℕ → Bool
 is_colour_after [] = false
 is_colour_after (c ∷ cs) = c == 91 && is_colour_end cs
 
--- The sequence is a colour: `ESC [`, digits and `;`, `m`.
+-- a colour: `ESC [`, digits and `;`, `m`
 abbrev pub is_colour : List ℕ → Bool
 is_colour [] = false
 is_colour (c ∷ cs) = is_escape c && is_colour_after cs
@@ -34,7 +34,7 @@ abbrev pub is_link_after : List ℕ → Bool
 is_link_after [] = false
 is_link_after (c ∷ cs) = c == 93 && is_link_end cs
 
--- The sequence is a link's: `ESC ]`, codes with no escape, BEL or `ESC \`.
+-- the sequence of a link: `ESC ]`, codes without escape, BEL or `ESC \`
 abbrev pub is_link : List ℕ → Bool
 is_link [] = false
 is_link (c ∷ cs) = is_escape c && is_link_after cs

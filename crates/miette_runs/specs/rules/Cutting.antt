@@ -1,4 +1,4 @@
--- A text without the line feeds at an end, where only line feeds and colours stand between them and that end.
+-- A text without the line feeds at an end, if only line feeds and colours are between them and that end.
 use Rattle.std.specs.Prelude.{ℕ, Bool, true, ◌&&◌, if◌then◌else◌, List, [], ◌∷◌}
 use Rattle.miette_runs.specs.rules.Sequences.{Token, Character, Sequence, tokens, spell, is_line_feed}
 use Rattle.miette_runs.specs.rules.Colours.{is_colour}
@@ -19,8 +19,8 @@ cut_end [] = []
 cut_end (Character c ∷ ts) = if is_line_feed c && only_feeds ts then cut_end ts else Character c ∷ cut_end ts
 cut_end (Sequence s ∷ ts) = Sequence s ∷ cut_end ts
 
-abbrev pub without_leading : List ℕ → List ℕ
-without_leading text = spell (cut_front (tokens text))
+abbrev pub trim_leading_feeds : List ℕ → List ℕ
+trim_leading_feeds text = spell (cut_front (tokens text))
 
-abbrev pub without_trailing : List ℕ → List ℕ
-without_trailing text = spell (cut_end (tokens text))
+abbrev pub trim_trailing_feeds : List ℕ → List ℕ
+trim_trailing_feeds text = spell (cut_end (tokens text))

@@ -1,11 +1,11 @@
--- What a row prints: texts in styles, and links.
+-- What styled texts and links print.
 use Rattle.std.specs.Prelude.{◌≡◌, ℕ, true, List, [], ◌∷◌, ◌++◌}
 use Rattle.miette_style.specs.rules.Styles.{plain}
 use Rattle.miette_style.specs.rules.Codes.{style_codes, colour_start, colour_stop, escape}
 use Rattle.miette_style.specs.rules.Escapes.{no_escape}
 use Rattle.miette_style.specs.declared.style.Style.{Style}
 
--- A text in a style, or the start or the end of a link.
+-- A text in a style, or the start or end of a link.
 pub data Fragment : Type 0 where
   Styled : Style → List ℕ → Fragment
   LinkTo : List ℕ → Fragment
@@ -27,13 +27,13 @@ abbrev pub print : List Fragment → List ℕ
 print [] = []
 print (s ∷ ss) = printed_text s ++ print ss
 
--- The same in a plain style.
+-- the same without style
 abbrev pub made_plain : Fragment → Fragment
 made_plain (Styled s text) = Styled plain text
 made_plain (LinkTo url) = LinkTo url
 made_plain LinkEnd = LinkEnd
 
--- texts and urls that hold no escape
+-- texts and URLs without escapes
 abbrev pub HasNoEscape : Fragment → Type 0
 HasNoEscape (Styled s text) = no_escape text ≡ true
 HasNoEscape (LinkTo url) = no_escape url ≡ true

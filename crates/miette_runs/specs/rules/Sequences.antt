@@ -1,11 +1,10 @@
--- What a text is made of: characters, and sequences for the terminal. A text is the list of its
--- characters' codes.
+-- The tokens of a text: characters and escape sequences. A text is the list of its character codes.
 use Rattle.std.specs.Prelude.{ℕ, zero, suc, Bool, false, ◌&&◌, ◌||◌, ◌==◌, nat_le, nat_lt, length, if◌then◌else◌}
 use Rattle.std.specs.Prelude.{List, [], ◌∷◌, ◌++◌}
 use Rattle.std.specs.Prelude.{true, not, take}
 use Rattle.miette_style.specs.rules.Escapes.{is_escape}
 
--- ---- which codes begin and end a sequence
+-- ---- the codes that begin and end a sequence
 
 abbrev pub is_line_feed : ℕ → Bool
 is_line_feed c = c == 10
@@ -17,26 +16,26 @@ is_bell c = c == 7
 abbrev pub is_final : ℕ → Bool
 is_final c = nat_le 0x40 c && nat_le c 0x7E
 
--- one of the codes between `ESC [` and the `m` of a colour: a digit or `;`
+-- a code between `ESC [` and the `m` of a colour: a digit or `;`
 abbrev pub is_parameter : ℕ → Bool
 is_parameter c = (nat_le 48 c && nat_le c 57) || (c == 59)
 
--- begins with that code
+-- the text begins with that code
 abbrev pub begins : ℕ → List ℕ → Bool
 begins c [] = false
 begins c (x ∷ xs) = x == c
 
--- `ESC \` stands at the front
+-- the text begins with `ESC \`
 abbrev pub begins_terminator : List ℕ → Bool
 begins_terminator [] = false
 begins_terminator (c ∷ cs) = is_escape c && begins 92 cs
 
--- `ESC ]` stands at the front
+-- the text begins with `ESC ]`
 abbrev pub begins_command : List ℕ → Bool
 begins_command [] = false
 begins_command (c ∷ cs) = is_escape c && begins 93 cs
 
--- ---- how long a sequence is; 0 where there is none
+-- ---- the length of a sequence; 0 if there is none
 
 abbrev pub one_more : ℕ → ℕ
 one_more zero = zero
@@ -58,7 +57,7 @@ abbrev pub colour_end_len : List ℕ → ℕ
 colour_end_len [] = 0
 colour_end_len (c ∷ cs) = if c == 109 then 1 else if is_parameter c then one_more (colour_end_len cs) else 0
 
--- The sequence at the front of a text.
+-- the sequence at the front of a text
 abbrev pub after_escape_len : List ℕ → ℕ
 after_escape_len [] = 0
 after_escape_len (c ∷ cs) = if c == 91 then one_more (control_len cs) else if c == 93 then one_more (command_len cs)
@@ -68,11 +67,11 @@ abbrev pub sequence_len : List ℕ → ℕ
 sequence_len [] = 0
 sequence_len (c ∷ cs) = if is_escape c then one_more (after_escape_len cs) else 0
 
--- one whole sequence
+-- exactly one complete sequence
 abbrev pub is_whole : List ℕ → Bool
 is_whole codes = nat_lt 0 (length codes) && (sequence_len codes == length codes)
 
--- The colour at the front of a text: `ESC [`, digits and `;`, `m`.
+-- the colour at the front of a text: `ESC [`, digits and `;`, `m`
 abbrev pub after_colour_escape_len : List ℕ → ℕ
 after_colour_escape_len [] = 0
 after_colour_escape_len (c ∷ cs) = if c == 91 then one_more (colour_end_len cs) else 0
@@ -81,15 +80,15 @@ abbrev pub colour_len : List ℕ → ℕ
 colour_len [] = 0
 colour_len (c ∷ cs) = if is_escape c then one_more (after_colour_escape_len cs) else 0
 
--- ---- a text, cut
+-- ---- the tokens of a text
 
 pub data Token : Type 0 where
-  -- a character that is in no sequence
+  -- a character outside sequences
   Character : ℕ → Token
-  -- a whole sequence
+  -- a complete sequence
   Sequence : List ℕ → Token
 
--- the tokens after the next codes, which are in a sequence already
+-- the tokens after the next codes, which are part of a sequence already
 
 abbrev pub tokens_after : ℕ → List ℕ → List Token
 tokens_after skipped [] = []
@@ -110,11 +109,11 @@ abbrev pub spell : List Token → List ℕ
 spell [] = []
 spell (t ∷ ts) = spelling t ++ spell ts
 
--- whole sequences, and characters that are no escape: what they print is read as these again
-abbrev pub are_settled : List Token → Bool
-are_settled [] = true
-are_settled (Character c ∷ ts) = not (is_escape c) && are_settled ts
-are_settled (Sequence s ∷ ts) = is_whole s && are_settled ts
+-- complete sequences, and characters that aren't escapes: when printed, they read as the same tokens
+abbrev pub are_canonical : List Token → Bool
+are_canonical [] = true
+are_canonical (Character c ∷ ts) = not (is_escape c) && are_canonical ts
+are_canonical (Sequence s ∷ ts) = is_whole s && are_canonical ts
 
 -- ---- without colours
 
@@ -126,6 +125,6 @@ erase_after zero (c ∷ cs) = elim (colour_len (c ∷ cs)) [
   | suc k ↦ erase_after k cs
 ]
 
--- A text without its colours: each `ESC [`, any digits and `;`, `m` is deleted.
+-- a text without its colours: each `ESC [`, any digits and `;`, `m` is deleted
 abbrev pub erase : List ℕ → List ℕ
 erase = erase_after 0

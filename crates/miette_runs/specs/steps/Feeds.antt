@@ -1,4 +1,4 @@
--- Where the line feeds at the front of characters with tags end, and where those at their end begin.
+-- Line feeds at the front and end of characters with tags.
 use Rattle.std.specs.Prelude.{ℕ, suc, ◌-◌, min, Bool, true, ◌&&◌, if◌then◌else◌, List, [], ◌∷◌}
 use Rattle.miette_runs.specs.rules.Cutting.{only_feeds}
 use Rattle.miette_runs.specs.rules.Sequences.{is_line_feed}
@@ -10,13 +10,13 @@ abbrev pub are_colours : List Tag → Bool
 are_colours [] = true
 are_colours (m ∷ ms) = is_colour (tag_text m) && are_colours ms
 
--- how many line feeds from a place on have only colours before and between them
+-- how many line feeds from an index on have only colours before and between them
 abbrev pub feeds_len : ℕ → List ℕ → List Tag → ℕ
 feeds_len at [] tags = 0
 feeds_len at (c ∷ cs) tags = if is_line_feed c && are_colours (upto at tags)
     then suc (feeds_len (suc at) cs (beyond at tags)) else 0
 
--- how many characters from a place on are before the line feeds and colours at the end
+-- how many characters from an index on precede the line feeds and colours at the end
 abbrev pub kept_len : ℕ → List ℕ → List Tag → ℕ
 kept_len at [] tags = 0
 kept_len at (c ∷ cs) tags = if is_line_feed c && only_feeds (interleaving (suc at) cs (beyond at tags)) then 0

@@ -1,4 +1,4 @@
--- Bytes of codes, joined.
+-- The bytes of joined codes.
 use Rattle.std.proofs.Common.{◌≡◌, ℕ, List, [], ◌∷◌, ◌++◌, encode_utf8, encode_utf8_all, refl, ap, sym, ◌∙◌}
 use Rattle.std.proofs.Common.{append_assoc}
 

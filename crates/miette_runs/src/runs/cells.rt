@@ -1,4 +1,4 @@
-//! Characters with the signs before them, appended to a sink.
+//! Appends characters and signs to a sink.
 
 ghost use Rattle.std.specs.Prelude.{◌≡◌, ◌≤◌, ◌++◌, IfOk, OnOk, drop, length};
 ghost use Rattle.miette_runs.specs.rules.Cells.{piece_text};
@@ -9,13 +9,14 @@ use crate::runs::RunsSlice;
 use crate::runs::codes::{Characters, Codes};
 use crate::runs::sign::Tag;
 use crate::runs::sink::Sink;
-use crate::runs::tags::upto_len;
+use crate::runs::tags::count_tags_before;
 use std::alloc::AllocError;
 
-/// Appends characters, which begin at a place, with the tags before them; gives how many tags that were.
+/// Appends characters with the signs before them. `at` is the index of the first character. Returns the number of
+/// signs.
 ///
 /// # Errors
-/// `AllocError` where memory is refused.
+/// `AllocError` if allocation fails.
 pub fn push_cells<S: Sink, C: Codes>(
     out: &mut S,
     at: usize,
@@ -53,7 +54,7 @@ pub fn push_cells<S: Sink, C: Codes>(
 /// Appends signs.
 ///
 /// # Errors
-/// `AllocError` where memory is refused.
+/// `AllocError` if allocation fails.
 pub fn push_tags<S: Sink>(out: &mut S, tags: &[Tag]) -> Result<(), AllocError>
     ensures { OnOk result (S.written out.new ≡ S.written out.old ++ tags_spelled tags.now) }
 {
@@ -63,25 +64,25 @@ pub fn push_tags<S: Sink>(out: &mut S, tags: &[Tag]) -> Result<(), AllocError>
     Ok(())
 }
 
-/// Appends the signs that stand before the character at a place; gives how many those were.
+/// Appends the signs before the character at an index. Returns the number of signs.
 ///
 /// # Errors
-/// `AllocError` where memory is refused.
+/// `AllocError` if allocation fails.
 pub fn push_signs<S: Sink>(out: &mut S, at: usize, tags: &[Tag]) -> Result<usize, AllocError>
     ensures text { OnOk result (S.written out.new ≡ S.written out.old ++ tags_spelled (upto at tags.now)) }
     ensures left { IfOk result (λ n. drop n tags.now ≡ beyond at tags.now) }
     ensures within { IfOk result (λ n. n ≤ length tags.now) }
 {
-    let n = upto_len(at, tags);
+    let n = count_tags_before(at, tags);
     push_tags(out, &tags[..n])?;
     Ok(n)
 }
 
-/// Appends characters, and the signs between them.
+/// Appends characters and signs.
 ///
 /// # Errors
-/// `AllocError` where memory is refused.
-pub fn push_all<S: Sink>(out: &mut S, runs: RunsSlice<'_>) -> Result<(), AllocError>
+/// `AllocError` if allocation fails.
+pub fn push_runs_slice<S: Sink>(out: &mut S, runs: RunsSlice<'_>) -> Result<(), AllocError>
     ensures { OnOk result (S.written out.new ≡ S.written out.old
         ++ spell (interleaving 0 runs.entry.codes.now runs.entry.tags.now)) }
 {

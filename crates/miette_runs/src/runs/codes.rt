@@ -1,4 +1,4 @@
-//! Characters by their number, read where they stand.
+//! Characters by index, without copying them.
 
 ghost use Rattle.std.specs.Prelude.{◌≡◌, ◌≤◌, ◌<◌, ◌++◌, ℕ, IsAscii, List, MatchOption, OnOk, drop, length};
 ghost use Rattle.std.specs.Prelude.{slice_index, take};
@@ -7,36 +7,36 @@ ghost use Rattle.std.specs.Str.{IsNotAscii};
 use crate::runs::sink::Sink;
 use std::alloc::AllocError;
 
-/// Characters in a row, each found by its number.
+/// A sequence of characters, accessible by index.
 pub trait Codes: Copy {
     /// The characters.
     ghost codes: { Self → List ℕ };
 
-    /// How many there are.
+    /// Returns their number.
     fn count(self) -> usize
         ensures { result ≡ length (codes self) };
 
-    /// One of them.
+    /// Returns one character.
     fn at(self, i: usize) -> char
         requires { i < length (codes self) }
         ensures { result ≡ slice_index (codes self) i };
 
-    /// The first `n` codes.
+    /// Returns the first `n` characters.
     fn front(self, n: usize) -> Self
         requires { n ≤ length (codes self) }
         ensures { codes result ≡ take n (codes self) };
 
-    /// The codes after the first `n`.
+    /// Returns the characters after the first `n`.
     fn from(self, n: usize) -> Self
         requires { n ≤ length (codes self) }
         ensures { codes result ≡ drop n (codes self) };
 
-    /// Appends them. `AllocError` where memory is refused.
+    /// Appends the characters. Returns `AllocError` if allocation fails.
     fn push_to<S: Sink>(self, out: &mut S) -> Result<(), AllocError>
         ensures { OnOk result (S.written out.new ≡ S.written out.old ++ codes self) };
 }
 
-/// A list of characters.
+/// A slice of characters.
 #[derive(Clone, Copy)]
 pub struct Characters<'a> {
     /// The characters.
@@ -71,7 +71,7 @@ impl<'a> Codes for Characters<'a> {
     }
 }
 
-/// A text of ASCII, whose characters are its bytes.
+/// An ASCII text; its characters are its bytes.
 #[derive(Clone, Copy)]
 pub struct Ascii<'a> {
     /// The text.
@@ -80,7 +80,7 @@ pub struct Ascii<'a> {
 }
 
 impl<'a> Ascii<'a> {
-    /// A text, where it is ASCII.
+    /// Wraps a text if it is ASCII.
     pub fn of(text: &'a str) -> Option<Self>
         ensures { MatchOption result (IsNotAscii text.now) (λ it. it.text.now ≡ text.now) }
     {

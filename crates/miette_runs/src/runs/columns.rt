@@ -1,15 +1,15 @@
-//! Columns.
+//! Widths of characters and runs, in columns.
 
 ghost use Rattle.std.specs.Prelude.{◌≡◌, IfOk};
-ghost use Rattle.miette_runs.specs.rules.Cells.{columns_of, width};
+ghost use Rattle.miette_runs.specs.rules.Cells.{printed_columns, width};
 ghost use Rattle.miette_runs.specs.views.Interleaving.{interleaving};
 
 use crate::runs::RunsSlice;
-use miette_basics::sums::sum;
+use miette_lines::sums::sum;
 use std::alloc::AllocError;
 use unicode_width::UnicodeWidthChar;
 
-/// How many columns a character takes.
+/// Returns the width of a character in columns.
 #[inline]
 pub fn char_columns(c: char) -> usize
     ensures { result ≡ width c }
@@ -21,12 +21,12 @@ pub fn char_columns(c: char) -> usize
     }
 }
 
-/// How many columns runs take.
+/// Returns the width of runs in columns.
 ///
 /// # Errors
-/// `AllocError` where they have more columns than a `usize` counts.
+/// `AllocError` if the width exceeds `usize::MAX`.
 pub fn token_columns(runs: RunsSlice<'_>) -> Result<usize, AllocError>
-    ensures { IfOk result (λ n. n ≡ columns_of (interleaving 0 runs.entry.codes.now runs.entry.tags.now)) }
+    ensures { IfOk result (λ n. n ≡ printed_columns (interleaving 0 runs.entry.codes.now runs.entry.tags.now)) }
 {
     let mut total = 0;
     for code in runs.codes {

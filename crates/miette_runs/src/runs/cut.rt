@@ -1,4 +1,4 @@
-//! Runs without the line feeds at an end.
+//! Removes line feeds at an end of runs.
 
 ghost use Rattle.std.specs.Prelude.{◌≡◌, ◌≤◌, length, map};
 ghost use Rattle.miette_runs.specs.rules.Cutting.{cut_end, cut_front};
@@ -6,16 +6,16 @@ ghost use Rattle.miette_runs.specs.steps.Feeds.{capped_tag, feeds_len, kept_len,
 
 use crate::runs::Runs;
 use crate::runs::sign::Tag;
-use crate::runs::tags::{are_colours, upto_len};
+use crate::runs::tags::{are_colours, count_tags_before};
 
-// How many line feeds at the front have only colours before and between them.
+// Counts the line feeds at the front that have only colours before and between them.
 fn feeds_len(codes: &[char], tags: &[Tag]) -> usize
     ensures value { result ≡ feeds_len 0 codes.now tags.now }
     ensures within { result ≤ length codes.now }
 {
     let mut left = tags;
     for (i, code) in codes.iter().enumerate() {
-        let (before, after) = left.split_at(upto_len(i, left));
+        let (before, after) = left.split_at(count_tags_before(i, left));
         if *code != '\n' || !are_colours(before) {
             return i;
         }
@@ -24,7 +24,7 @@ fn feeds_len(codes: &[char], tags: &[Tag]) -> usize
     codes.len()
 }
 
-// How many characters are before the line feeds and colours at the end.
+// Counts the characters before the line feeds and colours at the end.
 fn kept_len(codes: &[char], tags: &[Tag]) -> usize
     ensures value { result ≡ kept_len 0 codes.now tags.now }
     ensures within { result ≤ length codes.now }
@@ -32,7 +32,7 @@ fn kept_len(codes: &[char], tags: &[Tag]) -> usize
     let mut left = tags;
     let mut kept: usize = 0;
     for (i, code) in codes.iter().enumerate() {
-        let (before, after) = left.split_at(upto_len(i, left));
+        let (before, after) = left.split_at(count_tags_before(i, left));
         if *code != '\n' {
             kept = i + 1;
         } else if !are_colours(before) {
@@ -43,7 +43,7 @@ fn kept_len(codes: &[char], tags: &[Tag]) -> usize
     if are_colours(left) { kept } else { codes.len() }
 }
 
-// Each tag has `by` fewer characters before it.
+// Lowers the index of each sign by `by`.
 fn lower(tags: &mut [Tag], by: usize)
     ensures { tags.new ≡ map (lowered_tag by) tags.old }
 {
@@ -53,7 +53,7 @@ fn lower(tags: &mut [Tag], by: usize)
     }
 }
 
-// Each tag has at most `at` characters before it.
+// Limits the index of each sign to `at`.
 fn cap(tags: &mut [Tag], at: usize)
     ensures { tags.new ≡ map (capped_tag at) tags.old }
 {
@@ -64,7 +64,7 @@ fn cap(tags: &mut [Tag], at: usize)
 }
 
 impl Runs {
-    /// Cuts the line feeds at the front; colours before and between them stay.
+    /// Removes the line feeds at the front. Colours before and between them stay.
     pub(crate) fn cut_front(&mut self)
         ensures { self.new ≡ cut_front self.old }
     {
@@ -75,7 +75,7 @@ impl Runs {
         }
     }
 
-    /// Cuts the line feeds at the end; colours after and between them stay.
+    /// Removes the line feeds at the end. Colours after and between them stay.
     pub(crate) fn cut_end(&mut self)
         ensures { self.new ≡ cut_end self.old }
     {

@@ -1,4 +1,4 @@
-//! What a report is appended to: a text, which prints it at once, or runs, which can be wrapped again.
+//! What a report is appended to: a text that is printed directly, or runs that can be wrapped again.
 
 ghost use Rattle.std.specs.Prelude.{◌≡◌, ◌++◌, ◌∷◌, ℕ, List, [], IfOk, OnOk, chars, encode_utf8_all};
 ghost use Rattle.std.specs.Prelude.{string_bytes};
@@ -6,31 +6,31 @@ ghost use Rattle.miette_runs.specs.rules.Runs.{link_start, printed_run};
 ghost use Rattle.miette_style.specs.rules.Codes.{colour_start, colour_stop};
 ghost use Rattle.miette_runs.specs.rules.Sequences.{spell};
 
-use crate::runs::reading::{print, read_text};
+use crate::runs::reading::{parse_text, print};
 use crate::runs::sign::Sign;
 use crate::runs::sink::Sink;
 use crate::runs::{Runs, push_run};
-use miette_page::canvas::Canvas;
+use miette_style::canvas::Canvas;
 use miette_style::style::Style;
 use std::alloc::{AllocError, Global};
 use std::marker::Model;
 use std::rc::Rc;
 
-/// What is appended to.
+/// Where the text goes.
 #[derive(Debug, Drop)]
-enum Target {
-    /// A text: signs are printed.
+enum OutputTarget {
+    /// A text. Signs are printed.
     Printed(String),
-    /// Runs: signs are kept apart.
+    /// Runs. Signs are stored separately.
     Collected(Runs),
 }
 
-/// The characters that a text or runs spell.
+/// Collects characters, signs and links, as a text or as runs.
 ///
-/// Where memory is wanting, what is held is open: it is to be dropped.
+/// After an allocation failure the content is unspecified; drop it.
 #[derive(Debug, Drop)]
 pub struct Output {
-    target: Target,
+    target: OutputTarget,
 }
 
 impl Model for Output {
@@ -43,7 +43,7 @@ impl Model for Output {
     ghost view = { λ o. target_text o.target };
 }
 
-// Appends what begins a link.
+// Appends the codes that begin a link.
 fn print_link(out: &mut String, url: &str) -> Result<(), AllocError>
     ensures { OnOk result (string_bytes out.new
         ≡ string_bytes out.old ++ encode_utf8_all (link_start (chars url.now))) }
@@ -54,48 +54,48 @@ fn print_link(out: &mut String, url: &str) -> Result<(), AllocError>
 }
 
 impl Output {
-    /// A text, in which what is appended is printed.
+    /// Creates an output that prints to a text.
     pub fn for_text(alloc: Global) -> Self
         ensures { result ≡ [] }
     {
         Output {
-            target: Target::Printed(String::new(alloc)),
+            target: OutputTarget::Printed(String::new(alloc)),
         }
     }
 
-    /// Runs, which can be wrapped.
+    /// Creates an output of runs, which can be wrapped.
     pub fn for_runs(alloc: Global) -> Self
         ensures { result ≡ [] }
     {
         Output {
-            target: Target::Collected(Runs::new(alloc)),
+            target: OutputTarget::Collected(Runs::new(alloc)),
         }
     }
 
     /// Appends a character.
     ///
     /// # Errors
-    /// `AllocError` where memory is refused.
+    /// `AllocError` if allocation fails.
     pub fn push(&mut self, c: char) -> Result<(), AllocError>
         ensures { OnOk result (self.new ≡ self.old ++ c ∷ []) }
     {
         match &mut self.target {
-            Target::Printed(text) => Canvas::push(text, c)?,
-            Target::Collected(runs) => runs.push(c)?,
+            OutputTarget::Printed(text) => Canvas::push(text, c)?,
+            OutputTarget::Collected(runs) => runs.push(c)?,
         }
         Ok(())
     }
 
-    /// Takes room for `many` copies of a character at once. What was appended stays.
+    /// Reserves room for `many` copies of a character. The content doesn't change.
     ///
     /// # Errors
-    /// `AllocError` where memory is refused, or the copies have more bytes than a `usize` counts.
+    /// `AllocError` if allocation fails, or if the copies have more than `usize::MAX` bytes.
     pub fn reserve(&mut self, c: char, many: usize) -> Result<(), AllocError>
         ensures { OnOk result (self.new ≡ self.old) }
     {
         match &mut self.target {
-            Target::Printed(text) => Canvas::reserve(text, c, many)?,
-            Target::Collected(runs) => runs.reserve(c, many)?,
+            OutputTarget::Printed(text) => Canvas::reserve(text, c, many)?,
+            OutputTarget::Collected(runs) => runs.reserve(c, many)?,
         }
         Ok(())
     }
@@ -103,13 +103,13 @@ impl Output {
     /// Appends characters.
     ///
     /// # Errors
-    /// `AllocError` where memory is refused.
+    /// `AllocError` if allocation fails.
     pub fn push_chars(&mut self, codes: &[char]) -> Result<(), AllocError>
         ensures { OnOk result (self.new ≡ self.old ++ codes.now) }
     {
         match &mut self.target {
-            Target::Printed(text) => text.push_chars(codes)?,
-            Target::Collected(runs) => runs.push_chars(codes)?,
+            OutputTarget::Printed(text) => text.push_chars(codes)?,
+            OutputTarget::Collected(runs) => runs.push_chars(codes)?,
         }
         Ok(())
     }
@@ -117,27 +117,27 @@ impl Output {
     /// Appends the characters of a text.
     ///
     /// # Errors
-    /// `AllocError` where memory is refused.
+    /// `AllocError` if allocation fails.
     pub fn push_str(&mut self, text: &str) -> Result<(), AllocError>
         ensures { OnOk result (self.new ≡ self.old ++ chars text.now) }
     {
         match &mut self.target {
-            Target::Printed(out) => Canvas::push_str(out, text)?,
-            Target::Collected(runs) => runs.push_str(text)?,
+            OutputTarget::Printed(out) => Canvas::push_str(out, text)?,
+            OutputTarget::Collected(runs) => runs.push_str(text)?,
         }
         Ok(())
     }
 
-    /// Begins a style, in which what is appended next is printed.
+    /// Begins a style. It applies to what is appended next.
     ///
     /// # Errors
-    /// `AllocError` where memory is refused.
+    /// `AllocError` if allocation fails.
     pub fn begin(&mut self, style: Style) -> Result<(), AllocError>
         ensures { OnOk result (self.new ≡ self.old ++ colour_start style) }
     {
         match &mut self.target {
-            Target::Printed(text) => text.begin(style)?,
-            Target::Collected(runs) => runs.begin(style)?,
+            OutputTarget::Printed(text) => text.begin(style)?,
+            OutputTarget::Collected(runs) => runs.begin(style)?,
         }
         Ok(())
     }
@@ -145,13 +145,13 @@ impl Output {
     /// Ends the style.
     ///
     /// # Errors
-    /// `AllocError` where memory is refused.
+    /// `AllocError` if allocation fails.
     pub fn end(&mut self) -> Result<(), AllocError>
         ensures { OnOk result (self.new ≡ self.old ++ colour_stop) }
     {
         match &mut self.target {
-            Target::Printed(text) => text.end()?,
-            Target::Collected(runs) => runs.end()?,
+            OutputTarget::Printed(text) => text.end()?,
+            OutputTarget::Collected(runs) => runs.end()?,
         }
         Ok(())
     }
@@ -159,13 +159,13 @@ impl Output {
     /// Appends a text in a style.
     ///
     /// # Errors
-    /// `AllocError` where memory is refused.
+    /// `AllocError` if allocation fails.
     pub fn push_run(&mut self, style: Style, text: &str) -> Result<(), AllocError>
         ensures { OnOk result (self.new ≡ self.old ++ printed_run style (chars text.now)) }
     {
         match &mut self.target {
-            Target::Printed(out) => push_run(out, style, text)?,
-            Target::Collected(runs) => runs.push_run(style, text)?,
+            OutputTarget::Printed(out) => push_run(out, style, text)?,
+            OutputTarget::Collected(runs) => runs.push_run(style, text)?,
         }
         Ok(())
     }
@@ -173,13 +173,13 @@ impl Output {
     /// Begins a link to a URL.
     ///
     /// # Errors
-    /// `AllocError` where memory is refused.
+    /// `AllocError` if allocation fails.
     pub fn push_link(&mut self, url: &str) -> Result<(), AllocError>
         ensures { OnOk result (self.new ≡ self.old ++ link_start (chars url.now)) }
     {
         match &mut self.target {
-            Target::Printed(text) => print_link(text, url)?,
-            Target::Collected(runs) => runs.push_link(url)?,
+            OutputTarget::Printed(text) => print_link(text, url)?,
+            OutputTarget::Collected(runs) => runs.push_link(url)?,
         }
         Ok(())
     }
@@ -187,38 +187,38 @@ impl Output {
     /// Ends the link.
     ///
     /// # Errors
-    /// `AllocError` where memory is refused.
+    /// `AllocError` if allocation fails.
     pub fn push_link_end(&mut self) -> Result<(), AllocError>
         ensures { OnOk result (self.new ≡ self.old ++ link_start []) }
     {
         self.push_link("")
     }
 
-    /// What was appended, as a text.
+    /// Returns the content as a text.
     ///
     /// # Errors
-    /// `AllocError` where memory is refused, which is asked for only by runs.
+    /// `AllocError` if allocation fails. Only runs are converted.
     pub fn into_text(self, alloc: Global) -> Result<String, AllocError>
         ensures { IfOk result (λ s. string_bytes s ≡ encode_utf8_all self) }
     {
         let Output { target } = self;
         match target {
-            Target::Printed(text) => Ok(text),
-            Target::Collected(runs) => print(alloc, &runs),
+            OutputTarget::Printed(text) => Ok(text),
+            OutputTarget::Collected(runs) => print(alloc, &runs),
         }
     }
 
-    /// What was appended, as runs.
+    /// Returns the content as runs.
     ///
     /// # Errors
-    /// `AllocError` where memory is refused, which is asked for only by a text.
+    /// `AllocError` if allocation fails. Only a text is converted.
     pub fn into_runs(self, alloc: Global) -> Result<Runs, AllocError>
         ensures { IfOk result (λ r. spell r ≡ self) }
     {
         let Output { target } = self;
         match target {
-            Target::Printed(text) => read_text(alloc, text.as_str()),
-            Target::Collected(runs) => Ok(runs),
+            OutputTarget::Printed(text) => parse_text(alloc, text.as_str()),
+            OutputTarget::Collected(runs) => Ok(runs),
         }
     }
 }
@@ -254,8 +254,8 @@ impl Canvas for Output {
 impl Sink for Output {
     fn push_sign(&mut self, sign: &Rc<Sign>) -> Result<(), AllocError> {
         match &mut self.target {
-            Target::Printed(text) => text.push_sign(sign)?,
-            Target::Collected(runs) => runs.push_sign(sign)?,
+            OutputTarget::Printed(text) => text.push_sign(sign)?,
+            OutputTarget::Collected(runs) => runs.push_sign(sign)?,
         }
         Ok(())
     }

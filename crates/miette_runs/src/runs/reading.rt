@@ -1,20 +1,20 @@
-//! Texts read into runs, and runs printed.
+//! Reads texts into runs, and prints runs.
 
 ghost use Rattle.std.specs.Prelude.{◌≡◌, IfOk, chars, encode_utf8_all, string_bytes, true};
-ghost use Rattle.miette_runs.specs.rules.Sequences.{are_settled, is_whole, spell, tokens};
+ghost use Rattle.miette_runs.specs.rules.Sequences.{are_canonical, is_whole, spell, tokens};
 ghost use Rattle.miette_style.specs.rules.Escapes.{no_escape};
 ghost use Rattle.miette_runs.specs.views.Interleaving.{sign_text, interleaving};
-ghost use Rattle.miette_runs.specs.rules.Cells.{columns_of};
+ghost use Rattle.miette_runs.specs.rules.Cells.{printed_columns};
 ghost use Rattle.miette_runs.specs.steps.WholeTags.{are_whole};
 
-use crate::runs::cells::push_all;
+use crate::runs::cells::push_runs_slice;
 use crate::runs::columns::token_columns;
 use crate::runs::sequences::{sequence_at, stays_open};
 use crate::runs::sign::{Sign, Tag};
 use crate::runs::{Runs, RunsSlice, is_whole};
 use std::alloc::{AllocError, Global};
 
-// A character for each byte.
+// Returns a character for each byte.
 fn byte_codes(alloc: Global, bytes: &[u8]) -> Result<Vec<char>, AllocError>
     ensures { IfOk result (λ v. v.items ≡ bytes.now) }
 {
@@ -25,7 +25,7 @@ fn byte_codes(alloc: Global, bytes: &[u8]) -> Result<Vec<char>, AllocError>
     Ok(codes)
 }
 
-// The characters of a text; those of ASCII are its bytes.
+// Returns the characters of a text. ASCII takes a fast path.
 fn codes_of(alloc: Global, text: &str) -> Result<Vec<char>, AllocError>
     ensures { IfOk result (λ v. v.items ≡ chars text.now) }
 {
@@ -46,7 +46,7 @@ fn has_no_escape(codes: &[char]) -> bool
     true
 }
 
-// Cuts a text into characters and sequences.
+// Splits a text into characters and escape sequences.
 fn cut(alloc: Global, codes: &[char]) -> Result<Runs, AllocError>
     ensures { IfOk result (λ r. r ≡ tokens codes.now) }
 {
@@ -67,10 +67,10 @@ fn cut(alloc: Global, codes: &[char]) -> Result<Runs, AllocError>
     Ok(found)
 }
 
-/// The runs that characters spell: each whole sequence in them is a sign.
+/// Reads characters into runs. Each complete escape sequence becomes a sign.
 ///
 /// # Errors
-/// `AllocError` where memory is refused. The characters are then dropped.
+/// `AllocError` if allocation fails. The characters are then dropped.
 pub fn read(alloc: Global, codes: Vec<char>) -> Result<Runs, AllocError>
     ensures tokens { IfOk result (λ r. r ≡ tokens codes.items) }
     ensures text { IfOk result (λ r. spell r ≡ codes.items) }
@@ -81,11 +81,11 @@ pub fn read(alloc: Global, codes: Vec<char>) -> Result<Runs, AllocError>
     cut(alloc, &codes)
 }
 
-/// The runs that a text spells.
+/// Reads a text into runs.
 ///
 /// # Errors
-/// `AllocError` where memory is refused.
-pub fn read_text(alloc: Global, text: &str) -> Result<Runs, AllocError>
+/// `AllocError` if allocation fails.
+pub fn parse_text(alloc: Global, text: &str) -> Result<Runs, AllocError>
     ensures tokens { IfOk result (λ r. r ≡ tokens (chars text.now)) }
     ensures text { IfOk result (λ r. spell r ≡ chars text.now) }
 {
@@ -93,7 +93,7 @@ pub fn read_text(alloc: Global, text: &str) -> Result<Runs, AllocError>
     read(alloc, codes)
 }
 
-// Whether a sign prints one whole sequence.
+// Whether a sign prints exactly one complete escape sequence.
 fn is_whole_sign(sign: &Sign) -> bool
     ensures { result ≡ is_whole (sign_text sign.now) }
 {
@@ -114,50 +114,50 @@ fn are_whole(tags: &[Tag]) -> bool
     true
 }
 
-/// Whether what runs print surely reads as these runs again.
-pub fn is_settled(runs: RunsSlice<'_>) -> bool
+/// Whether the printed runs certainly read as the same runs. False means unknown.
+pub fn is_canonical(runs: RunsSlice<'_>) -> bool
     ensures same { result ≡ true → tokens (spell (interleaving 0 runs.entry.codes.now runs.entry.tags.now))
         ≡ interleaving 0 runs.entry.codes.now runs.entry.tags.now }
-    ensures exact { result ≡ are_settled (interleaving 0 runs.entry.codes.now runs.entry.tags.now) }
+    ensures exact { result ≡ are_canonical (interleaving 0 runs.entry.codes.now runs.entry.tags.now) }
 {
     has_no_escape(runs.codes) && are_whole(runs.tags)
 }
 
-/// The runs that what runs print reads as.
+/// Returns the runs that the printed runs read as.
 ///
 /// # Errors
-/// `AllocError` where memory is refused.
-pub fn reread(alloc: Global, runs: &Runs) -> Result<Runs, AllocError>
+/// `AllocError` if allocation fails.
+pub fn reparse(alloc: Global, runs: &Runs) -> Result<Runs, AllocError>
     ensures { IfOk result (λ r. r ≡ tokens (spell runs.now)) }
 {
     let text = print(alloc, runs)?;
-    read_text(alloc, text.as_str())
+    parse_text(alloc, text.as_str())
 }
 
-/// What runs print.
+/// Prints runs to a text.
 ///
 /// # Errors
-/// `AllocError` where memory is refused.
+/// `AllocError` if allocation fails.
 pub fn print(alloc: Global, runs: &Runs) -> Result<String, AllocError>
     ensures { IfOk result (λ s. string_bytes s ≡ encode_utf8_all (spell runs.now)) }
 {
     let parts = runs.parts();
     let mut text = String::with_capacity(alloc, parts.codes.len())?;
-    push_all(&mut text, parts)?;
+    push_runs_slice(&mut text, parts)?;
     Ok(text)
 }
 
-/// How many columns runs have, as they are printed.
+/// Returns the width of printed runs in columns.
 ///
 /// # Errors
-/// `AllocError` where memory is refused, or they have more columns than a `usize` counts.
-pub fn columns_of(alloc: Global, runs: &Runs) -> Result<usize, AllocError>
-    ensures { IfOk result (λ n. n ≡ columns_of (tokens (spell runs.now))) }
+/// `AllocError` if allocation fails, or if the width exceeds `usize::MAX`.
+pub fn printed_columns(alloc: Global, runs: &Runs) -> Result<usize, AllocError>
+    ensures { IfOk result (λ n. n ≡ printed_columns (tokens (spell runs.now))) }
 {
     let parts = runs.parts();
-    if is_settled(parts) {
+    if is_canonical(parts) {
         return token_columns(parts);
     }
-    let again = reread(alloc, runs)?;
+    let again = reparse(alloc, runs)?;
     token_columns(again.parts())
 }

@@ -1,4 +1,4 @@
-//! Sequences for the terminal: how long they are.
+//! Lengths of escape sequences.
 
 ghost use Rattle.std.specs.Prelude.{◌≡◌, ◌≤◌, ◌<◌, ◌+◌, true, length, drop, IsTrue};
 ghost use Rattle.miette_runs.specs.rules.Sequences.{begins_command, begins_terminator, command_len, control_len};
@@ -10,7 +10,7 @@ const BELL: char = '\u{7}';
 
 const ESCAPE: char = '\u{1B}';
 
-// After `ESC [`: how many codes there are up to the last one of the sequence, 0 where it isn't finished.
+// Counts the codes after `ESC [` up to the last one of the sequence; 0 if it isn't complete.
 fn control_len(codes: &[char]) -> usize
     ensures value { result ≡ control_len codes.now }
     ensures within { result ≤ length codes.now }
@@ -33,7 +33,7 @@ fn begins_terminator(codes: &[char]) -> bool
     1 < codes.len() && codes[0] == ESCAPE && codes[1] == '\\'
 }
 
-// After `ESC ]`: how many codes there are up to BEL or `ESC \`, 0 where it isn't finished.
+// Counts the codes after `ESC ]` up to BEL or `ESC \`; 0 if it isn't complete.
 fn command_len(codes: &[char]) -> usize
     ensures value { result ≡ command_len codes.now }
     ensures within { result ≤ length codes.now }
@@ -52,7 +52,7 @@ fn command_len(codes: &[char]) -> usize
     0
 }
 
-// How many codes the sequence at the front has, 0 where there is none.
+// Returns the length of the escape sequence at the front, or 0.
 fn sequence_len(codes: &[char]) -> usize
     ensures value { result ≡ sequence_len codes.now }
     ensures within { result ≤ length codes.now }
@@ -71,8 +71,8 @@ fn sequence_len(codes: &[char]) -> usize
     if rest == 0 { 0 } else { rest + 2 }
 }
 
-/// How many codes the sequence at an index has, 0 where there is none; it may be known that a command is not
-/// finished on this line.
+/// Returns the length of the escape sequence at an index, or 0. `unfinished` says that a command is known not to end on
+/// this line.
 #[inline]
 pub(crate) fn sequence_at(codes: &[char], i: usize, unfinished: bool) -> usize
     requires inside { i < length codes.now }
@@ -98,7 +98,7 @@ fn begins_command(codes: &[char]) -> bool
     }
 }
 
-/// Whether it is known after a character that a command is not finished on this line.
+/// Whether, after a character, a command is known not to end on this line.
 #[inline]
 pub(crate) fn stays_open(codes: &[char], i: usize, unfinished: bool) -> bool
     requires inside { i < length codes.now }

@@ -1,4 +1,4 @@
-//! What stands between characters.
+//! Signs: style changes and escape sequences between characters.
 
 ghost use Rattle.std.specs.Prelude.{◌≡◌, IfOk, true};
 ghost use Rattle.miette_runs.specs.views.Interleaving.{sign_text};
@@ -8,30 +8,30 @@ use miette_style::style::Style;
 use std::alloc::{AllocError, Global};
 use std::rc::Rc;
 
-// How many tags are looked at for a sign that prints the same.
+// How many of the last signs are compared with a new one.
 const RECENT: usize = 16;
 
-/// Where a style begins or ends, or another whole sequence for the terminal. A sign has no columns.
+/// The start or end of a style, or another complete escape sequence. A sign has no columns.
 #[derive(Debug, Drop)]
 pub enum Sign {
     /// A style begins.
     Begin(Style),
     /// The style ends.
     End,
-    /// A link's beginning or end, or what a text brought along.
+    /// The start or end of a link, or a sequence of the text.
     Sequence(Vec<char>),
 }
 
-/// A sign, which other tags may share, and how many characters are before it.
+/// A sign, which other tags may share, and its position.
 #[derive(Debug, Drop)]
 pub struct Tag {
-    /// How many characters are before it.
+    /// How many characters precede it.
     pub at: usize,
     /// The sign.
     pub sign: Rc<Sign>,
 }
 
-// Whether two signs surely print the same.
+// Whether two signs certainly print the same.
 fn are_alike(one: &Sign, other: &Sign) -> bool
     ensures { result ≡ true → sign_text one.now ≡ sign_text other.now }
 {
@@ -44,7 +44,7 @@ fn are_alike(one: &Sign, other: &Sign) -> bool
     }
 }
 
-/// A sign to be shared: that of one of the last tags, where it prints the same.
+/// Returns a shared sign: that of one of the last tags if it prints the same, else a new one.
 pub(crate) fn shared_sign(alloc: Global, tags: &[Tag], sign: Sign) -> Result<Rc<Sign>, AllocError>
     ensures { IfOk result (λ s. sign_text s.value ≡ sign_text sign) }
 {

@@ -1,19 +1,19 @@
-//! What runs are appended to: canvases that take signs.
+//! Canvases that accept signs.
 
 ghost use Rattle.std.specs.Prelude.{◌≡◌, ◌++◌, OnOk};
 ghost use Rattle.miette_runs.specs.views.Interleaving.{sign_text};
 
 use crate::runs::sign::Sign;
-use miette_page::canvas::Canvas;
+use miette_style::canvas::Canvas;
 use std::alloc::AllocError;
 use std::rc::Rc;
 
-/// A canvas that signs are appended to.
+/// A canvas that signs can be appended to.
 pub trait Sink: Canvas {
-    /// Appends a sign; after an error a beginning of it.
+    /// Appends a sign. After an error a beginning of it may be appended.
     ///
     /// # Errors
-    /// `AllocError` where memory is refused.
+    /// `AllocError` if allocation fails.
     fn push_sign(&mut self, sign: &Rc<Sign>) -> Result<(), AllocError>
         ensures { OnOk result (Self.written self.new ≡ Self.written self.old ++ sign_text sign.now.value) };
 }

@@ -1,4 +1,4 @@
-//! Tags in order: which stand before a character, and whether they are colours.
+//! Tags in order: which precede a character, and which are colours.
 
 ghost use Rattle.std.specs.Prelude.{◌≡◌, ◌≤◌, drop, length, take};
 ghost use Rattle.miette_runs.specs.steps.Feeds.{are_colours};
@@ -8,8 +8,8 @@ ghost use Rattle.miette_runs.specs.views.Interleaving.{beyond, sign_text, upto};
 
 use crate::runs::sign::{Sign, Tag};
 
-/// How many tags at the front stand before the character at a place.
-pub fn upto_len(at: usize, tags: &[Tag]) -> usize
+/// Counts the tags before the character at an index.
+pub fn count_tags_before(at: usize, tags: &[Tag]) -> usize
     ensures before { take result tags.now ≡ upto at tags.now }
     ensures behind { drop result tags.now ≡ beyond at tags.now }
     ensures within { result ≤ length tags.now }
@@ -28,7 +28,7 @@ fn is_parameter(c: char) -> bool
     ('0' <= c && c <= '9') || c == ';'
 }
 
-// Digits and `;`, and then one `m`.
+// Whether codes are digits and `;`, and then one `m`.
 fn is_colour_end(codes: &[char]) -> bool
     ensures { result ≡ is_colour_end codes.now }
 {
@@ -54,7 +54,7 @@ fn is_colour(codes: &[char]) -> bool
     }
 }
 
-// Whether a sign is a colour: what begins or ends a style always is.
+// Whether a sign is a colour. The start and end of a style always are.
 fn is_colour_sign(sign: &Sign) -> bool
     ensures { result ≡ is_colour (sign_text sign.now) }
 {
@@ -64,7 +64,7 @@ fn is_colour_sign(sign: &Sign) -> bool
     }
 }
 
-/// Whether all of the tags are colours.
+/// Whether all tags are colours.
 pub(crate) fn are_colours(tags: &[Tag]) -> bool
     ensures { result ≡ are_colours tags.now }
 {

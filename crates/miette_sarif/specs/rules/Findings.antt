@@ -1,46 +1,46 @@
--- What a log tells of a report, before sources and rules have their numbers.
+-- The findings of a log: all that results and rules need from a report.
 use Rattle.std.specs.Prelude.{ℕ, List, Option}
 use Rattle.miette_fixes.specs.declared.applicability.Applicability.{Applicability}
-use Rattle.miette_positions.specs.declared.place.Stretch.{Stretch}
+use Rattle.miette_positions.specs.declared.position.Stretch.{Stretch}
 
--- which source: its name, empty where it has none, and how many sources were read before it
+-- identifies a source: its name (empty if it has none), and the number of sources read before it
 pub record SourceName : Type 0 where
   pub name : List ℕ
   pub number : ℕ
 
--- a source as it was read, without a text where it could not be
-pub record SeenSource : Type 0 where
+-- a source that was read; it has no text if the read failed
+pub record SnapshotValue : Type 0 where
   pub source : SourceName
   pub text : Option (List ℕ)
 
--- a part of a source, and its text where that is shown
-pub record Area : Type 0 where
+-- a region of a source, and its text if the log shows it
+pub record SarifRegion : Type 0 where
   pub stretch : Stretch
   pub snippet : Option (List ℕ)
 
--- a place in a source, without an area where the label is refused
-pub record Place : Type 0 where
+-- a location in a source; it has no region if the label is refused
+pub record PhysicalLocation : Type 0 where
   pub source : SourceName
-  pub area : Option Area
+  pub area : Option SarifRegion
 
--- a place with a text, which is empty where there is none
-pub record Mark : Type 0 where
-  pub place : Option Place
+-- a location with a message, which is empty if there is none
+pub record SarifLocation : Type 0 where
+  pub place : Option PhysicalLocation
   pub text : List ℕ
 
--- what takes the place of a part of a source
-pub record Replaced : Type 0 where
+-- text that replaces a region of a source
+pub record ReplacementValue : Type 0 where
   pub deleted : Stretch
   pub text : List ℕ
 
 -- a fix that can be applied
-pub record Proposed : Type 0 where
+pub record ApplicableFix : Type 0 where
   pub message : List ℕ
   pub applicability : Applicability
   pub source : SourceName
-  pub replacements : List Replaced
+  pub replacements : List ReplacementValue
 
--- what a log tells of a report; of its fixes that can't be applied, the messages
+-- what the log has for one report; `unapplied` has the messages of fixes that can't be applied
 pub record Finding : Type 0 where
   pub code : List ℕ
   pub level : List ℕ
@@ -48,7 +48,7 @@ pub record Finding : Type 0 where
   pub causes : List (List ℕ)
   pub help : Option (List ℕ)
   pub url : Option (List ℕ)
-  pub primary : Option Mark
-  pub marks : List Mark
-  pub fixes : List Proposed
+  pub primary : Option SarifLocation
+  pub locations : List SarifLocation
+  pub fixes : List ApplicableFix
   pub unapplied : List (List ℕ)

@@ -1,14 +1,14 @@
--- The value of a log (SARIF 2.1.0): one run of a tool, by what is found of its reports.
+-- The value of a log (SARIF 2.1.0): one run of a tool with the findings of its reports.
 use Rattle.std.specs.Prelude.{ℕ, List, [], ◌∷◌, ◌++◌, codes, Option, option_map}
 use Rattle.miette_json.specs.rules.Json.{Json, string}
 use Rattle.miette_sarif.specs.rules.Artifacts.{Artifacts, all_named, artifacts_in, artifact_values}
 use Rattle.miette_sarif.specs.rules.Codes.{Rules, rules_in, rule_values}
 use Rattle.miette_sarif.specs.rules.Findings.{Finding}
-use Rattle.miette_sarif.specs.rules.Objects.{Pairs, object_of, array_of, pair, listed, maybe_text}
+use Rattle.miette_sarif.specs.rules.Objects.{Pairs, object_of, array_of, pair, listed, optional_text_pairs}
 use Rattle.miette_sarif.specs.rules.Results.{results}
 use Rattle.miette_sarif.specs.rules.Uris.{address_uri}
 
--- what is said of the tool
+-- name, version and address of the tool
 pub record ToolName : Type 0 where
   pub name : List ℕ
   pub version : Option (List ℕ)
@@ -16,15 +16,15 @@ pub record ToolName : Type 0 where
 
 abbrev pub tool_of : ToolName → Rules → Json
 tool_of t r = object_of (pair (codes "driver") (object_of (pair (codes "name") (string t.name)
-    ++ (maybe_text (codes "version") t.version
-    ++ (maybe_text (codes "informationUri") (option_map address_uri t.information)
+    ++ (optional_text_pairs (codes "version") t.version
+    ++ (optional_text_pairs (codes "informationUri") (option_map address_uri t.information)
     ++ listed (codes "rules") (rule_values r))))))
 
--- CR LF, LF and CR: the standard's default has no CR
+-- the line terminators CR LF, LF and CR; SARIF's default has no CR
 abbrev pub newlines : Json
 newlines = array_of (string (13 ∷ 10 ∷ []) ∷ string (10 ∷ []) ∷ string (13 ∷ []) ∷ [])
 
--- the tool, and how places are counted
+-- the tool, and the unit of columns and lines
 abbrev pub run_head : ToolName → Rules → Pairs
 run_head t r = pair (codes "tool") (tool_of t r)
     ++ (pair (codes "columnKind") (string (codes "utf16CodeUnits")) ++ pair (codes "newlineSequences") newlines)

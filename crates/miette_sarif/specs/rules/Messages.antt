@@ -1,8 +1,8 @@
--- Messages: rows of text, with their braces doubled.
+-- Messages, with braces doubled.
 use Rattle.std.specs.Prelude.{ℕ, List, [], ◌∷◌, ◌++◌, Bool, ◌||◌, ◌==◌, if◌then◌else◌}
 use Rattle.std.specs.Prelude.{Option, Some, None}
 
--- `{` and `}`, which alone begin and end what stands for an argument of a message
+-- `{` and `}`, which enclose placeholders
 abbrev pub is_brace : ℕ → Bool
 is_brace x = (x == 123) || (x == 125)
 
@@ -14,7 +14,7 @@ abbrev pub doubled : List ℕ → List ℕ
 doubled [] = []
 doubled (x ∷ xs) = double_byte x ++ doubled xs
 
--- a row below others: what names it, and its text
+-- a line: LF, a title, and a text with its braces doubled
 abbrev pub row : List ℕ → List ℕ → List ℕ
 row title text = 10 ∷ (title ++ doubled text)
 

@@ -1,4 +1,4 @@
--- Objects and lists of a log.
+-- Objects and lists as JSON values.
 use Rattle.std.specs.Prelude.{ℕ, List, [], ◌∷◌, codes, Option, Some, None}
 use Rattle.miette_json.specs.rules.Json.{Json, string, array, object, Items, no_items, item, Members, no_members}
 use Rattle.miette_json.specs.rules.Json.{member}
@@ -24,15 +24,15 @@ array_of vs = array (items_of vs)
 abbrev pub pair : List ℕ → Json → Pairs
 pair key value = (key, value) ∷ []
 
--- a member with a list, where it has an item
+-- a list member, unless the list is empty
 abbrev pub listed : List ℕ → List Json → Pairs
 listed key [] = []
 listed key (v ∷ vs) = pair key (array_of (v ∷ vs))
 
--- a member with a text, where there is one
-abbrev pub maybe_text : List ℕ → Option (List ℕ) → Pairs
-maybe_text key None = []
-maybe_text key (Some text) = pair key (string text)
+-- a string member, if there is a text
+abbrev pub optional_text_pairs : List ℕ → Option (List ℕ) → Pairs
+optional_text_pairs key None = []
+optional_text_pairs key (Some text) = pair key (string text)
 
 -- `{"text": "some"}`
 abbrev pub message_of : List ℕ → Json

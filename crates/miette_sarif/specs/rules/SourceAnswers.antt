@@ -1,14 +1,14 @@
--- What the reads of sources answered: each source of a report is read once, as a whole.
+-- The answers of sources. Each source of a report is read once, as a whole.
 use Rattle.std.specs.Prelude.{Bool, false, List, [], ◌∷◌, Option, ⊤}
 use Rattle.miette_json.specs.rules.JsonReport.{AreFurther}
 use Rattle.miette_protocol.specs.rules.Reading.{Source}
-use Rattle.miette_tree.specs.rules.Answers.{AnswerTree, AnswerTrees, own_or, related_answers, first_answers}
+use Rattle.miette_tree.specs.rules.Answers.{AnswerTree, AnswerTrees, answer_or, related_answers, first_answers}
 use Rattle.miette_tree.specs.rules.Answers.{later_answers}
 use Rattle.miette_tree.specs.rules.Diagnosis.{Section}
 use Rattle.miette_tree.specs.rules.Reads.{MayMeet}
 use Rattle.miette_tree.specs.rules.Tree.{Tree, tree, Cause, diagnostic, texts, Trees, no_trees, more_trees}
 
--- Did the read of a source meet a fault? the own one of a report, and each further one
+-- whether the read failed: of the report's own source, and of each further one
 pub record Faults : Type 0 where
   pub own : Bool
   pub further : List Bool
@@ -16,15 +16,15 @@ pub record Faults : Type 0 where
 abbrev pub no_faults : Faults
 no_faults = record { own = false; further = [] }
 
--- of a report's sources, and of those of each report that is its cause, the nearest first
+-- the failures for a report, and for each of its causes, the nearest first
 pub record SourceFaults : Type 0 where
   pub report : Faults
   pub causes : List Faults
 
-abbrev pub none_met : SourceFaults
-none_met = record { report = no_faults; causes = [] }
+abbrev pub no_source_faults : SourceFaults
+no_source_faults = record { report = no_faults; causes = [] }
 
--- of a report, and of those that are related to it; what isn't listed met no fault
+-- the failures for a report and its related reports; a read that isn't listed succeeded
 abbrev pub SourceAnswers : Type 0
 SourceAnswers = AnswerTree SourceFaults
 
@@ -39,19 +39,19 @@ abbrev pub later_causes : List Faults → List Faults
 later_causes [] = []
 later_causes (faults ∷ more) = more
 
--- the faults that the sources of a report can have met
-abbrev pub ArePossible : Faults → Option Source → List Section → Type 0
-ArePossible faults own sections = MayMeet own faults.own × AreFurther faults.further sections
+-- the failures that the sources of a report can have
+abbrev pub ArePossibleFaults : Faults → Option Source → List Section → Type 0
+ArePossibleFaults faults own sections = MayMeet own faults.own × AreFurther faults.further sections
 
 abbrev pub AreOfCauses : List Faults → Cause → Type 0
 AreOfCauses faults (texts ts) = ⊤
 AreOfCauses faults (diagnostic (tree m s c r)) =
-    ArePossible (first_faults faults) s m.snippets × AreOfCauses (later_causes faults) c
+    ArePossibleFaults (first_faults faults) s m.snippets × AreOfCauses (later_causes faults) c
 
 abbrev mutual
   pub AreAnswers : SourceAnswers → Tree → Type 0
-  AreAnswers a (tree m s c r) = ArePossible (own_or none_met a).report s m.snippets
-      × AreOfCauses (own_or none_met a).causes c × AllAnswers (related_answers a) r
+  AreAnswers a (tree m s c r) = ArePossibleFaults (answer_or no_source_faults a).report s m.snippets
+      × AreOfCauses (answer_or no_source_faults a).causes c × AllAnswers (related_answers a) r
 
   pub AllAnswers : RelatedSourceAnswers → Trees → Type 0
   AllAnswers a no_trees = ⊤

@@ -1,4 +1,4 @@
--- What a handler says of the tool, in the terms of the rules.
+-- The tool of a handler, as the rules represent it.
 use Rattle.std.specs.Prelude.{string_bytes}
 use Rattle.std.specs.Option.{option_map}
 use Rattle.miette_sarif.specs.declared.handler.SarifReportHandler.{SarifReportHandler}

@@ -1,4 +1,4 @@
--- The rules of the code, in the terms of the rules.
+-- The rules of a log in the code, as the definitions represent them.
 use Rattle.std.specs.Prelude.{ℕ, List, map, string_bytes, Option}
 use Rattle.std.specs.Option.{option_map}
 use Rattle.std.specs.Str.{bytes_eq}
@@ -15,7 +15,7 @@ codes_seen ks = map (λ k. k.now) ks
 abbrev pub option_text : Option (String Global) → Option (List ℕ)
 option_text it = option_map string_bytes it
 
--- the text at a code
+-- the address of a code
 abbrev pub uri_at : {S : Type 0} → IndexMap (Bor (List ℕ)) (String Global) S → List ℕ → Option (List ℕ)
 uri_at m code = option_text (get_by (λ k. bytes_eq code k.now) m)
 

@@ -1,4 +1,4 @@
--- What is said of the tool, in the terms of the rules.
+-- The tool of the code, as the rules represent it.
 use Rattle.std.specs.Option.{option_copied}
 use Rattle.miette_sarif.specs.declared.log.Tool.{Tool}
 use Rattle.miette_sarif.specs.rules.Log.{ToolName}

@@ -1,4 +1,4 @@
--- The JSON value that a made one stands for.
+-- The JSON value of a built value.
 use Rattle.std.specs.Prelude.{Bool, true, false, ℕ, List, [], ◌∷◌, map, string_bytes}
 use denote.Ref.{Bor}
 use Rattle.miette_json.specs.rules.Json.{Json, number, string, array, object, Items, Members}
@@ -12,7 +12,7 @@ abbrev pub members_of : List (Bor (List ℕ) × Json) → Members
 members_of [] = no_members
 members_of (m ∷ ms) = member m.0.now m.1 (members_of ms)
 
--- one level, with each value inside already seen as JSON
+-- one level of a value, whose parts are already converted
 abbrev pub json_step : Value-F Json → Json
 json_step (Value-F.Number n) = number n
 json_step (Value-F.Text s) = string (string_bytes s)
@@ -34,7 +34,7 @@ values_of vs = map json_of vs
 abbrev pub pairs_of : List (Bor (List ℕ) × Value) → Pairs
 pairs_of ms = map (λ m. (m.0.now, json_of m.1)) ms
 
--- the rest of a list and its end, from its first item on or from a later one on
+-- the rest of a list and its end; the flag says whether the list is still empty
 abbrev pub rest_items : Bool → Items → List ℕ
 rest_items true is = items_text is
 rest_items false is = more_items_text is

@@ -1,4 +1,4 @@
--- How snippets are laid out where nothing is set.
+-- The default layout.
 use Rattle.std.specs.Prelude.{true, false, None}
 use Rattle.miette_snippet_rules.specs.declared.options.LayoutOptions.{LayoutOptions}
 

@@ -1,21 +1,21 @@
--- The row of a refused label, and what frames a snippet's lines.
+-- The frame of a snippet, and the row of a label out of bounds.
 use Rattle.std.specs.Prelude.{ℕ, ◌+◌, ◌-◌, List, [], ◌∷◌, ◌++◌, length, decimal, codes, chars, replicate, Option, Some}
 use Rattle.std.specs.Prelude.{None, Bool, ◌&&◌, ◌||◌, if◌then◌else◌, nat_lt}
-use Rattle.miette_page.specs.rules.Rows.{Row, styled_run, plain_run}
-use Rattle.miette_source_lines.specs.rules.Lines.{Line}
+use Rattle.miette_style.specs.rules.Rows.{Row, styled_run, plain_run}
+use Rattle.miette_lines.specs.rules.Lines.{Line}
 use Rattle.miette_protocol.specs.views.Meaning.{Label}
 use Rattle.miette_protocol.specs.rules.Reading.{Contents}
-use Rattle.miette_label_rules.specs.rules.Contexts.{lines_of_contents}
-use Rattle.miette_snippet_rules.specs.rules.Drawing.{blank}
-use Rattle.miette_label_rules.specs.rules.Groups.{Refusal}
-use Rattle.miette_snippet_rules.specs.rules.Settings.{SnippetSettings}
+use Rattle.miette_labels.specs.rules.Contexts.{lines_of_contents}
+use Rattle.miette_snippet_rules.specs.rules.LabelRows.{blank}
+use Rattle.miette_labels.specs.rules.Groups.{Refusal}
+use Rattle.miette_snippet_rules.specs.rules.SnippetSettings.{SnippetSettings}
 
--- the text of a label, whose bytes are given
+-- the text of a label, from its bytes
 abbrev pub text_or_none : Option (List ℕ) → List ℕ
 text_or_none None = codes "<none>"
 text_or_none (Some text) = chars text
 
--- the row of a refused label up to its offset
+-- the row of a label out of bounds, up to its offset
 abbrev pub refused_front : SnippetSettings → Label → Row
 refused_front s label =
     plain_run s.width (codes "  [") ∷ styled_run s.width s.theme.styles.error
@@ -30,7 +30,7 @@ refused_row s refused = refused_front s refused.label
     ∷ plain_run s.width (codes "): ") ∷ styled_run s.width s.theme.styles.warning refused.name
     ∷ plain_run s.width (codes "]") ∷ [])
 
--- the digits of the last line's number, 1 where there is no line
+-- the number of digits of the last line's number, 1 without lines
 abbrev pub width_of_lines : ℕ → List Line → ℕ
 width_of_lines line [] = 1
 width_of_lines line (l ∷ ls) = length (decimal (line + length (l ∷ ls)))
@@ -38,7 +38,7 @@ width_of_lines line (l ∷ ls) = length (decimal (line + length (l ∷ ls)))
 abbrev pub number_width : Contents → ℕ
 number_width read = width_of_lines read.line (lines_of_contents read)
 
--- what stands before the gutter of a number row, and of any other row
+-- what comes before the gutter of a number row, and of any other row
 abbrev pub number_start : SnippetSettings → ℕ → ℕ → Row
 number_start s w number =
     blank s 1 ∷ styled_run s.width s.theme.styles.linum (replicate (w - length (decimal number)) 32 ++ decimal number)
@@ -47,11 +47,11 @@ number_start s w number =
 abbrev pub other_start : SnippetSettings → ℕ → Row
 other_start s w = blank s (w + 2) ∷ plain_run s.width (s.theme.characters.vbar_break ∷ 32 ∷ []) ∷ []
 
--- what stands before the gutter of a break's row: three dots up to where line numbers end
+-- what comes before the gutter of a break row: three dots, up to the end of the line numbers
 abbrev pub break_start : SnippetSettings → ℕ → Row
 break_start s w = blank s (w - 1) ∷ plain_run s.width (codes "..." ++ s.theme.characters.vbar ∷ []) ∷ []
 
--- where a label begins: its line and its column, both counted from 0
+-- where a label begins: its zero-based line and column
 pub record Place : Type 0 where
   pub line : ℕ
   pub column : ℕ
@@ -59,8 +59,8 @@ pub record Place : Type 0 where
 abbrev pub place_text : Place → List ℕ
 place_text place = decimal (place.line + 1) ++ codes ":" ++ decimal (place.column + 1)
 
--- where a snippet points to: with a name, whose bytes are given, else where it has several lines or that is asked for
--- of one line too
+-- The position that a frame shows: always for a named source, else if the snippet has several lines or the settings ask
+-- for it.
 abbrev pub location : SnippetSettings → Option (List ℕ) → Bool → Place → Row
 location s (Some name) several place =
     plain_run s.width (codes "[") ∷ styled_run s.width s.theme.styles.link
@@ -75,16 +75,16 @@ abbrev pub location_of : SnippetSettings → Option (List ℕ) → Bool → Opti
 location_of s name several None = []
 location_of s name several (Some place) = location s name several place
 
--- the row over a snippet's lines, with line numbers of `w` digits, and whether it has several lines
+-- the top row of a frame, with line numbers of `w` digits; the flag says whether there are several lines
 abbrev pub top_row_of : SnippetSettings → ℕ → Option (List ℕ) → Bool → Option Place → Row
 top_row_of s w name several place = blank s (w + 2)
     ∷ plain_run s.width (s.theme.characters.ltop ∷ s.theme.characters.hbar ∷ []) ∷ location_of s name several place
 
--- that row, from the snippet's read
+-- the top row, from the snippet's read
 abbrev pub top_row : SnippetSettings → Contents → Option Place → Row
 top_row s read place = top_row_of s (number_width read) read.name (nat_lt 1 (length (lines_of_contents read))) place
 
--- the row under them
+-- the bottom row of a frame
 abbrev pub bottom_row : SnippetSettings → ℕ → Row
 bottom_row s w = blank s (w + 2) ∷ plain_run s.width (s.theme.characters.lbot ∷ replicate 4 s.theme.characters.hbar)
     ∷ []

@@ -1,11 +1,11 @@
--- How the characters of a line's text print, and at which columns.
+-- How the characters of a line are printed, and at which columns.
 use Rattle.std.specs.Prelude.{ℕ, ◌+◌, ◌-◌, List, [], ◌∷◌, ◌++◌, replicate, if◌then◌else◌, ◌==◌, nat_lt, nat_le}
-use Rattle.miette_page.specs.rules.Rows.{Glyph, Run}
+use Rattle.miette_style.specs.rules.Rows.{Glyph, Run}
 use Rattle.miette_style.specs.rules.Styles.{plain}
-use Rattle.miette_label_rules.specs.rules.Answers.{Highlight}
-use Rattle.miette_cells.specs.rules.Cells.{Cell}
+use Rattle.miette_labels.specs.rules.Answers.{Highlight}
+use Rattle.miette_columns.specs.rules.Cells.{Cell}
 
--- the column of an offset, rounded down to a character's start; at the text's end its width, after it one more
+-- the column of an offset, rounded down to the start of a character; at the text's end its width, after it one more
 abbrev pub first_column : List Cell → ℕ → ℕ → ℕ → ℕ
 first_column [] text_end text_width offset = if nat_le offset text_end then text_width else text_width + 1
 first_column (cell ∷ cells) text_end text_width offset =
@@ -17,7 +17,7 @@ last_column [] text_end text_width offset = if nat_le offset text_end then text_
 last_column (cell ∷ cells) text_end text_width offset =
     if nat_le offset cell.start then cell.from else last_column cells text_end text_width offset
 
--- how a cell prints: a tab as spaces
+-- how a cell is printed: a tab becomes spaces
 abbrev pub printed_glyphs : Cell → List Glyph
 printed_glyphs cell =
     if cell.code == 9 then replicate (cell.until - cell.from) (record { code = 32; columns = 1 })
@@ -27,16 +27,16 @@ abbrev pub printed_cells : List Cell → List Glyph
 printed_cells [] = []
 printed_cells (cell ∷ cells) = printed_glyphs cell ++ printed_cells cells
 
--- the columns of a line
+-- the width of a line in columns
 abbrev pub cells_width : ℕ → List Cell → ℕ
 cells_width column [] = column
 cells_width column (cell ∷ cells) = cells_width cell.until cells
 
--- how many bytes a character has in a text
+-- the number of bytes of a character
 abbrev pub text_bytes : ℕ → ℕ
 text_bytes code = if nat_lt code 0x80 then 1 else if nat_lt code 0x800 then 2 else if nat_lt code 0x10000 then 3 else 4
 
--- the cells whose characters fill `bytes` bytes, and those after them
+-- the cells that take up `bytes` bytes, and those after them
 abbrev pub cells_within : ℕ → List Cell → List Cell
 cells_within bytes [] = []
 cells_within bytes (cell ∷ cells) = if bytes == 0 then [] else cell ∷ cells_within (bytes - text_bytes cell.code) cells
@@ -46,7 +46,7 @@ cells_beyond bytes [] = []
 cells_beyond bytes (cell ∷ cells) = if bytes == 0 then cell ∷ cells
     else cells_beyond (bytes - text_bytes cell.code) cells
 
--- a line in a highlighter's pieces, each a count of bytes and a style; what they leave is plain
+-- a line in a highlighter's pieces, each a length in bytes and a style; text after the last piece is plain
 abbrev pub line_runs : List Highlight → List Cell → List Run
 line_runs [] cells = record { style = plain; glyphs = printed_cells cells } ∷ []
 line_runs (h ∷ hs) cells = record { style = h.style; glyphs = printed_cells (cells_within h.bytes cells) }

@@ -1,4 +1,4 @@
--- What a graphical report is drawn with, and the tables of characters and styles that it can be drawn with.
+-- Themes: the characters and styles of a graphical report.
 use Rattle.std.specs.Prelude.{ℕ, Bool, List, [], ◌∷◌, Option, Some, None, true, false, ◌&&◌, if◌then◌else◌, not, chars}
 use Rattle.std.specs.Prelude.{codes, string_bytes}
 use Rattle.std.specs.Option.{option_map}
@@ -11,7 +11,7 @@ use Rattle.miette_style.specs.declared.theme.Terminal.{Terminal}
 use Rattle.miette_style.specs.declared.theme.ThemeCharacters.{ThemeCharacters}
 use Rattle.miette_style.specs.declared.theme.ThemeStyles.{ThemeStyles}
 
--- The characters of a drawing, by their codes. An icon is the list of its characters.
+-- The characters of a graphical report, as codes. An icon is a list of codes.
 pub record Characters : Type 0 where
   pub hbar : ℕ
   pub vbar : ℕ
@@ -35,7 +35,7 @@ pub record Characters : Type 0 where
   pub warning : List ℕ
   pub advice : List ℕ
 
--- The styles of a report. In order of offset, the labels take the highlights in turn.
+-- The styles of a report. Labels, sorted by offset, take the highlights in turn.
 pub record Styles : Type 0 where
   pub error : Style
   pub warning : Style
@@ -113,7 +113,7 @@ unicode_characters = record {
   advice = 0x261E ∷ [];  -- ☞
 }
 
--- Unicode's lines and arrows, with pictures as icons
+-- Unicode lines and arrows, with emoji as icons
 abbrev pub emoji_characters : Characters
 emoji_characters = record unicode_characters {
   error = 0x1F4A5 ∷ [];  -- an explosion
@@ -161,7 +161,7 @@ ansi_styles = record {
       ∷ [];
 }
 
--- colours of which a terminal has 16 million
+-- RGB colours
 abbrev pub rgb_styles : Styles
 rgb_styles = record {
   error = coloured_style (Rgb 255 30 30);
@@ -185,12 +185,12 @@ no_styles = record {
   highlights = plain ∷ [];
 }
 
--- there is a text, and it isn't `0`
+-- the variable is set, and not to `0`
 abbrev pub refuses_colours : Option (List ℕ) → Bool
 refuses_colours None = false
 refuses_colours (Some text) = not (bytes_eq text (codes "0"))
 
--- ASCII alone where the text may go elsewhere than to a terminal, no colours there and where they are refused
+-- ASCII if the text may go somewhere else than to a terminal; no colours there, or if they are turned off
 abbrev pub terminal_theme : Terminal → Theme
 terminal_theme t =
     if t.stdout_terminal && t.stderr_terminal then

@@ -1,5 +1,5 @@
--- Answers in the form of a tree of reports: of the report, of its cause, and of each report that is related to it.
--- What one answer is, each handler says, and what it is where nothing is listed.
+-- One value for each report of a tree: for the report itself, its cause and its related reports. Each handler says what
+-- the value is, and what it is for a report that isn't listed.
 use Rattle.std.specs.Prelude.{Bool, false}
 
 mutual
@@ -7,19 +7,19 @@ mutual
     unlisted : AnswerTree A
     listed : A → AnswerTree A → AnswerTrees A → AnswerTree A
 
-  -- of related reports, one after the other
+  -- the values of related reports, in order
   pub data AnswerTrees (A : Type 0) : Type 0 where
     no_more : AnswerTrees A
     and_more : AnswerTree A → AnswerTrees A → AnswerTrees A
 
--- of the report itself; the first argument where nothing is listed
-abbrev pub own_or : {A : Type 0} → A → AnswerTree A → A
-own_or otherwise unlisted = otherwise
-own_or otherwise (listed own cause related) = own
+-- the value of the report itself, or the first argument if nothing is listed
+abbrev pub answer_or : {A : Type 0} → A → AnswerTree A → A
+answer_or otherwise unlisted = otherwise
+answer_or otherwise (listed own cause related) = own
 
--- did the read of the report itself meet a fault? none where nothing is listed
-abbrev pub own_fault : AnswerTree Bool → Bool
-own_fault a = own_or false a
+-- whether reading the source of the report itself failed; false if nothing is listed
+abbrev pub own_read_fails : AnswerTree Bool → Bool
+own_read_fails a = answer_or false a
 
 abbrev pub cause_answers : {A : Type 0} → AnswerTree A → AnswerTree A
 cause_answers unlisted = unlisted

@@ -1,27 +1,27 @@
--- The value that a report stands for.
+-- The tree that a report represents.
 use Rattle.std.specs.Prelude.{ℕ, ◌<◌, List, [], Option, Some, None, length, option_map, string_bytes, map, codes}
 use Rattle.std.specs.Prelude.{unwrap_or}
 use Rattle.miette_protocol.specs.views.Meaning.{Meaning}
 use Rattle.miette_protocol.specs.rules.Reading.{Source}
 use Rattle.miette_protocol.specs.rules.Texts.{render_text}
 use Rattle.miette_protocol.specs.views.Diagnostic.{meaning_of, message_alone}
-use Rattle.miette_fixes.specs.rules.Edits.{Proposal}
+use Rattle.miette_fixes.specs.rules.Edits.{FixModel}
 use Rattle.miette_tree.specs.rules.CauseTexts.{texts_in}
 use Rattle.miette_tree.specs.rules.Diagnosis.{Diagnosis, Section}
-use Rattle.miette_tree.specs.views.Attached.{section_of, snippets_in, fixes_in}
+use Rattle.miette_tree.specs.views.Attachments.{section_of, snippets_in, fixes_in}
 use Rattle.miette_tree.specs.views.Owned.{kept_source}
 use Rattle.miette_tree.specs.rules.Tree.{Tree, tree, Cause, diagnostic, texts, Trees, no_trees, trees}
 use Rattle.miette_tree.specs.declared.innermost.Innermost.{Innermost}
 use Rattle.miette_tree.specs.declared.innermost.Innermost.TheVariants.{Message, Built, Boxed, Unwritten, OutOfMemory}
-use Rattle.miette_tree.specs.declared.tree.KeptCause.{KeptCause}
-use Rattle.miette_tree.specs.declared.tree.KeptCause.TheVariants as kept
+use Rattle.miette_tree.specs.declared.tree.OwnedCause.{OwnedCause}
+use Rattle.miette_tree.specs.declared.tree.OwnedCause.TheVariants as kept
 use Rattle.miette_tree.specs.declared.tree.Cause as shown
 use Rattle.miette_tree.specs.declared.tree.Cause.TheVariants as seen
 use Rattle.miette_tree.specs.declared.tree.Report.{Report}
 use Rattle.miette_tree.specs.declared.tree.Report.TheOpen.{Report-F}
 use Rattle.miette_tree.specs.declared.tree.Report.TheFolds.{fold-Report}
 
--- what the report of refused memory answers
+-- the parts of the report of an allocation failure
 abbrev pub out_of_memory_alone : Meaning
 out_of_memory_alone = message_alone (codes "memory allocation failed")
 
@@ -32,8 +32,8 @@ innermost_meaning means (Boxed d) = means d
 innermost_meaning means (Unwritten error) = message_alone (render_text error)
 innermost_meaning means OutOfMemory = out_of_memory_alone
 
--- with the message that was put in front, where there is one, and with what the report keeps beside its diagnostic
-abbrev pub diagnosis_of : Option (List ℕ) → Meaning → List Section → List Proposal → Diagnosis
+-- adds the message that `wrap_err` put in front, if any, and what the report stores besides its diagnostic
+abbrev pub diagnosis_of : Option (List ℕ) → Meaning → List Section → List FixModel → Diagnosis
 diagnosis_of front m snippets fixes = record {
   message = unwrap_or front m.message;
   code = m.code;
@@ -45,37 +45,37 @@ diagnosis_of front m snippets fixes = record {
   fixes = fixes;
 }
 
--- a cause, with a report in it already seen as its tree
-abbrev pub kept_cause : KeptCause Tree → Cause
-kept_cause kept.None = texts []
-kept_cause (kept.Diagnostic b) = diagnostic b.value
-kept_cause (kept.Texts list) = texts (texts_in list)
+-- a cause, with its report converted to a tree already
+abbrev pub owned_cause : OwnedCause Tree → Cause
+owned_cause kept.None = texts []
+owned_cause (kept.Diagnostic b) = diagnostic b.value
+owned_cause (kept.Texts list) = texts (texts_in list)
 
 abbrev pub trees_from : Option (List Tree) → Trees
 trees_from None = no_trees
 trees_from (Some ts) = trees ts
 
--- one level, with each report inside already seen as its tree
+-- one level of a report, with the reports inside converted to trees already
 abbrev pub tree_step : {D S : Type 0} → (D → Meaning) → (S → Source) → Report-F D S Tree → Tree
 tree_step means is r =
     tree
     (diagnosis_of (option_map (λ b. string_bytes b.value) r.front) (innermost_meaning means r.innermost)
     (map (section_of is) (snippets_in r.attached)) (fixes_in r.attached))
     (option_map (kept_source is) r.source)
-    (kept_cause r.cause)
+    (owned_cause r.cause)
     (trees_from (option_map (λ v. v.items) r.related))
 
--- the whole tree, given what its boxed diagnostics and sources mean
+-- the whole tree, given what boxed diagnostics and sources represent
 abbrev pub tree_of : {D S : Type 0} → (D → Meaning) → (S → Source) → Report D S → Tree
 tree_of {D} {S} means is = fold-Report D S Tree (tree_step means is)
 
--- the cause that a getter shows
-abbrev pub cause_shown : {D S : Type 0} → (D → Meaning) → (S → Source) → shown.Cause D S → Cause
-cause_shown means is seen.None = texts []
-cause_shown means is (seen.Diagnostic r) = diagnostic (tree_of means is r.now)
-cause_shown means is (seen.Texts list) = texts (map string_bytes list.now)
+-- the cause that the getter returns
+abbrev pub cause_view : {D S : Type 0} → (D → Meaning) → (S → Source) → shown.Cause D S → Cause
+cause_view means is seen.None = texts []
+cause_view means is (seen.Diagnostic r) = diagnostic (tree_of means is r.now)
+cause_view means is (seen.Texts list) = texts (map string_bytes list.now)
 
--- texts are shown only where there is at least one
+-- the getter returns texts only if there is at least one
 abbrev pub IsNoEmptyList : {D S : Type 0} → shown.Cause D S → Type 0
 IsNoEmptyList seen.None = Unit {0}
 IsNoEmptyList (seen.Diagnostic r) = Unit {0}

@@ -1,10 +1,10 @@
 use Rattle.std.proofs.Common.{◌≡◌, List, [], Option, Some, None, refl, ◌∙◌, ap, ap₂}
 use Rattle.std.specs.Prelude.{unwrap_or}
 use Rattle.std.specs.Option.{option_map}
-use Rattle.miette_cells.specs.rules.Widths.{width_of}
-use Rattle.miette_page.specs.rules.Rows.{Row}
-use Rattle.miette_page.specs.views.Printouts.{Printout, ended_text, printout_of, ◌⊕◌}
-use Rattle.miette_page.specs.views.Tokens.{rows_tokens}
+use Rattle.miette_columns.specs.rules.Widths.{width_of}
+use Rattle.miette_style.specs.rules.Rows.{Row}
+use Rattle.miette_style.specs.views.Printouts.{Printout, ended_text, printout_of, ◌⊕◌}
+use Rattle.miette_style.specs.views.Tokens.{rows_tokens}
 use Rattle.miette_protocol.specs.rules.Reading.{plain_source}
 use Rattle.miette_snippet_rules.specs.rules.SnippetLayout.{rows_of_labels}
 use Rattle.miette_style.specs.rules.Themes.{theme_of}

@@ -1,5 +1,5 @@
 use Rattle.std.proofs.Common.{refl, ◌∷◌, []}
-use Rattle.miette_printed_laws.specs.laws.Paths.{to_cause}
+use Rattle.miette_graphical_rules.specs.laws.Paths.{to_cause}
 use Rattle.callers.specs.Sums.{narrow, printed_cause, sum_tree}
 use Rattle.callers.proofs.pictures.cause_is_printed.Goals as goal
 

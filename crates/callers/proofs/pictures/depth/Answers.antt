@@ -2,7 +2,7 @@ use Rattle.std.proofs.Common.{◌≡◌, ◌∙◌, ap, ap₂, codes, false, Non
 use Rattle.miette_protocol.specs.views.Diagnostic.{with_label_at}
 use Rattle.miette_protocol.specs.rules.Reading.{named_source, plain_source}
 use Rattle.miette_tree.specs.rules.Diagnosis.{plain_diagnosis}
-use Rattle.miette_tree.specs.rules.Tree.{alone, with_source}
+use Rattle.miette_tree.specs.rules.Tree.{single_report, with_source}
 use Rattle.callers.proofs.pictures.depth.Goals as goal
 
 pub returns : goal.returns
@@ -13,4 +13,4 @@ returns g c =
     let bytes : c.in_ok-settings.settings.items ≡ codes "depth = 1\n" = search rules in
     let read = c.in_ok-source.ensures ∙ ap (λ items. named_source (plain_source items) (codes "app.toml") None) bytes in
     c.with_owned_source.ensures.tree
-    ∙ ap₂ with_source read (c.new-2.ensures.tree ∙ ap (λ m. alone (plain_diagnosis m)) said)
+    ∙ ap₂ with_source read (c.new-2.ensures.tree ∙ ap (λ m. single_report (plain_diagnosis m)) said)

@@ -1,9 +1,10 @@
 use Rattle.callers.proofs.NamedRows.{named}
 use Rattle.callers.proofs.SumSteps.{cause_stands, cause_stays, end_stands, is_cut, known, left_out, rows_stand}
-use Rattle.miette_printed_laws.specs.laws.Headline.{CutsAreExact, EndsAreDrawn, LabelsAreFolded, LinesThatFitStay}
+use Rattle.miette_graphical_rules.specs.laws.SnippetTheorems.{CutsAreExact, EndsAreDrawn, LabelsAreFolded}
+use Rattle.miette_graphical_rules.specs.laws.SnippetTheorems.{LinesThatFitStay}
 use Rattle.std.proofs.Common.{refl, inl, ◌∷◌, []}
 use Rattle.callers.specs.Sums.{cause_arrow, narrow, sum_tree}
-use Rattle.miette_picture_rules.specs.rules.Snippets.{whole_drawing}
+use Rattle.miette_graphical_rules.specs.rules.Snippets.{whole_drawing}
 use Rattle.callers.proofs.pictures.draw_sum.Goals as goal
 
 pub returns-clause-rows : goal.returns-clause-rows

@@ -1,5 +1,5 @@
 use Rattle.std.proofs.Common.{◌≡◌, map, take}
-use Rattle.miette_positions.specs.declared.place.PositionEncoding.TheVariants.{Utf16}
+use Rattle.miette_positions.specs.declared.position.PositionEncoding.TheVariants.{Utf16}
 use Rattle.miette_positions.specs.rules.Regions.{region_of}
 use Rattle.callers.proofs.positions.regions.Given as goal
 

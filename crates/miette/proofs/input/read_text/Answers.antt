@@ -4,4 +4,5 @@ use Rattle.miette.proofs.input.read_text.Goals as goal
 
 pub returns-in-Ok : goal.returns-in-Ok
 returns-in-Ok g c =
-    named_input c.text_of.result (tree_of _ _) _ _ c.in-Ok.bytes.items c.input_name-name.ensures c.text_of.ensures.err
+    named_input c.utf8_text_of.result (tree_of _ _) _ _ c.in-Ok.bytes.items c.input_name-name.ensures
+    c.utf8_text_of.ensures.err

@@ -1,7 +1,7 @@
-//! From options and a terminal to a handler.
+//! Builds a handler from options and a terminal.
 
 ghost use Rattle.std.specs.Prelude.{◌≡◌, IfOk, None};
-ghost use Rattle.miette_picture_rules.specs.views.Settings.{handler_settings};
+ghost use Rattle.miette_graphical_rules.specs.views.GraphicalSettings.{handler_settings};
 ghost use Rattle.miette_style.specs.rules.Themes.{characters_of, styles_of, theme_of};
 ghost use Rattle.miette.specs.rules.Choice.{IsChosen, IsDrawing, brief_settings, chosen_highlighter, chosen_theme};
 ghost use Rattle.miette.specs.rules.Choice.{chosen_line_columns, chosen_urls, chosen_width};
@@ -11,17 +11,18 @@ ghost use Rattle.miette.specs.rules.Choice.{picture_settings, takes_colours};
 use crate::handlers::{BriefReportHandler, GraphicalReportHandler, NarratableReportHandler};
 use crate::options::builder::{MietteHandlerOpts, RgbColors};
 use crate::options::handler::MietteHandler;
+use miette_graphical_rules::settings::{GraphicalSettings, UrlMode};
 use miette_highlight::highlight::Highlighter;
-use miette_picture_rules::settings::{Settings, UrlMode};
 use miette_snippet_rules::options::LayoutOptions;
 use miette_style::theme::{GraphicalTheme, Terminal, ThemeCharacters, ThemeStyles};
 use std::alloc::{AllocError, Global};
 
 impl<H: Highlighter> MietteHandlerOpts<H> {
-    /// The handler that these options and a terminal choose. What isn't set stays as the handler has it.
+    /// Builds the handler that these options and a terminal choose. Options that aren't set keep the handler's
+    /// defaults.
     ///
     /// # Errors
-    /// Where no memory is found for the theme.
+    /// `AllocError` if allocation for the theme fails.
     pub fn build(self, alloc: Global, terminal: &Terminal) -> Result<MietteHandler<H>, AllocError>
         ensures { IfOk result (IsChosen self terminal.now) }
     {
@@ -47,8 +48,8 @@ impl<H: Highlighter> MietteHandlerOpts<H> {
         Ok(GraphicalReportHandler::with_settings(settings, highlighter))
     }
 
-    /// How pictures are drawn, with this theme.
-    fn picture_settings(self, theme: GraphicalTheme, terminal: &Terminal) -> Settings
+    /// The settings of graphical reports, with this theme.
+    fn picture_settings(self, theme: GraphicalTheme, terminal: &Terminal) -> GraphicalSettings
         ensures settings { handler_settings result
             ≡ record (picture_settings self terminal.now) { theme = theme_of theme } }
         ensures tabs { result.layout.tab_width ≡ self.layout.tab_width }
@@ -64,7 +65,7 @@ impl<H: Highlighter> MietteHandlerOpts<H> {
             footer,
             ..
         } = self;
-        Settings {
+        GraphicalSettings {
             theme,
             layout: LayoutOptions {
                 line_columns,
@@ -129,7 +130,7 @@ impl<H: Highlighter> MietteHandlerOpts<H> {
         }
     }
 
-    /// The theme that was set, which is then taken out, or the one that fits.
+    /// Takes the theme that was set, or creates the one that fits the terminal.
     fn take_theme(
         &mut self,
         alloc: Global,
@@ -190,7 +191,7 @@ impl<H: Highlighter> MietteHandlerOpts<H> {
         }
     }
 
-    /// How many columns the text of a line may have before it is cut, if lines are cut.
+    /// The width at which source lines are cut, if they are.
     fn chosen_line_columns(&self, terminal: &Terminal) -> Option<usize>
         ensures { result ≡ chosen_line_columns self.now terminal.now }
     {
@@ -211,7 +212,7 @@ impl<H: Highlighter> MietteHandlerOpts<H> {
         }
     }
 
-    /// The highlighter that was set, where there are colours; it is then taken out.
+    /// Takes the highlighter that was set, if reports have colors.
     fn take_highlighter(&mut self, terminal: &Terminal) -> Option<H>
         ensures chosen { result ≡ chosen_highlighter self.old terminal.now }
         ensures rest { self.new ≡ record self.old { highlighter = None } }
@@ -231,7 +232,7 @@ impl<H: Highlighter> MietteHandlerOpts<H> {
     }
 }
 
-/// The styles where colours are taken, of a terminal that has 16 million or not.
+/// The styles of reports with colors. `many` says whether the terminal has 16 million colors.
 fn coloured_styles(alloc: Global, rgb: RgbColors, many: bool) -> Result<ThemeStyles, AllocError>
     ensures { IfOk result (λ it. styles_of it ≡ coloured_styles rgb many) }
 {

@@ -10,8 +10,8 @@ pub loop-next-preserved : goal.loop-next-preserved
 loop-next-preserved g c =
     let value = tree_of g.D.Diagnostic.meaning g.S.SourceCode.source in
     cause_more (cause_of (value c.loop-next.above.now)) (value c.in-Diagnostic.next.now) c.message.result.now
-    (string_bytes c.loop-next.out) (string_bytes c.push_saying.new.out) _ c.in-Diagnostic.ensures.value
-    c.message.ensures c.in_ok-push_saying.ensures c.loop-next.invariant
+    (string_bytes c.loop-next.out) (string_bytes c.push_message_row.new.out) _ c.in-Diagnostic.ensures.value
+    c.message.ensures c.in_ok-push_message_row.ensures c.loop-next.invariant
 
 pub returns : goal.returns
 returns g c =

@@ -1,5 +1,5 @@
 use Rattle.std.proofs.Common.{map, rules, arith, string_bytes}
-use Rattle.miette_tree.specs.views.Attached.{section_of}
+use Rattle.miette_tree.specs.views.Attachments.{section_of}
 use Rattle.miette_brief.proofs.Further.{notes_told, notes_end, sections_accepted, accepted_all, section_refused}
 use Rattle.miette_brief.proofs.report.push_further_notes.Goals as goal
 

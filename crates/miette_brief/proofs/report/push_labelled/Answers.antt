@@ -3,19 +3,19 @@ use Rattle.std.specs.List.{All}
 use Rattle.std.specs.Option.{option_map}
 use Rattle.miette_protocol.specs.views.Meaning.{Label}
 use Rattle.miette_tree.specs.rules.Tree.{head}
-use Rattle.miette_tree.specs.views.Owned.{shown_source}
+use Rattle.miette_tree.specs.views.Owned.{ref_source}
 use Rattle.miette_tree.specs.views.Report.{tree_of}
-use Rattle.miette_labels.specs.declared.order.Turn.{Turn}
-use Rattle.miette_label_rules.specs.rules.Groups.{in_order}
-use Rattle.miette_label_rules.specs.views.GivenLabels.{label_at}
+use Rattle.miette_labels.specs.declared.order.OrderedLabel.{OrderedLabel}
+use Rattle.miette_labels.specs.rules.Groups.{in_order}
+use Rattle.miette_labels.specs.views.ProgramLabels.{label_at}
 use Rattle.miette_brief.proofs.Telling.{further_order_refused, labelled, order_refused, own_order_refused}
 use Rattle.miette_brief.proofs.report.push_labelled.Goals as goal
 
-abbrev label : List Label → Turn → Label
+abbrev label : List Label → OrderedLabel → Label
 label labels turn = label_at labels turn.index
 
-pub diagnostic_place-requires : goal.diagnostic_place-requires
-diagnostic_place-requires g c = record {
+pub diagnostic_location-requires : goal.diagnostic_location-requires
+diagnostic_location-requires g c = record {
   inside = subst (λ (ls : List Label). All (λ turn. turn.index < length ls) c.args.order.now)
       (sym c.labels_of-labels.ensures) c.requires.inside;
 }
@@ -29,7 +29,7 @@ push_notes-requires g c = record {
 pub returns-clause-text : goal.returns-clause-text
 returns-clause-text g c =
     let m = head (tree_of g.D.Diagnostic.meaning g.S.SourceCode.source c.args.report.now) in
-    let source = option_map (shown_source g.S.SourceCode.source) c.args.source in
+    let source = option_map (ref_source g.S.SourceCode.source) c.args.source in
     let labels = c.labels_of-labels.result.now in
     let ordered : map (label labels) c.args.order.now ≡ in_order labels =
     subst (λ (ls : List Label). map (label ls) c.args.order.now ≡ in_order ls) (sym c.labels_of-labels.ensures)
@@ -43,18 +43,18 @@ returns-clause-text g c =
 
 pub returns-in_err-at-clause-refused : goal.returns-in_err-at-clause-refused
 returns-in_err-at-clause-refused g c = λ h.
-    order_refused label (option_map (shown_source g.S.SourceCode.source) c.args.source) c.labels_of-labels.result.now _
+    order_refused label (option_map (ref_source g.S.SourceCode.source) c.args.source) c.labels_of-labels.result.now _
     c.args.order.now c.labels_of-labels.ensures c.requires.ordered _ _ c.further_snippets-further.ensures
     (c.in_err-at.ensures.refused (search rules))
 
 pub returns-in_err-push_notes-clause-refused : goal.returns-in_err-push_notes-clause-refused
 returns-in_err-push_notes-clause-refused g c = λ h.
-    own_order_refused label (option_map (shown_source g.S.SourceCode.source) c.args.source)
+    own_order_refused label (option_map (ref_source g.S.SourceCode.source) c.args.source)
     c.labels_of-labels.result.now _ c.args.order.now c.labels_of-labels.ensures c.requires.ordered _ _
     c.further_snippets-further.ensures (c.in_err-push_notes.ensures.refused (search rules))
 
 pub returns-in_err-push_further_notes-clause-refused : goal.returns-in_err-push_further_notes-clause-refused
 returns-in_err-push_further_notes-clause-refused g c = λ h.
-    further_order_refused label (option_map (shown_source g.S.SourceCode.source) c.args.source)
+    further_order_refused label (option_map (ref_source g.S.SourceCode.source) c.args.source)
     c.labels_of-labels.result.now _ c.args.order.now c.labels_of-labels.ensures c.requires.ordered _ _
     c.further_snippets-further.ensures (c.in_err-push_further_notes.ensures.refused (search rules))

@@ -8,7 +8,7 @@ use Rattle.unicode_width.specs.Width.{str_width}
 use Rattle.miette_columns.proofs.Columning.{IsOver, begins, none_over, one_over, over_at_zero, over_past_end}
 use Rattle.miette_columns.proofs.Columning.{over_inside}
 use Rattle.miette_columns.proofs.PlaceLaws.{column_from}
-use Rattle.miette_columns.specs.steps.Places.{overlap_text}
+use Rattle.miette_columns.specs.steps.Checkpoints.{overlap_text}
 use Rattle.miette_columns.proofs.text_columns.walked_column.Goals as goal
 
 pub loop-left-init : goal.loop-left-init
@@ -32,11 +32,11 @@ pub returns-then-left-size : goal.returns-then-left-size
 returns-then-left-size c =
     let from = c.args.from in
     let rest = c.loop-left.rest.now in
-    let read = c.first_character-code.ensures in
+    let read = c.decode_first_char-code.ensures in
     column_from c.args.text.now from c.args.bytes c.in_ok-wider.wider c.requires.place c.requires.before
     (over_inside from (drop from.bytes c.args.text.now) (c.args.bytes - from.bytes) (string_bytes c.loop-left.begun)
-    c.loop-left.widths c.in_ok-wider.wider rest (drop c.first_character-code.result.1 rest) c.loop-left.left
-    c.first_character-code.result.0 c.first_character-code.result.1 c.loop-left.invariant
+    c.loop-left.widths c.in_ok-wider.wider rest (drop c.decode_first_char-code.result.1 rest) c.loop-left.left
+    c.decode_first_char-code.result.0 c.decode_first_char-code.result.1 c.loop-left.invariant
     (begins rest _ _ _ (search rules) refl read.code read.size) (search rules) c.loop-left-test.true
     c.if-left-size.true)
 
@@ -44,11 +44,11 @@ pub loop-left-preserved : goal.loop-left-preserved
 loop-left-preserved c =
     let from = c.args.from in
     let rest = c.loop-left.rest.now in
-    let read = c.first_character-code.ensures in
+    let read = c.decode_first_char-code.ensures in
     one_over (overlap_text from.overlap) from.widths (drop from.bytes c.args.text.now) (c.args.bytes - from.bytes)
     (string_bytes c.loop-left.begun) (string_bytes c.push.new.self) c.loop-left.widths c.in_ok-wider.wider rest _
-    c.loop-left.left c.first_character-code.result.0 c.first_character-code.result.1 c.loop-left.invariant
-    (begins rest _ _ _ (search rules) (take_rest rest c.first_character-code.result.1) read.code read.size)
+    c.loop-left.left c.decode_first_char-code.result.0 c.decode_first_char-code.result.1 c.loop-left.invariant
+    (begins rest _ _ _ (search rules) (take_rest rest c.decode_first_char-code.result.1) read.code read.size)
     (IsUtf8-string_bytes c.loop-left.begun) (IsUtf8-string_bytes c.push.new.self) c.in_ok-push.ensures.bytes
     (search rules) c.loop-left-test.true c.if-left-size.false
 

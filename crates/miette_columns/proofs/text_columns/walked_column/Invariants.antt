@@ -1,5 +1,5 @@
 use Rattle.std.proofs.Common.{◌-◌, drop, string_bytes}
-use Rattle.miette_columns.specs.steps.Places.{overlap_text}
+use Rattle.miette_columns.specs.steps.Checkpoints.{overlap_text}
 use Rattle.miette_columns.proofs.Columning.{IsOver}
 use Rattle.miette_columns.proofs.text_columns.walked_column.Given as goal
 

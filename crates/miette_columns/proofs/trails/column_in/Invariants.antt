@@ -1,10 +1,10 @@
 use Rattle.std.proofs.Common.{◌-◌, ◌≤◌}
-use Rattle.miette_columns.specs.steps.Trails.{IsTrail}
+use Rattle.miette_columns.specs.steps.ZeroWidthRuns.{IsZeroWidthRun}
 use Rattle.miette_columns.proofs.trails.column_in.Given as goal
 
 abbrev pub invariant-loop-trail : goal.invariant-loop-trail
 invariant-loop-trail l = record {
-  trail : IsTrail l.text l.trail;
+  trail : IsZeroWidthRun l.text l.trail;
   before : l.trail.bytes ≤ l.bytes;
   within : l.bytes ≤ l.trail.until;
 }

@@ -1,12 +1,12 @@
 use Rattle.std.proofs.Common.{ap, ◌∙◌}
 use Rattle.std.proofs.lemmas.List.Elements.{All-push, All-same}
-use Rattle.miette_columns.specs.steps.Trails.{IsTrail}
+use Rattle.miette_columns.specs.steps.ZeroWidthRuns.{IsZeroWidthRun}
 use Rattle.miette_columns.proofs.trails.push_parts.Goals.{then-trail-next+in_ok-push, else-trail-next}
 use Rattle.miette_columns.proofs.trails.push_parts.Goals as goal
 
 pub loop-trail-preserved : goal.loop-trail-preserved
 loop-trail-preserved c =
-    let P = IsTrail c.args.text.now in
+    let P = IsZeroWidthRun c.args.text.now in
     let l = c.loop-trail in (
       c.after_first-trail.ensures.trail,
       elim c.if-trail-next.branch [

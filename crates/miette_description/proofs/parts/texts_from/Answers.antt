@@ -4,7 +4,7 @@ use Rattle.std.specs.Option.{option_copied}
 use Rattle.serde_json.specs.Data.{Items}
 use Rattle.serde_json.specs.Find.{as_str}
 use Rattle.miette_description.specs.steps.ParsedValues.{list_data, value_data}
-use Rattle.miette_description.specs.rules.Members.{and_then, all_of}
+use Rattle.miette_description.specs.rules.Members.{and_then, all_items}
 use Rattle.miette_description.proofs.Lists.{none_read, one_read_as, one_fails, all_read}
 use Rattle.miette_description.proofs.parts.texts_from.Goals as goal
 
@@ -16,14 +16,14 @@ pub returns-in_err-text-clause-description : goal.returns-in_err-text-clause-des
 returns-in_err-text-clause-description c e =
     let none : as_str (value_data c.item-item.result) ≡ None = sym c.text_in.ensures
     ∙ ap option_copied (c.in_err-text.ensures.description (search rules)) in
-    ap (λ (o : Option Items). and_then o (all_of as_str)) (sym c.list_in.ensures
+    ap (λ (o : Option Items). and_then o (all_items as_str)) (sym c.list_in.ensures
     ∙ ap (option_map (λ list. list_data list.now)) c.in_ok-list.ensures.ok)
     ∙ one_fails as_str c.in_ok-list.list.now _ c.loop-item.item-index c.item-item.result c.loop-item-test.true
     c.item-item.is none c.loop-item.invariant
 
 pub returns-clause-ok : goal.returns-clause-ok
 returns-clause-ok c =
-    ap (λ (o : Option Items). and_then o (all_of as_str)) (sym c.list_in.ensures
+    ap (λ (o : Option Items). and_then o (all_items as_str)) (sym c.list_in.ensures
     ∙ ap (option_map (λ list. list_data list.now)) c.in_ok-list.ensures.ok)
     ∙ all_read as_str c.in_ok-list.list.now (map string_bytes c.loop-item.texts.items) c.loop-item.item-index
     c.loop-item-test.false c.loop-item.invariant

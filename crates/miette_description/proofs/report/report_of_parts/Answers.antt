@@ -3,14 +3,14 @@ use Rattle.std.proofs.lemmas.Result.{IfOk-weaker}
 use Rattle.miette_tree.specs.rules.Tree.{trees}
 use Rattle.miette_tree.specs.views.Owned.{owned_source}
 use Rattle.miette_tree.specs.views.Report.{tree_of}
-use Rattle.miette_description.specs.steps.OptionalParts.{said_of}
+use Rattle.miette_description.specs.steps.OptionalParts.{diagnosis_of_parts}
 use Rattle.miette_description.proofs.ReportParts.{parts_made, no_parts}
 use Rattle.miette_description.proofs.report.report_of_parts.Goals as goal
 
 pub returns-in_err-report-clause-description : goal.returns-in_err-report-clause-description
 returns-in_err-report-clause-description g c e =
     let value = tree_of g.D.Diagnostic.meaning g.S.SourceCode.source in
-    no_parts (said_of g.S.SourceCode.source c.args.parts.said) (option_map owned_source c.args.parts.source)
+    no_parts (diagnosis_of_parts g.S.SourceCode.source c.args.parts.said) (option_map owned_source c.args.parts.source)
     (option_map (λ b. value b.value) c.args.one)
     (option_map (λ v. map string_bytes v.items) c.args.parts.several)
     (option_map (λ v. trees (map value v.items)) c.args.list)
@@ -21,7 +21,8 @@ pub returns-clause-ok : goal.returns-clause-ok
 returns-clause-ok g c =
     let value = tree_of g.D.Diagnostic.meaning g.S.SourceCode.source in
     IfOk-weaker c.report_under.result _ _
-    (λ r p. parts_made (said_of g.S.SourceCode.source c.args.parts.said) (option_map owned_source c.args.parts.source)
+    (λ r p. parts_made (diagnosis_of_parts g.S.SourceCode.source c.args.parts.said)
+    (option_map owned_source c.args.parts.source)
     (option_map (λ b. value b.value) c.args.one)
     (option_map (λ v. map string_bytes v.items) c.args.parts.several)
     (option_map (λ v. trees (map value v.items)) c.args.list)

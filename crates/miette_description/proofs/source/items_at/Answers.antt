@@ -1,5 +1,5 @@
 use Rattle.std.proofs.Common.{ap, ◌∙◌}
-use Rattle.miette_description.specs.steps.OftenRead.{items_at}
+use Rattle.miette_description.specs.steps.IndexNeeds.{items_at}
 use Rattle.miette_description.proofs.source.items_at.Goals as goal
 
 pub returns-in-Some : goal.returns-in-Some

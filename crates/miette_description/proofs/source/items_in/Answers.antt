@@ -1,6 +1,6 @@
 use Rattle.std.proofs.Common.{Global, ◌≡◌, ◌+◌, List, [], ◌∷◌, length, refl, ap, ◌∙◌, arith}
 use Rattle.json.specs.declared.value.Value.{Value}
-use Rattle.miette_description.specs.steps.OftenRead.{items_in, items_len}
+use Rattle.miette_description.specs.steps.IndexNeeds.{items_in, items_len}
 use Rattle.miette_description.specs.steps.ParsedValues.{list_data}
 use Rattle.miette_description.proofs.source.items_in.Goals as goal
 

@@ -1,11 +1,11 @@
 use Rattle.std.proofs.Common.{◌∙◌, ap, false}
 use Rattle.std.proofs.lemmas.Result.{on_ok_weaker}
-use Rattle.miette_cells.specs.rules.Widths.{width_of}
-use Rattle.miette_page.specs.views.Printouts.{◌⊕◌}
-use Rattle.miette_page.specs.views.Tokens.{rows_tokens}
-use Rattle.miette_snippet_rules.specs.views.Settings.{settings_of}
-use Rattle.miette_line_columns.proofs.PassedCells.{cells_come_from}
-use Rattle.miette_fix_rows.specs.rules.DiffTexts.{text_of_line}
+use Rattle.miette_columns.specs.rules.Widths.{width_of}
+use Rattle.miette_style.specs.views.Printouts.{◌⊕◌}
+use Rattle.miette_style.specs.views.Tokens.{rows_tokens}
+use Rattle.miette_snippet_rules.specs.views.SnippetSettings.{settings_of}
+use Rattle.miette_snippet_rules.proofs.PassedCells.{cells_come_from}
+use Rattle.miette_fix_rows.specs.rules.DiffTexts.{without_terminator}
 use Rattle.miette_fix_drawing.proofs.ChangedRows.{near_put, near_readable, near_within}
 use Rattle.miette_fix_drawing.proofs.changed_rows.push_changed_rows.Goals as goal
 
@@ -28,4 +28,4 @@ returns g c =
     ∙ ap (λ rows. c.args.page.now ⊕ rows_tokens rows)
     (near_put s c.args.frame.now.number_width line c.near_line-near.result c.args.other c.near_other-beside.result
     (cells_come_from width_of c.args.frame.now.settings.layout.now.tab_width false line.start 0
-    (text_of_line line.text.now)) c.near_line-near.ensures c.near_other-beside.ensures)) c.push_near_rows.ensures
+    (without_terminator line.text.now)) c.near_line-near.ensures c.near_other-beside.ensures)) c.push_near_rows.ensures

@@ -1,7 +1,7 @@
 use Rattle.std.proofs.Common.{◌∙◌, ap, map, option_map}
 use Rattle.std.proofs.lemmas.Result.{on_ok_weaker}
 use Rattle.miette_snippet_rules.specs.rules.Highlighting.{highlight_of}
-use Rattle.miette_snippet_rules.specs.views.Settings.{settings_of}
+use Rattle.miette_snippet_rules.specs.views.SnippetSettings.{settings_of}
 use Rattle.miette_snippet_rules.specs.views.LineTexts.{text_cells}
 use Rattle.miette_fix_drawing.specs.views.ChangedLines.{changed_line_of}
 use Rattle.miette_fix_drawing.proofs.ChangedRows.{text_put}

@@ -1,5 +1,5 @@
 use Rattle.std.proofs.Common.{◌∙◌, ap, ap₂, min, option_map, sym}
-use Rattle.miette_snippet_rules.specs.views.Settings.{settings_of}
+use Rattle.miette_snippet_rules.specs.views.SnippetSettings.{settings_of}
 use Rattle.miette_fix_rows.specs.rules.DiffRows.{pair_reach}
 use Rattle.miette_fix_drawing.specs.views.ChangedLines.{changed_line_of}
 use Rattle.miette_fix_drawing.proofs.changed_rows.reach_of_pair.Goals as goal

@@ -1,5 +1,5 @@
 use Rattle.std.proofs.lemmas.Result.{on_ok_weaker}
-use Rattle.miette_frames.proofs.FrameRows.{ascii_put}
+use Rattle.miette_snippet_frames.proofs.FrameRows.{ascii_put}
 use Rattle.miette_fix_drawing.proofs.fix.push_ascii.Goals as goal
 
 pub returns : goal.returns

@@ -1,6 +1,6 @@
 use Rattle.std.proofs.Common.{sym, refl, ◌∙◌, length, Some, None}
 use Rattle.std.proofs.lemmas.Result.{on_ok_weaker}
-use Rattle.miette_snippet_rules.specs.views.Settings.{settings_of}
+use Rattle.miette_snippet_rules.specs.views.SnippetSettings.{settings_of}
 use Rattle.miette_fix_drawing.proofs.Drawn.{edits_drawn, no_edit_drawn}
 use Rattle.miette_fix_drawing.proofs.fix.push_fix_rows.Goals as goal
 

@@ -6,7 +6,7 @@ use Rattle.miette_fixes.specs.rules.Applying.{by_offset}
 use Rattle.miette_fix_rows.specs.rules.DiffTexts.{deleted_spans, inserted_spans}
 use Rattle.miette_fix_rows.specs.rules.Hunks.{changes}
 use Rattle.miette_fix_drawing.specs.steps.Framing.{PointsWithin}
-use Rattle.miette_fix_drawing.specs.steps.Places.{StandsIn}
+use Rattle.miette_fix_drawing.specs.steps.Places.{HunkIsIn}
 use Rattle.miette_fix_drawing.specs.steps.Rising.{AreRising}
 use Rattle.miette_fix_drawing.specs.views.Hunks.{hunks_of}
 use Rattle.miette_fix_drawing.proofs.Drawn.{deleted_apart, drawn_put, inserted_apart}
@@ -32,7 +32,7 @@ push_frames-requires-clause-inserted g c =
 
 pub push_frames-requires-clause-stand : goal.push_frames-requires-clause-stand
 push_frames-requires-clause-stand g c =
-    subst (AllByRecursion (StandsIn c.args.source.now.bytes.now)) (sym c.deref-4.ensures.value)
+    subst (AllByRecursion (HunkIsIn c.args.source.now.bytes.now)) (sym c.deref-4.ensures.value)
     c.in_ok-hunks.ensures.stand
 
 pub push_frames-requires-clause-places : goal.push_frames-requires-clause-places

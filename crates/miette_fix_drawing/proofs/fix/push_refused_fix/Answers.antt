@@ -1,11 +1,11 @@
 use Rattle.std.proofs.Common.{[], ◌∷◌}
 use Rattle.std.specs.Prelude.{codes}
 use Rattle.std.proofs.lemmas.Result.{on_ok_weaker}
-use Rattle.miette_page.specs.rules.Rows.{Row, styled_run}
+use Rattle.miette_style.specs.rules.Rows.{Row, styled_run}
 use Rattle.miette_style.specs.rules.Styles.{plain}
-use Rattle.miette_cells.specs.rules.Widths.{width_of}
-use Rattle.miette_frames.proofs.TextRows.{row_done}
-use Rattle.miette_frames.proofs.FrameRows.{run_then, run_last}
+use Rattle.miette_columns.specs.rules.Widths.{width_of}
+use Rattle.miette_snippet_frames.proofs.TextRows.{row_done}
+use Rattle.miette_snippet_frames.proofs.FrameRows.{run_then, run_last}
 use Rattle.miette_fix_drawing.proofs.fix.push_refused_fix.Goals as goal
 
 pub returns : goal.returns

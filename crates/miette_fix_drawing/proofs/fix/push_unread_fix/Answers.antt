@@ -1,6 +1,6 @@
 use Rattle.std.proofs.Common.{sym, ◌∙◌}
 use Rattle.std.proofs.lemmas.Result.{on_ok_weaker}
-use Rattle.miette_snippet_rules.specs.views.Settings.{settings_of}
+use Rattle.miette_snippet_rules.specs.views.SnippetSettings.{settings_of}
 use Rattle.miette_fix_drawing.proofs.FixRows.{edits_put, no_edit_put}
 use Rattle.miette_fix_drawing.proofs.fix.push_unread_fix.Goals as goal
 

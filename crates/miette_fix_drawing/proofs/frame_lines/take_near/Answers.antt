@@ -1,5 +1,5 @@
 use Rattle.std.proofs.Common.{◌≡◌, ◌+◌, ap, subst, sym, ◌∙◌, ◌∷◌, ◌++◌, drop, true, false, arith}
-use Rattle.miette_fix_rows.specs.rules.DiffFrames.{after_hunk, frames_from, is_near}
+use Rattle.miette_fix_rows.specs.rules.DiffFrames.{after_hunk, frames_from, is_near_hunk}
 use Rattle.miette_fix_rows.specs.laws.Frames.{past_lines}
 use Rattle.miette_fix_drawing.specs.steps.Framing.{IsFar}
 use Rattle.miette_fix_drawing.specs.views.Hunks.{hunk_of, hunks_of}
@@ -15,7 +15,7 @@ loop-i-preserved c =
     let more = hunks_of (drop (c.loop-i.i + 1) hunks) in
     let made = lines_of_segments c.loop-i.list.items in
     let next = lines_of_segments c.push_hunk.new.list.items in
-    let near : is_near context hunk ≡ true = sym c.is_near.ensures ∙ c.if-not-is_near.false in
+    let near : is_near_hunk context hunk ≡ true = sym c.is_near_hunk.ensures ∙ c.if-not-is_near_hunk.false in
     let items : hunks_of (drop c.loop-i.i hunks) ≡ hunk ∷ more =
     ap hunks_of (item_first hunks c.loop-i.i c.index-hunks-i.result
     (omega (arith, c.loop-i-test.true, c.loop-i.auto.i-end))
@@ -27,17 +27,17 @@ loop-i-preserved c =
           ∙ ap (frames_from context after true (past_lines at made)) (sym items) ∙ c.loop-i.invariant.frames after at;
     }
 
-pub returns-then-not-is_near-clause-lines : goal.returns-then-not-is_near-clause-lines
-returns-then-not-is_near-clause-lines c = c.loop-i.invariant.lines
+pub returns-then-not-is_near_hunk-clause-lines : goal.returns-then-not-is_near_hunk-clause-lines
+returns-then-not-is_near_hunk-clause-lines c = c.loop-i.invariant.lines
 
-pub returns-then-not-is_near-clause-frames : goal.returns-then-not-is_near-clause-frames
-returns-then-not-is_near-clause-frames c = c.loop-i.invariant.frames
+pub returns-then-not-is_near_hunk-clause-frames : goal.returns-then-not-is_near_hunk-clause-frames
+returns-then-not-is_near_hunk-clause-frames c = c.loop-i.invariant.frames
 
-pub returns-then-not-is_near-clause-far : goal.returns-then-not-is_near-clause-far
-returns-then-not-is_near-clause-far c =
+pub returns-then-not-is_near_hunk-clause-far : goal.returns-then-not-is_near_hunk-clause-far
+returns-then-not-is_near_hunk-clause-far c =
     let hunks = c.args.hunks.now in
     let hunk = hunk_of c.index-hunks-i.result in
-    let near : is_near c.args.context hunk ≡ false = sym c.is_near.ensures ∙ c.if-not-is_near.true in
+    let near : is_near_hunk c.args.context hunk ≡ false = sym c.is_near_hunk.ensures ∙ c.if-not-is_near_hunk.true in
     let items : hunks_of (drop c.loop-i.i hunks) ≡ hunk ∷ hunks_of (drop (c.loop-i.i + 1) hunks) =
     ap hunks_of (item_first hunks c.loop-i.i c.index-hunks-i.result
     (omega (arith, c.loop-i-test.true, c.loop-i.auto.i-end))

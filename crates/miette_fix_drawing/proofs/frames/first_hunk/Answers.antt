@@ -9,20 +9,20 @@ use Rattle.miette_fix_drawing.proofs.frames.first_hunk.Goals as goal
 pub returns-clause-at : goal.returns-clause-at
 returns-clause-at g c =
     let bytes = c.args.hunk.now.kept.now in
-    let n = c.before_last_lines-left.result in
+    let n = c.last_lines_start-left.result in
     let k = left_before c.args.drawing.now.settings.layout.now.context_lines (hunk_of c.args.hunk.now) in
     c.in_ok-from.ensures (take k (line_texts bytes))
-    (c.count_lines-lines_left.ensures.count ∙ ap length (front_texts bytes n k c.before_last_lines-left.ensures.size))
-    c.before_last_lines-left.ensures.size
+    (c.count_lines-lines_left.ensures.count ∙ ap length (front_texts bytes n k c.last_lines_start-left.ensures.size))
+    c.last_lines_start-left.ensures.size
 
 pub returns-clause-lines : goal.returns-clause-lines
 returns-clause-lines g c =
     let bytes = c.args.hunk.now.kept.now in
     let changed = changed_lines c.args.hunk.now.changes.now in
-    let n = c.before_last_lines-left.result in
+    let n = c.last_lines_start-left.result in
     let k = left_before c.args.drawing.now.settings.layout.now.context_lines (hunk_of c.args.hunk.now) in
     c.in_ok-push_hunk.ensures
     ∙ ap (λ items. lines_of_segments items ++
     (kept_lines (line_texts (take (length bytes - n) (drop n bytes))) ++ changed))
     c.new-lines.ensures.items
-    ∙ ap (λ ls. kept_lines ls ++ changed) (rest_texts bytes n k c.before_last_lines-left.ensures.size)
+    ∙ ap (λ ls. kept_lines ls ++ changed) (rest_texts bytes n k c.last_lines_start-left.ensures.size)

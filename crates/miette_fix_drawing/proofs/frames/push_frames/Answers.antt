@@ -1,9 +1,9 @@
 use Rattle.std.proofs.Common.{refl, subst, sym, length, arith}
 use Rattle.std.specs.List.{AllByRecursion}
 use Rattle.std.proofs.lemmas.List.{take_rest}
-use Rattle.miette_source_lines.proofs.Places.{line_of_none}
+use Rattle.miette_lines.proofs.Places.{line_of_none}
 use Rattle.miette_fix_drawing.specs.steps.Framing.{PointsWithin}
-use Rattle.miette_fix_drawing.specs.steps.Places.{StandsIn}
+use Rattle.miette_fix_drawing.specs.steps.Places.{HunkIsIn}
 use Rattle.miette_fix_drawing.specs.views.Hunks.{hunks_of}
 use Rattle.miette_fix_drawing.proofs.Framing.{all_drop, hunks_drop}
 use Rattle.miette_fix_drawing.proofs.frames.push_frames.Goals as goal
@@ -31,6 +31,6 @@ push_next-requires-clause-places g c =
 pub push_next-requires-clause-stand : goal.push_next-requires-clause-stand
 push_next-requires-clause-stand g c =
     let hunks = c.args.hunks.now in
-    let stands = StandsIn c.args.drawing.now.source.now in
+    let stands = HunkIsIn c.args.drawing.now.source.now in
     subst (AllByRecursion stands) (sym (take_rest hunks c.loop-done.done))
     (all_drop stands c.loop-done.done hunks c.requires.stand)

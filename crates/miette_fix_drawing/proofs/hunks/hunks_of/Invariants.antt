@@ -1,7 +1,7 @@
 use Rattle.std.proofs.Common.{◌≡◌, ◌≤◌, ◌-◌, ◌++◌, drop, length}
 use Rattle.std.specs.List.{AllByRecursion}
 use Rattle.miette_fix_rows.specs.rules.Hunks.{diff_from}
-use Rattle.miette_fix_drawing.specs.steps.Places.{StandsIn}
+use Rattle.miette_fix_drawing.specs.steps.Places.{HunkIsIn}
 use Rattle.miette_fix_drawing.specs.steps.Rising.{AreRising}
 use Rattle.miette_fix_drawing.specs.views.Hunks.{hunks_of}
 use Rattle.miette_fix_drawing.proofs.hunks.hunks_of.Given as goal
@@ -12,7 +12,7 @@ invariant-loop-low l = record {
   rising : AreRising (length l.source) l.at (drop l.low l.changes);
   hunks : hunks_of l.list.items ++ (diff_from l.source l.at (drop l.low l.changes)).hunks
       ≡ (diff_from l.source 0 l.changes).hunks;
-  stand : AllByRecursion (StandsIn l.source) l.list.items;
+  stand : AllByRecursion (HunkIsIn l.source) l.list.items;
   behind : (diff_from l.source l.at (drop l.low l.changes)).after_hunks ≡ (diff_from l.source 0 l.changes).after_hunks;
 }
 

@@ -2,23 +2,23 @@ use Rattle.std.proofs.Common.{◌∙◌, ap, length, option_map, Some, subst, sy
 use Rattle.miette_fix_rows.specs.rules.DiffRows.{ChangedLine, added_beside, added_line}
 use Rattle.miette_fix_drawing.specs.steps.Spans.{AreApart}
 use Rattle.miette_fix_drawing.specs.views.Contexts.{context_with}
-use Rattle.miette_fix_drawing.specs.views.ShownLines.{other_of}
-use Rattle.miette_fix_drawing.specs.views.Standings.{standing_of}
+use Rattle.miette_fix_drawing.specs.views.ShownLines.{paired_line_of}
+use Rattle.miette_fix_drawing.specs.views.DiffPositions.{diff_position_of}
 use Rattle.miette_fix_drawing.proofs.segments.added_beside.Goals as goal
 
 pub returns-in_default-clause-lines : goal.returns-in_default-clause-lines
 returns-in_default-clause-lines c =
-    ap (λ o. option_map (added_beside (context_with c.args.drawing.now) (standing_of c.args.at.now))
-    (option_map other_of o)) (sym c.in_default.is)
+    ap (λ o. option_map (added_beside (context_with c.args.drawing.now) (diff_position_of c.args.at.now))
+    (option_map paired_line_of o)) (sym c.in_default.is)
 
 pub returns-clause-lines : goal.returns-clause-lines
 returns-clause-lines c =
     let context = context_with c.args.drawing.now in
-    let at = standing_of c.args.at.now in
+    let at = diff_position_of c.args.at.now in
     let line : ChangedLine = added_line context at c.in-Some.other.text.now in
     ap (λ (it : ChangedLine). Some (record it { start = c.in_ok-start.start })) c.in_ok-line.ensures
     ∙ ap (λ n. Some (record line { start = n })) c.in_ok-start.ensures
-    ∙ ap (λ o. option_map (added_beside context at) (option_map other_of o)) (sym c.in-Some.is)
+    ∙ ap (λ o. option_map (added_beside context at) (option_map paired_line_of o)) (sym c.in-Some.is)
 
 pub returns-clause-readable : goal.returns-clause-readable
 returns-clause-readable c = (

@@ -1,6 +1,6 @@
 use Rattle.std.proofs.Common.{ℕ, ◌≤◌, ◌∙◌, ap, subst, sym}
 use Rattle.miette_protocol.specs.rules.Reading.{Span}
-use Rattle.miette_cells.specs.views.Walking.{cell_of}
+use Rattle.miette_columns.specs.views.Walking.{cell_of}
 use Rattle.miette_fix_drawing.proofs.Apart.{after_at}
 use Rattle.miette_fix_drawing.proofs.spans.some_holds_byte.Goals as goal
 

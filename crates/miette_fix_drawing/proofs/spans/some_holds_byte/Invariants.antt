@@ -1,6 +1,6 @@
 use Rattle.std.proofs.Common.{◌≡◌, drop}
 use Rattle.std.specs.List.{list_any}
-use Rattle.miette_cells.specs.views.Walking.{cell_of}
+use Rattle.miette_columns.specs.views.Walking.{cell_of}
 use Rattle.miette_fix_rows.specs.rules.DiffTexts.{holds_byte}
 use Rattle.miette_fix_drawing.proofs.spans.some_holds_byte.Given as goal
 

@@ -1,6 +1,6 @@
 use Rattle.std.proofs.Common.{◌≡◌, ◌+◌, ◌-◌, ◌≤◌, length, drop}
 use Rattle.std.specs.List.{prefix_len}
-use Rattle.miette_source_lines.specs.rules.Lines.{is_text}
+use Rattle.miette_lines.specs.rules.Lines.{is_text}
 use Rattle.miette_fix_drawing.proofs.texts.text_len.Given as goal
 
 abbrev pub invariant-loop-len : goal.invariant-loop-len

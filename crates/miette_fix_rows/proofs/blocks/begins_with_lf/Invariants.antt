@@ -1,6 +1,6 @@
 use Rattle.std.proofs.Common.{◌≡◌, drop, length}
 use Rattle.std.specs.Prelude.{◌==◌, slice_index}
-use Rattle.miette_source_lines.specs.rules.Lines.{LF}
+use Rattle.miette_lines.specs.rules.Lines.{LF}
 use Rattle.miette_fixes.specs.rules.Applying.{text_from}
 use Rattle.miette_fixes.specs.views.Ordered.{FitFrom, edits_of}
 use Rattle.miette_fix_rows.proofs.blocks.begins_with_lf.Given as goal

@@ -2,13 +2,13 @@ use Rattle.std.proofs.Common.{◌≡◌, ◌≤◌, ◌+◌, ◌-◌, ◌∙◌,
 use Rattle.std.proofs.Common.{ap, ap₂}
 use Rattle.std.proofs.Common.{subst, arith}
 use Rattle.std.proofs.lemmas.List.{length-map}
-use Rattle.miette_source_lines.specs.rules.Lines.{line_of, line_start}
+use Rattle.miette_lines.specs.rules.Lines.{line_of, line_start}
 use Rattle.miette_fixes.specs.rules.Edits.{end_of}
 use Rattle.miette_fixes.specs.views.Ordered.{FitFrom, edits_of}
 use Rattle.miette_fix_rows.specs.rules.Blocks.{block_from, blocks, touched_from}
 use Rattle.miette_fix_rows.specs.steps.Sharing.{EndsApart, IsBlock}
 use Rattle.miette_fix_rows.proofs.Sharing.{ends_last, ends_take, ends_within, fit_drop, grow_block, head_at, joined}
-use Rattle.miette_fix_rows.proofs.Sharing.{last_at, one_block, parted, rest_is}
+use Rattle.miette_fix_rows.proofs.Sharing.{last_at, one_block, block_diff, rest_is}
 use Rattle.miette_fix_rows.proofs.blocks.last_block.Goals as goal
 
 pub start_of_line-start-requires : goal.start_of_line-start-requires
@@ -85,7 +85,7 @@ returns-then-not-shares-clause-last c =
       apart = λ later h.
           subst (λ m. EndsApart source (take m es) (drop low es ++ later)) n
           (ends_take source es (low - 1) e (drop low es) (drop low es ++ later) d
-          (parted source e (drop low es) later f (c.loop-low.invariant.whole later h)));
+          (block_diff source e (drop low es) later f (c.loop-low.invariant.whole later h)));
     }
 
 pub start_before_next-start-requires-clause-known : goal.start_before_next-start-requires-clause-known

@@ -1,12 +1,12 @@
 use Rattle.std.proofs.Common.{◌≡◌, ◌++◌, length}
 use Rattle.miette_fix_rows.specs.rules.Blocks.{line_texts}
-use Rattle.miette_fix_rows.specs.views.LineLists.{texts_of}
+use Rattle.miette_fix_rows.specs.views.LineLists.{borrowed_lines}
 use Rattle.miette_fix_rows.proofs.line_lists.lines.Given as goal
 
 abbrev pub invariant-loop-left : goal.invariant-loop-left
 invariant-loop-left l = record {
   left : l.left ≡ length l.rest;
-  lines : texts_of l.list.items ++ line_texts l.rest ≡ line_texts l.bytes;
+  lines : borrowed_lines l.list.items ++ line_texts l.rest ≡ line_texts l.bytes;
 }
 
 abbrev pub decreases-loop-left : goal.decreases-loop-left

@@ -2,7 +2,7 @@ use Rattle.std.proofs.Common.{rules, arith, subst, string_bytes, map}
 use Rattle.std.specs.Option.{option_map}
 use Rattle.std.proofs.lemmas.Result.{on_ok_weaker}
 use Rattle.miette_tree.specs.rules.Tree.{trees}
-use Rattle.miette_tree.specs.views.Owned.{shown_source}
+use Rattle.miette_tree.specs.views.Owned.{ref_source}
 use Rattle.miette_tree.specs.views.Report.{tree_of}
 use Rattle.miette_tree.proofs.Written.{where_written}
 use Rattle.miette_json.proofs.JsonAnswers.{none_so_far, one_more, all_written, at_the_end, report_written, RelatedSoFar}
@@ -24,7 +24,7 @@ push_related-loop-report-preserved g t c =
     let l = c.loop-report in
     let next = next_of (tree_of g.D.Diagnostic.meaning g.S.SourceCode.source) c.args.reports.now l.report-index
     c.report-item.result c.loop-report-test.true c.report-item.is in
-    let so_far = subst (λ ts. RelatedSoFar (option_map (shown_source g.S.SourceCode.source) c.args.source)
+    let so_far = subst (λ ts. RelatedSoFar (option_map (ref_source g.S.SourceCode.source) c.args.source)
     (trees (map (tree_of g.D.Diagnostic.meaning g.S.SourceCode.source) c.args.reports.now)) ts l.first
     (string_bytes c.args.out.now) (string_bytes l.out)) next l.invariant in
     one_more _ _ _ _ l.first _ _ _ _ so_far c.in_ok-push_comma.ensures c.in_ok-push_report.ensures
@@ -33,7 +33,7 @@ pub push_related-returns : goal.push_related-returns
 push_related-returns g t c =
     let l = c.loop-report in
     let value = tree_of g.D.Diagnostic.meaning g.S.SourceCode.source in
-    let inherited = option_map (shown_source g.S.SourceCode.source) c.args.source in
+    let inherited = option_map (ref_source g.S.SourceCode.source) c.args.source in
     on_ok_weaker c.push_str.result (all_written inherited (trees (map value c.args.reports.now)) l.first _ _ _
     (at_the_end value inherited c.args.reports.now _ l.report-index l.first _ _ (omega arith) l.invariant))
     (where_written c.push_str.result _ _ _ c.push_str.ensures.bytes)
@@ -41,8 +41,8 @@ push_related-returns g t c =
 pub push_report-returns : goal.push_report-returns
 push_report-returns g t c =
     let value = tree_of g.D.Diagnostic.meaning g.S.SourceCode.source c.args.report.now in
-    let inherited = option_map (shown_source g.S.SourceCode.source) c.args.inherited in
-    on_ok_weaker c.push_str.result (report_written inherited value _ _ _ _ _ _ _ _ _ _ c.own_or-source.ensures
-    c.labels_of.ensures c.related.ensures.value c.in_ok-push_start.ensures c.in_ok-push_places.ensures
-    c.in_ok-push_attached.ensures c.in_ok-push_list_key.ensures c.in_ok-push_related.ensures)
+    let inherited = option_map (ref_source g.S.SourceCode.source) c.args.inherited in
+    on_ok_weaker c.push_str.result (report_written inherited value _ _ _ _ _ _ _ _ _ _ c.effective_source-source.ensures
+    c.labels_of.ensures c.related.ensures.value c.in_ok-push_start.ensures c.in_ok-push_file_and_labels.ensures
+    c.in_ok-push_snippets_and_fixes.ensures c.in_ok-push_list_key.ensures c.in_ok-push_related.ensures)
     (where_written c.push_str.result _ _ _ c.push_str.ensures.bytes)

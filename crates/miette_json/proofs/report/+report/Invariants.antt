@@ -1,7 +1,7 @@
 use Rattle.std.proofs.Common.{string_bytes, map, drop}
 use Rattle.std.specs.Option.{option_map}
 use Rattle.miette_tree.specs.rules.Tree.{trees}
-use Rattle.miette_tree.specs.views.Owned.{shown_source}
+use Rattle.miette_tree.specs.views.Owned.{ref_source}
 use Rattle.miette_tree.specs.views.Report.{tree_of}
 use Rattle.miette_json.proofs.JsonAnswers.{RelatedSoFar}
 use Rattle.miette_tree.proofs.TreeSizes.{reports_size, tree_size}
@@ -16,5 +16,5 @@ decreases-push_related g l = reports_size g.D.Diagnostic.meaning g.S.SourceCode.
 abbrev pub invariant-push_related-loop-report : goal.invariant-push_related-loop-report
 invariant-push_related-loop-report g l =
     let value = tree_of g.D.Diagnostic.meaning g.S.SourceCode.source in
-    RelatedSoFar (option_map (shown_source g.S.SourceCode.source) l.source) (trees (map value l.reports))
+    RelatedSoFar (option_map (ref_source g.S.SourceCode.source) l.source) (trees (map value l.reports))
     (trees (map value (drop l.report-index l.reports))) l.first (string_bytes l.fn.out) (string_bytes l.out)

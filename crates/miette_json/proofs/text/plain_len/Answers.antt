@@ -1,6 +1,6 @@
 use Rattle.std.proofs.Common.{arith}
 use Rattle.miette_json.specs.steps.EscapedBytes.{is_escaped}
-use Rattle.miette_source_lines.proofs.Blocks.{passed, stopped}
+use Rattle.miette_lines.proofs.Blocks.{passed, stopped}
 use Rattle.miette_json.proofs.text.plain_len.Goals as goal
 
 pub returns-then-escapes-ne0 : goal.returns-then-escapes-ne0

@@ -1,6 +1,6 @@
 use Rattle.std.proofs.Common.{◌≤◌, ◌+◌, ℕ, List, arith, length, drop, subst}
 use Rattle.std.proofs.lemmas.List.{length-drop, take_rest}
-use Rattle.miette_source_lines.proofs.Firsts.{line_parted}
+use Rattle.miette_lines.proofs.Firsts.{line_parted}
 use Rattle.miette_labels.proofs.line_sweep.line_at.Goals as goal
 
 pub returns-clause-parted : goal.returns-clause-parted

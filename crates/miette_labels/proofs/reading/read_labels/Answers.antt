@@ -47,11 +47,11 @@ loop-turn-preserved g c =
     }) =
     own_read c.args.context (g.S.SourceCode.source c.args.source.now) c.args.labels.now
     (slice_index_or c.args.order.now c.loop-turn.turn-index (record { index = 0; offset = 0 })).index
-    c.index-labels-turn.result c.inner.result.now _ c.lines_around-lines.result c.some_own-own.result
+    c.index-labels-turn.result c.inner.result.now _ c.label_context-lines.result c.any_own_context-own.result
     inside c.index-labels-turn.is refl c.inner-in-Ok.ensures c.primary.ensures c.inner.ensures c.in-Ok.ensures.0
-    c.in-Ok.ensures.1 c.lines_around-lines.ensures c.some_own-own.ensures in
+    c.in-Ok.ensures.1 c.label_context-lines.ensures c.any_own_context-own.ensures in
     let source = g.S.SourceCode.source c.args.source.now in
-    let lines = c.lines_around-lines.result in
+    let lines = c.label_context-lines.result in
     let contents_are : AreContents lines source c.inner.result.now c.in-Ok.contents =
     record { accepted = c.in-Ok.ensures.0; is = c.in-Ok.ensures.1 } in
     record {

@@ -1,4 +1,4 @@
-use Rattle.miette_source_lines.specs.views.Known.{IsKnown}
+use Rattle.miette_lines.specs.views.Known.{IsKnown}
 use Rattle.miette_labels.proofs.RefusedLabel.{AreReadTo}
 use Rattle.miette_labels.proofs.reading.read_labels.Given as goal
 

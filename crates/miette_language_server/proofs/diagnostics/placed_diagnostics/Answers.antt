@@ -1,5 +1,5 @@
 use Rattle.std.proofs.Common.{◌∙◌, ap}
-use Rattle.miette_lint.specs.rules.Coded.{coded_findings}
+use Rattle.miette_lint.specs.rules.FindingWithFixes.{coded_findings}
 use Rattle.miette_language_server.proofs.Lists.{told_all}
 use Rattle.miette_language_server.proofs.diagnostics.placed_diagnostics.Goals as goal
 

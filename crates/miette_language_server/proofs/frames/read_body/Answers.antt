@@ -2,7 +2,7 @@ use Rattle.std.proofs.Common.{◌≡◌, ◌<◌, ◌∙◌, ◌++◌, ℕ, arit
 use Rattle.std.proofs.KnownBytes.{Consumes-trans}
 use Rattle.std.proofs.lemmas.Grind.{common_steps}
 use Rattle.std.specs.Io.KnownBytes.{Consumes}
-use Rattle.miette_devices.specs.declared.fault.Fault.TheVariants.{Read}
+use Rattle.miette_devices.specs.declared.fault.ProgramError.TheVariants.{Read}
 use Rattle.miette_language_server.proofs.Bodies.{too_short}
 use Rattle.miette_language_server.proofs.Clients.{not_failed, still_sent}
 use Rattle.miette_language_server.proofs.frames.read_body.Goals as goal

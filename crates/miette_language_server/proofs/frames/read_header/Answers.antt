@@ -1,8 +1,8 @@
 use Rattle.std.proofs.Common.{◌≡◌, [], ◌∙◌, Some, ap, false, subst, sym, true}
 use Rattle.std.specs.Option.{option_or}
-use Rattle.miette_language_server.specs.rules.Frames.{is_empty_row, row_length}
-use Rattle.miette_language_server.specs.views.Answered.{IsHeaderFrom, IsNext}
-use Rattle.miette_devices.specs.declared.fault.Fault.TheVariants.{Read}
+use Rattle.miette_language_server.specs.rules.Frames.{ends_header, content_length_in}
+use Rattle.miette_language_server.specs.views.Answered.{IsHeaderFrom, IsNextByte}
+use Rattle.miette_devices.specs.declared.fault.ProgramError.TheVariants.{Read}
 use Rattle.miette_language_server.proofs.Clients.{not_failed, still_sent}
 use Rattle.miette_language_server.proofs.Headers.{more_of_row, more_rows, no_more_rows}
 use Rattle.miette_language_server.proofs.frames.read_header.Goals as goal
@@ -12,7 +12,8 @@ loop-preserved-then-byte-ne10 g c =
     let known = c.loop.known in
     let old = g.R.Read.remaining c.loop.client.reader.inner in
     let mid = g.R.Read.remaining c.next_byte.new.client.reader.inner in
-    let next : IsNext old mid (Some c.in-Some.byte) = subst (IsNext old mid) c.in-Some.is c.in_ok-byte.ensures.next in
+    let next : IsNextByte old mid (Some c.in-Some.byte) = subst (IsNextByte old mid) c.in-Some.is
+    c.in_ok-byte.ensures.next in
     record {
       header = λ new size h. c.loop.invariant.header new size
           (more_of_row known c.loop.row.items c.in-Some.byte old mid new size c.if-byte-ne10.true next
@@ -28,11 +29,13 @@ loop-preserved g c =
     let row = c.loop.row.items in
     let old = g.R.Read.remaining c.loop.client.reader.inner in
     let mid = g.R.Read.remaining c.next_byte.new.client.reader.inner in
-    let next : IsNext old mid (Some c.in-Some.byte) = subst (IsNext old mid) c.in-Some.is c.in_ok-byte.ensures.next in
-    let some : is_empty_row row ≡ false =
-    ap is_empty_row (sym c.as_slice.ensures.value) ∙ sym c.is_empty_row.ensures ∙ c.if-is_empty_row.false in
-    let later : c.or-known.result ≡ option_or (row_length row) known = c.or-known.ensures
-    ∙ ap (λ o. option_or o known) (c.row_length.ensures ∙ ap row_length c.as_slice-in-loop.ensures.value) in
+    let next : IsNextByte old mid (Some c.in-Some.byte) = subst (IsNextByte old mid) c.in-Some.is
+    c.in_ok-byte.ensures.next in
+    let some : ends_header row ≡ false =
+    ap ends_header (sym c.as_slice.ensures.value) ∙ sym c.ends_header.ensures ∙ c.if-ends_header.false in
+    let later : c.or-known.result ≡ option_or (content_length_in row) known = c.or-known.ensures
+    ∙ ap (λ o. option_or o known) (c.content_length_in.ensures ∙ ap content_length_in c.as_slice-in-loop.ensures.value)
+    in
     record {
       header = λ new size h. c.loop.invariant.header new size
           (more_rows known row c.in-Some.byte old mid new size c.if-byte-ne10.false some next
@@ -43,13 +46,14 @@ loop-preserved g c =
       writer = c.next_byte.ensures.writer ∙ c.loop.invariant.writer;
     }
 
-pub returns-then-is_empty_row-clause-header : goal.returns-then-is_empty_row-clause-header
-returns-then-is_empty_row-clause-header g c =
+pub returns-then-ends_header-clause-header : goal.returns-then-ends_header-clause-header
+returns-then-ends_header-clause-header g c =
     let known = c.loop.known in
     let row = c.loop.row.items in
     let old = g.R.Read.remaining c.loop.client.reader.inner in
     let mid = g.R.Read.remaining c.next_byte.new.client.reader.inner in
-    let next : IsNext old mid (Some c.in-Some.byte) = subst (IsNext old mid) c.in-Some.is c.in_ok-byte.ensures.next in
-    let none : is_empty_row row ≡ true =
-    ap is_empty_row (sym c.as_slice.ensures.value) ∙ sym c.is_empty_row.ensures ∙ c.if-is_empty_row.true in
+    let next : IsNextByte old mid (Some c.in-Some.byte) = subst (IsNextByte old mid) c.in-Some.is
+    c.in_ok-byte.ensures.next in
+    let none : ends_header row ≡ true =
+    ap ends_header (sym c.as_slice.ensures.value) ∙ sym c.ends_header.ensures ∙ c.if-ends_header.true in
     c.loop.invariant.header mid known (no_more_rows known row c.in-Some.byte old mid c.if-byte-ne10.false none next)

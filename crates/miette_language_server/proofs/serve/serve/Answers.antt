@@ -1,5 +1,5 @@
 use Rattle.std.proofs.Common.{Some, None, refl, subst, sym}
-use Rattle.miette_language_server.specs.rules.Session.{State, first_state}
+use Rattle.miette_language_server.specs.rules.Session.{SessionState, first_state}
 use Rattle.miette_language_server.specs.views.Served.{GoesOn, IsTurn, moment}
 use Rattle.miette_language_server.proofs.Beginnings.{on_err}
 use Rattle.miette_language_server.proofs.Begun.{begun_none, begun_whole, goes_still}
@@ -12,7 +12,7 @@ loop-init g c =
     let first = moment (first_state c.args.width) (g.R.Read.remaining c.args.client.now.reader.inner)
     (g.W.Write.contents c.args.client.now.writer.inner) in
     record {
-      goes = subst (λ (s : State). GoesOn first (moment s first.input first.output)) (sym c.new-session.ensures)
+      goes = subst (λ (s : SessionState). GoesOn first (moment s first.input first.output)) (sym c.new-session.ensures)
           (goes_still first);
       ready = c.requires;
     }

@@ -3,12 +3,12 @@ use Rattle.std.specs.Io.KnownBytes.{Appends}
 use Rattle.serde_json.specs.View.{view}
 use Rattle.serde_json.specs.Written.{compact_text}
 use Rattle.miette_devices.specs.views.Device.{TakesBeginning}
-use Rattle.miette_language_server.specs.declared.session.Outcome.{Outcome}
-use Rattle.miette_language_server.specs.declared.session.Outcome.TheVariants.{Ended, Nothing, Written}
+use Rattle.miette_language_server.specs.declared.session.ServerOutcome.{ServerOutcome}
+use Rattle.miette_language_server.specs.declared.session.ServerOutcome.TheVariants.{Ended, Nothing, Written}
 use Rattle.miette_language_server.specs.rules.Frames.{framed}
-use Rattle.miette_language_server.specs.rules.Session.{State, step}
+use Rattle.miette_language_server.specs.rules.Session.{SessionState, step}
 use Rattle.miette_language_server.specs.views.Answered.{IsFirstFrame, IsStep}
-use Rattle.miette_language_server.specs.views.Served.{IsBegun, IsServed}
+use Rattle.miette_language_server.specs.views.Served.{IsServiceBegun, IsServed}
 use Rattle.miette_language_server.proofs.Beginnings.{on_err}
 use Rattle.miette_language_server.proofs.Begun.{begun_more, begun_none, begun_on, begun_part}
 use Rattle.miette_language_server.proofs.Clients.{held, left, still_sound}
@@ -17,10 +17,10 @@ use Rattle.miette_language_server.proofs.Turns.{served_ended, served_more, serve
 use Rattle.miette_language_server.proofs.serve.turn.Goals as goal
 
 -- a step on a body, and what it came to
-step_done : (s t : State) (slice body : List ℕ) (outcome told : Outcome) → slice ≡ body
+step_done : (s t : SessionState) (slice body : List ℕ) (outcome told : ServerOutcome) → slice ≡ body
     → IsStep (step s slice) t outcome → outcome ≡ told → IsStep (step s body) t told
 step_done s t slice body outcome told same done is =
-    subst (λ (o : Outcome). IsStep (step s body) t o) is (subst (λ bs. IsStep (step s bs) t outcome) same done)
+    subst (λ (o : ServerOutcome). IsStep (step s body) t o) is (subst (λ bs. IsStep (step s bs) t outcome) same done)
 
 pub returns-in_err-frame-clause-begun : goal.returns-in_err-frame-clause-begun
 returns-in_err-frame-clause-begun g c =
@@ -58,7 +58,7 @@ returns-in-Nothing-clause-served g c =
       served = λ v status h. served_on s t old new w v body status first is
           (subst (λ (u : Option (List ℕ)). IsServed t new u v status) same h);
       begun = λ v h. begun_on s t old new w v body first is
-          (subst (λ (u : Option (List ℕ)). IsBegun t new u v) same h);
+          (subst (λ (u : Option (List ℕ)). IsServiceBegun t new u v) same h);
     }
 
 pub returns-in-Ended-clause-served : goal.returns-in-Ended-clause-served

@@ -1,6 +1,6 @@
 use Rattle.std.proofs.lemmas.Result.{on_ok_weaker}
 use Rattle.miette_snippet_rules.specs.rules.Gutters.{break_gutter}
-use Rattle.miette_frames.specs.views.LineContexts.{settings, multi_labels}
+use Rattle.miette_snippet_frames.specs.views.LineContexts.{settings, multi_labels}
 use Rattle.miette_layout.proofs.LineRows.{break_put}
 use Rattle.miette_layout.proofs.line.push_break_row.Goals as goal
 

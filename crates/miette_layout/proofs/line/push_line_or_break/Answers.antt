@@ -1,54 +1,54 @@
-use Rattle.miette_page.specs.views.Printouts.{◌⊕◌}
+use Rattle.miette_style.specs.views.Printouts.{◌⊕◌}
 use Rattle.std.proofs.Common.{◌≡◌, ℕ, List, Option, [], ◌∷◌, ◌++◌, ◌∙◌, false, map, ap, sym, option_map, rules}
 use Rattle.std.proofs.lemmas.Result.{on_ok_weaker}
-use Rattle.miette_page.specs.rules.Rows.{Row}
-use Rattle.miette_page.specs.views.Tokens.{rows_tokens}
-use Rattle.miette_label_rules.specs.rules.Answers.{Highlight}
-use Rattle.miette_cells.specs.rules.Cells.{Cell}
-use Rattle.miette_label_rules.specs.rules.Labels.{closing_labels}
-use Rattle.miette_snippet_rules.specs.rules.CutLines.{Stretch, cut_line, dots, dots_in, shown_marks, shown_runs}
-use Rattle.miette_snippet_rules.specs.rules.CutEnds.{mark_ends, spread_ends}
-use Rattle.miette_snippet_rules.specs.rules.Marks.{Mark, marks}
-use Rattle.miette_snippet_rules.specs.rules.Drawing.{marked_rows}
+use Rattle.miette_style.specs.rules.Rows.{Row}
+use Rattle.miette_style.specs.views.Tokens.{rows_tokens}
+use Rattle.miette_labels.specs.rules.Answers.{Highlight}
+use Rattle.miette_columns.specs.rules.Cells.{Cell}
+use Rattle.miette_labels.specs.rules.Labels.{closing_labels}
+use Rattle.miette_snippet_rules.specs.rules.CutLines.{LinePart, cut_line, dots, dots_width, row_underlines, shown_runs}
+use Rattle.miette_snippet_rules.specs.rules.LabelColumns.{underline_ends, multi_line_ends}
+use Rattle.miette_snippet_rules.specs.rules.Underlines.{Underline, marks}
+use Rattle.miette_snippet_rules.specs.rules.LabelRows.{underline_rows}
 use Rattle.miette_snippet_rules.specs.rules.Gutters.{closing_rows}
 use Rattle.miette_snippet_rules.specs.rules.Frames.{other_start}
 use Rattle.miette_snippet_rules.specs.rules.Highlighting.{highlight_of}
 use Rattle.miette_snippet_rules.specs.rules.SnippetLayout.{before_each, cut_ends, line_cut, line_or_break_of}
 use Rattle.miette_snippet_rules.specs.rules.SnippetLayout.{text_of_cells}
-use Rattle.miette_snippet_rules.specs.declared.stretch.Stretch.{Stretch as MadeStretch}
-use Rattle.miette_frames.specs.declared.line_context.LineContext.{LineContext}
+use Rattle.miette_snippet_rules.specs.declared.line_part.LinePart.{LinePart as MadePart}
+use Rattle.miette_snippet_frames.specs.declared.line_context.LineContext.{LineContext}
 use Rattle.miette_snippet_rules.specs.views.Cuts.{made_runs, measure}
-use Rattle.miette_snippet_rules.specs.views.MadeMarks.{mark_of}
-use Rattle.miette_frames.specs.views.LineContexts.{settings, multi_labels, before_marks}
+use Rattle.miette_snippet_rules.specs.views.MadeUnderlines.{underline_of}
+use Rattle.miette_snippet_frames.specs.views.LineContexts.{settings, multi_labels, before_underlines}
 use Rattle.miette_layout.specs.steps.ShownLines.{number_row, shown_cells}
 use Rattle.miette_layout.specs.steps.ShownLines.{labels_alone}
-use Rattle.miette_source_lines.specs.views.Walking.{line_of_text}
-use Rattle.miette_cuts.proofs.CutStretches.{shown_made_anchored}
-use Rattle.miette_line_printing.proofs.CutText.{shown_made}
+use Rattle.miette_lines.specs.views.Walking.{line_of_text}
+use Rattle.miette_snippet_cuts.proofs.CutStretches.{shown_made_anchored}
+use Rattle.miette_snippet_rules.proofs.CutText.{shown_made}
 use Rattle.miette_layout.proofs.LineRows.{line_put}
 use Rattle.miette_layout.proofs.line.push_line_or_break.Goals as goal
 use Rattle.miette_snippet_rules.specs.rules.SnippetLayout.{line_in, line_shown}
 
 -- how the context's line is cut around these marks of it, by the counts of its stretches
-abbrev cut_by : LineContext → List Cell → List Mark → Option (List MadeStretch)
-cut_by context cells ms = option_map (map measure) (cut_line (dots_in (settings context).theme.characters)
-    (settings context).layout.line_columns (mark_ends ms ++ spread_ends (line_of_text context.line)
+abbrev cut_by : LineContext → List Cell → List Underline → Option (List MadePart)
+cut_by context cells ms = option_map (map measure) (cut_line (dots_width (settings context).theme.characters)
+    (settings context).layout.line_columns (underline_ends ms ++ multi_line_ends (line_of_text context.line)
     (text_of_cells cells context.line.text_end) (multi_labels context)) cells)
 
-pub push_marked_rows-requires : goal.push_marked_rows-requires
-push_marked_rows-requires g c =
+pub push_underline_rows-requires : goal.push_underline_rows-requires
+push_underline_rows-requires g c =
     let context = c.args.context.now in
     let shown = c.args.shown.now in
     let cells : List Cell = shown_cells context shown in
-    let own : List Mark = marks (text_of_cells cells context.line.text_end) (labels_alone context shown) in
-    let o : Option (List Stretch) = line_cut (settings context) (line_of_text context.line) cells
+    let own : List Underline = marks (text_of_cells cells context.line.text_end) (labels_alone context shown) in
+    let o : Option (List LinePart) = line_cut (settings context) (line_of_text context.line) cells
     (labels_alone context shown) (multi_labels context) in
     let made : option_map (λ v. v.items) c.in_ok-cut.cut ≡ option_map (map measure) o =
-    c.in_ok-cut.ensures ∙ ap (λ ms. cut_by context cells (map mark_of ms)) c.deref.ensures.value
+    c.in_ok-cut.ensures ∙ ap (λ ms. cut_by context cells (map underline_of ms)) c.deref.ensures.value
     ∙ ap (cut_by context cells) c.in_ok-whole.ensures.marks in
-    rw c.deref-2.ensures.value (shown_made_anchored c.dots_in-dots.result o own c.in_ok-whole.whole.items
+    rw c.deref-2.ensures.value (shown_made_anchored c.dots_width-dots.result o own c.in_ok-whole.whole.items
     c.in_ok-marks.marks.items c.in_ok-whole.ensures.marks c.in_ok-whole.ensures.anchored
-    (c.in_ok-marks.ensures o made ∙ ap (shown_marks c.dots_in-dots.result o) c.in_ok-whole.ensures.marks))
+    (c.in_ok-marks.ensures o made ∙ ap (row_underlines c.dots_width-dots.result o) c.in_ok-whole.ensures.marks))
 
 pub returns : goal.returns
 returns g c =
@@ -56,38 +56,38 @@ returns g c =
     let shown = c.args.shown.now in
     let cells : List Cell = shown_cells context shown in
     let pieces : List Highlight = map highlight_of shown.pieces.now in
-    let own : List Mark = marks (text_of_cells cells context.line.text_end) (labels_alone context shown) in
-    let many : ℕ = dots_in (settings context).theme.characters in
-    let o : Option (List Stretch) = line_cut (settings context) (line_of_text context.line) cells
+    let own : List Underline = marks (text_of_cells cells context.line.text_end) (labels_alone context shown) in
+    let many : ℕ = dots_width (settings context).theme.characters in
+    let o : Option (List LinePart) = line_cut (settings context) (line_of_text context.line) cells
     (labels_alone context shown) (multi_labels context) in
     let kept : shown.left_out ≡ false = search rules in
-    let drawn : List Mark → List Row = λ ms. before_each (before_marks context)
-    (marked_rows (settings context) ms) in
+    let drawn : List Underline → List Row = λ ms. before_each (before_underlines context)
+    (underline_rows (settings context) ms) in
     let made : option_map (λ v. v.items) c.in_ok-cut.cut ≡ option_map (map measure) o =
-    c.in_ok-cut.ensures ∙ ap (λ ms. cut_by context cells (map mark_of ms)) c.deref.ensures.value
+    c.in_ok-cut.ensures ∙ ap (λ ms. cut_by context cells (map underline_of ms)) c.deref.ensures.value
     ∙ ap (cut_by context cells) c.in_ok-whole.ensures.marks in
     let text : made_runs (dots (settings context).theme) (option_map (λ v. v.items) c.in_ok-cut.cut) pieces cells
     ≡ shown_runs (dots (settings context).theme) o pieces cells =
     ap (λ x. made_runs (dots (settings context).theme) x pieces cells) made
     ∙ shown_made (dots (settings context).theme) many (settings context).layout.line_columns
     (cut_ends (line_of_text context.line) cells (labels_alone context shown) (multi_labels context)) cells pieces in
-    let moved : map mark_of c.in_ok-marks.marks.items ≡ shown_marks many o own = c.in_ok-marks.ensures o made
-    ∙ ap (shown_marks c.dots_in-dots.result o) c.in_ok-whole.ensures.marks
-    ∙ ap (λ n. shown_marks n o own) c.dots_in-dots.ensures in
-    on_ok_weaker c.push_closings.result (λ h.
+    let moved : map underline_of c.in_ok-marks.marks.items ≡ row_underlines many o own = c.in_ok-marks.ensures o made
+    ∙ ap (row_underlines c.dots_width-dots.result o) c.in_ok-whole.ensures.marks
+    ∙ ap (λ n. row_underlines n o own) c.dots_width-dots.ensures in
+    on_ok_weaker c.push_end_texts.result (λ h.
     line_put (number_row context shown (shown_runs (dots (settings context).theme) o pieces cells))
-    (drawn (shown_marks many o own))
+    (drawn (row_underlines many o own))
     (before_each (other_start (settings context) context.frame.number_width)
     (closing_rows (settings context) (line_of_text context.line) context.gutter
     (multi_labels context) (closing_labels (line_of_text context.line) (multi_labels context))))
-    c.args.page.now c.push_number_row.new.page c.push_marked_rows.new.page c.push_closings.new.page
+    c.args.page.now c.push_number_row.new.page c.push_underline_rows.new.page c.push_end_texts.new.page
     (c.in_ok-push_number_row.ensures ∙ ap (λ runs. c.args.page.now ⊕ rows_tokens (number_row context shown runs ∷ []))
     text)
-    (c.in_ok-push_marked_rows.ensures ∙ ap (λ ms. c.push_number_row.new.page
-    ⊕ rows_tokens (drawn (map mark_of ms))) c.deref-2.ensures.value
+    (c.in_ok-push_underline_rows.ensures ∙ ap (λ ms. c.push_number_row.new.page
+    ⊕ rows_tokens (drawn (map underline_of ms))) c.deref-2.ensures.value
     ∙ ap (λ ms. c.push_number_row.new.page ⊕ rows_tokens (drawn ms)) moved)
     h
     ∙ ap (λ out. c.args.page.now ⊕ rows_tokens (line_or_break_of shown.gap out
     (line_in (settings context) context.frame.number_width context.gutter (line_of_text context.line)
     (multi_labels context))
-    (line_shown shown.number (labels_alone context shown) cells pieces))) (sym kept)) c.push_closings.ensures
+    (line_shown shown.number (labels_alone context shown) cells pieces))) (sym kept)) c.push_end_texts.ensures

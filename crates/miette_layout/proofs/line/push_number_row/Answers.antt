@@ -7,8 +7,8 @@ use Rattle.miette_snippet_rules.specs.rules.Frames.{number_start}
 use Rattle.miette_snippet_rules.specs.rules.Gutters.{number_gutter}
 use Rattle.miette_snippet_rules.specs.rules.Highlighting.{highlight_of}
 use Rattle.miette_snippet_rules.specs.views.LineTexts.{text_cells}
-use Rattle.miette_frames.specs.views.LineContexts.{settings, multi_labels}
-use Rattle.miette_source_lines.specs.views.Walking.{line_of_text}
+use Rattle.miette_snippet_frames.specs.views.LineContexts.{settings, multi_labels}
+use Rattle.miette_lines.specs.views.Walking.{line_of_text}
 use Rattle.miette_layout.proofs.LineRows.{number_row_put}
 use Rattle.miette_layout.proofs.line.push_number_row.Goals as goal
 

@@ -1,5 +1,5 @@
 use Rattle.std.proofs.lemmas.Result.{on_ok_weaker}
-use Rattle.miette_frames.specs.views.LineContexts.{settings}
+use Rattle.miette_snippet_frames.specs.views.LineContexts.{settings}
 use Rattle.miette_layout.proofs.LineRows.{number_put}
 use Rattle.miette_layout.proofs.line.push_number_start.Goals as goal
 

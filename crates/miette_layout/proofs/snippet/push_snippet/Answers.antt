@@ -1,15 +1,15 @@
 use Rattle.std.proofs.Common.{ℕ, ◌≡◌, ◌+◌, List, ◌∷◌, ap, ◌∙◌, sym, subst, length, map}
 use Rattle.std.specs.Option.{option_map}
-use Rattle.miette_folds.specs.views.Spreads.{spread_of}
-use Rattle.miette_frames.specs.views.Places.{place_at}
-use Rattle.miette_snippet_rules.specs.views.Settings.{settings_of}
-use Rattle.miette_label_rules.specs.views.GivenLabels.{drawn_of}
-use Rattle.miette_frames.specs.views.ContentsRows.{PutsRows, contents_snippet}
+use Rattle.miette_snippet_folds.specs.views.ExtentIndex.{extent_view}
+use Rattle.miette_snippet_frames.specs.views.Places.{place_at}
+use Rattle.miette_snippet_rules.specs.views.SnippetSettings.{settings_of}
+use Rattle.miette_labels.specs.views.ProgramLabels.{drawn_of}
+use Rattle.miette_snippet_frames.specs.views.ContentsRows.{PutsRows, contents_snippet}
 use Rattle.miette_labels.specs.views.Sweeping.{IsAt}
 use Rattle.miette_highlight.specs.rules.HighlighterCalls.{Call, Leads, restarted}
 use Rattle.miette_snippet_rules.specs.rules.Highlighting.{follows, leaves_plain}
-use Rattle.miette_page.specs.rules.Rows.{Row}
-use Rattle.miette_label_rules.specs.rules.Answers.{Highlight}
+use Rattle.miette_style.specs.rules.Rows.{Row}
+use Rattle.miette_labels.specs.rules.Answers.{Highlight}
 use Rattle.miette_layout.proofs.ReadRows.{contents_texts, restarted_first}
 use Rattle.miette_layout.proofs.snippet.push_snippet.Goals as goal
 
@@ -28,7 +28,7 @@ returns-clause-rows g c =
     let now : List Call → Type 0 = follows g.H.Highlighter.may_follow c.push_framed.new.highlighter in
     let blank = leaves_plain g.H.Highlighter.is_blank c.restart.new.highlighter in
     let drawn : List (List Highlight) → List Row = contents_snippet (settings_of drawing.settings)
-    (map spread_of drawing.spreads.now) (map drawn_of drawing.placed.now) contents
+    (map extent_view drawing.label_extents.now) (map drawn_of drawing.placed.now) contents
     (option_map place_at c.args.snippet.now.place) in
     subst (λ b. PutsRows b (λ calls. Leads had (restarted contents ∷ calls) now) (contents_texts contents) drawn
     c.args.page.now c.push_framed.new.page) c.restart.ensures.stays

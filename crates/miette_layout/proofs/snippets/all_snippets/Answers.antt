@@ -1,6 +1,6 @@
 use Rattle.std.proofs.lemmas.Result.{IfOk-weaker}
 use Rattle.miette_snippet_rules.specs.rules.Highlighting.{leaves_plain, AreCallsOn}
-use Rattle.miette_snippet_rules.specs.views.Settings.{settings_of}
+use Rattle.miette_snippet_rules.specs.views.SnippetSettings.{settings_of}
 use Rattle.miette_layout.proofs.AskedEnds.{given_asked}
 use Rattle.miette_layout.proofs.snippets.all_snippets.Goals as goal
 

@@ -1,7 +1,7 @@
-use Rattle.miette_label_rules.specs.rules.Groups.{in_order}
-use Rattle.miette_snippet_rules.specs.rules.Folds.{spreads_of}
+use Rattle.miette_labels.specs.rules.Groups.{in_order}
+use Rattle.miette_snippet_rules.specs.rules.FoldedLabels.{extents_of_labels}
 use Rattle.miette_snippet_rules.specs.rules.SnippetLayout.{settings_around}
-use Rattle.miette_snippet_rules.specs.views.Settings.{settings_of}
+use Rattle.miette_snippet_rules.specs.views.SnippetSettings.{settings_of}
 use Rattle.std.proofs.Common.{◌≡◌}
 use Rattle.miette_snippet_rules.specs.rules.Highlighting.{leaves_plain, follows}
 use Rattle.miette_labels.specs.views.Reads.{AreGroups}
@@ -14,7 +14,7 @@ invariant-loop-group g l = record {
   grouped : AreGroups l.fn.settings.layout.now.context_lines (g.S.SourceCode.source l.fn.source)
       (in_order l.fn.given.labels.now) l.group-items;
   drawn : AreDrawn (settings_around (settings_of l.fn.settings) (in_order l.fn.given.labels.now))
-      (spreads_of l.fn.settings.layout.now.label_lines l.fn.settings.layout.now.context_lines
+      (extents_of_labels l.fn.settings.layout.now.label_lines l.fn.settings.layout.now.context_lines
       (g.S.SourceCode.source l.fn.source)
       (in_order l.fn.given.labels.now)) (g.S.SourceCode.source l.fn.source) l.fn.given.labels.now
       (leaves_plain g.H.Highlighter.is_blank l.initial.highlighter)

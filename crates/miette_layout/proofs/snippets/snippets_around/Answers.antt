@@ -1,8 +1,8 @@
 use Rattle.std.proofs.Common.{ap, map, ◌∙◌}
 use Rattle.miette_labels.specs.declared.reading.ReadLabel.{ReadLabel}
 use Rattle.miette_labels.proofs.ReadOrder.{all_in_order}
-use Rattle.miette_snippet_rules.specs.views.Settings.{settings_of}
-use Rattle.miette_label_rules.specs.views.GivenLabels.{label_at}
+use Rattle.miette_snippet_rules.specs.views.SnippetSettings.{settings_of}
+use Rattle.miette_labels.specs.views.ProgramLabels.{label_at}
 use Rattle.miette_snippet_rules.specs.rules.Highlighting.{leaves_plain, follows}
 use Rattle.miette_highlight.specs.rules.HighlighterCalls.{Leads}
 use Rattle.miette_layout.proofs.SnippetSequence.{gives_refused}
@@ -26,7 +26,7 @@ returns-clause-gives g c =
     (λ calls. Leads (follows g.H.Highlighter.may_follow c.args.highlighter.now) calls
     (follows g.H.Highlighter.may_follow c.args.highlighter.now)) c.in_ok-reads.field-0 c.in-Refused.index
     c.in-Refused.refusal c.index-labels-index.result
-    c.name_of.result.now c.args.page c.push_refused_row.new.page
+    c.reason_name.result.now c.args.page c.push_refused_label.new.page
     c.in_ok-reads.ensures c.in-Refused.is (ap (λ order. map (λ turn. label_at c.args.labels.now turn.index) order)
-    c.deref.ensures.value ∙ c.in_ok-order.ensures.order) c.index-labels-index.is c.name_of.ensures
-    c.in_ok-push_refused_row-in-Refused.ensures (λ later k. k)
+    c.deref.ensures.value ∙ c.in_ok-order.ensures.order) c.index-labels-index.is c.reason_name.ensures
+    c.in_ok-push_refused_label-in-Refused.ensures (λ later k. k)

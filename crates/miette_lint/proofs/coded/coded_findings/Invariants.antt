@@ -1,7 +1,7 @@
 use Rattle.std.proofs.Common.{length, map}
 use Rattle.std.specs.List.{flat_map}
-use Rattle.miette_source_lines.specs.rules.Lines.{lines_of}
-use Rattle.miette_lint.specs.rules.Coded.{line_coded}
+use Rattle.miette_lines.specs.rules.Lines.{lines_of}
+use Rattle.miette_lint.specs.rules.FindingWithFixes.{line_coded}
 use Rattle.miette_lint.specs.views.Found.{coded_of}
 use Rattle.miette_lint.proofs.FindingSteps.{AreLeft}
 use Rattle.miette_lint.proofs.coded.coded_findings.Given as goal

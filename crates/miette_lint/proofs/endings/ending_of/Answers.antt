@@ -1,6 +1,6 @@
 use Rattle.std.proofs.Common.{Option, subst}
-use Rattle.miette_source_lines.specs.declared.lines.LineOfText.{LineOfText}
-use Rattle.miette_source_lines.specs.views.Walking.{GivesLine}
+use Rattle.miette_lines.specs.declared.lines.LineOfText.{LineOfText}
+use Rattle.miette_lines.specs.views.Walking.{GivesLine}
 use Rattle.miette_lint.proofs.FirstEndings.{first_ends}
 use Rattle.miette_lint.proofs.endings.ending_of.Goals as goal
 

@@ -1,6 +1,6 @@
 use Rattle.std.proofs.Common.{ap, length, arith, sym, rules, ◌∙◌}
 use Rattle.std.specs.List.{flat_map}
-use Rattle.miette_source_lines.specs.rules.Lines.{lines_of}
+use Rattle.miette_lines.specs.rules.Lines.{lines_of}
 use Rattle.miette_lint.specs.rules.Fixes.{fixed_line}
 use Rattle.miette_lint.proofs.FindingSteps.{given_line, left_first, left_more, left_none}
 use Rattle.miette_lint.proofs.Proposed.{fixed_applied}

@@ -1,5 +1,5 @@
 use Rattle.std.proofs.Common.{string_bytes}
-use Rattle.miette_source_lines.specs.views.Walking.{line_of_text}
+use Rattle.miette_lines.specs.views.Walking.{line_of_text}
 use Rattle.miette_lint.proofs.ProposalSteps.{ending_proposed}
 use Rattle.miette_lint.proofs.proposals.push_ending.Goals as goal
 

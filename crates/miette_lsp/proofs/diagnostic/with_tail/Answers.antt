@@ -2,9 +2,9 @@ use Rattle.std.proofs.Common.{ap, map, ◌∙◌}
 use Rattle.std.specs.Prelude.{codes}
 use Rattle.miette_sarif.specs.rules.Objects.{listed}
 use Rattle.miette_sarif.specs.views.Artifacts.{artifacts_view}
-use Rattle.miette_sarif.specs.views.Found.{mark_of, proposed_of}
+use Rattle.miette_sarif.specs.views.Findings.{mark_of, applicable_fix_of}
 use Rattle.miette_sarif.specs.views.Values.{pairs_of, values_of}
-use Rattle.miette_lsp.specs.rules.Diagnostics.{data_pairs, fix_values, related_of}
+use Rattle.miette_lsp.specs.rules.Diagnostics.{data_pairs, lsp_fix_values, related_values_of}
 use Rattle.miette_lsp.proofs.Parts.{two_parts}
 use Rattle.miette_lsp.proofs.diagnostic.with_tail.Goals as goal
 
@@ -15,7 +15,7 @@ returns c =
     (listed (codes "relatedInformation") (values_of c.in_ok-related.related.items))
     (data_pairs (values_of c.in_ok-fixes.fixes.items)) _ _ c.in_ok-members.ensures
     (ap (listed (codes "relatedInformation")) (c.in_ok-related.ensures
-    ∙ ap (λ ms. related_of untitled (map mark_of ms)) c.deref.ensures.value))
+    ∙ ap (λ ms. related_values_of untitled (map mark_of ms)) c.deref.ensures.value))
     (ap data_pairs (c.in_ok-fixes.ensures
-    ∙ ap (λ ps. fix_values untitled (map proposed_of ps)) c.deref-2.ensures.value))
+    ∙ ap (λ ps. lsp_fix_values untitled (map applicable_fix_of ps)) c.deref-2.ensures.value))
     c.with_data.ensures

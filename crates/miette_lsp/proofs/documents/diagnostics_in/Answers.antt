@@ -1,5 +1,5 @@
 use Rattle.miette_sarif.specs.views.Artifacts.{artifacts_view}
-use Rattle.miette_sarif.specs.views.Found.{finding_of}
+use Rattle.miette_sarif.specs.views.Findings.{finding_of}
 use Rattle.miette_sarif.specs.views.Values.{json_of, values_of}
 use Rattle.miette_lsp.specs.rules.Diagnostics.{diagnostic}
 use Rattle.miette_lsp.proofs.Filling.{value_more, values_all}

@@ -2,7 +2,7 @@ use Rattle.std.proofs.Common.{Vec, Global, ◌≡◌, [], ap, arith, map, ◌∙
 use Rattle.std.proofs.lemmas.List.{nil_from_length}
 use Rattle.std.specs.Vec.Iter.{into_iter_items}
 use Rattle.miette_sarif.specs.declared.value.Value.{Value}
-use Rattle.miette_sarif.specs.views.Found.{texts_of}
+use Rattle.miette_sarif.specs.views.Findings.{texts_of}
 use Rattle.miette_sarif.specs.views.Values.{values_of}
 use Rattle.miette_lsp.specs.steps.Putting.{documents_of}
 use Rattle.miette_lsp.proofs.Parts.{all_listed}

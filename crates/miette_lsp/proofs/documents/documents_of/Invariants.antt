@@ -1,6 +1,6 @@
 use Rattle.std.proofs.Common.{◌≡◌, ◌++◌, map}
 use Rattle.std.specs.Vec.Iter.{into_iter_items}
-use Rattle.miette_sarif.specs.views.Found.{texts_of}
+use Rattle.miette_sarif.specs.views.Findings.{texts_of}
 use Rattle.miette_sarif.specs.views.Values.{values_of}
 use Rattle.miette_lsp.specs.steps.Putting.{documents_of}
 use Rattle.miette_lsp.proofs.documents.documents_of.Given as goal

@@ -1,6 +1,6 @@
 use Rattle.std.proofs.Common.{ap, sym, ◌∙◌, ◌++◌, length, string_bytes}
 use Rattle.std.proofs.lemmas.Result.{on_ok_weaker}
-use Rattle.miette_fixes.specs.rules.Applying.{refusal}
+use Rattle.miette_fixes.specs.rules.Applying.{edits_error}
 use Rattle.miette_fixes.specs.views.Ordered.{edits_of}
 use Rattle.miette_fixes.proofs.Overlaps.{sorted_inside}
 use Rattle.miette_tree.proofs.Refusals.{applied_inside}
@@ -13,7 +13,7 @@ push_edits-requires c =
     sorted_inside (length c.args.source.now) edits (edits_of c.deref.result.now)
     (ap edits_of c.deref.ensures.value ∙ c.in-Ok.ensures.ok.1)
     (applied_inside (length c.args.source.now) edits
-    (ap (λ bs. refusal (length bs) edits) (sym c.bytes.ensures) ∙ c.in-Ok.ensures.ok.0))
+    (ap (λ bs. edits_error (length bs) edits) (sym c.bytes.ensures) ∙ c.in-Ok.ensures.ok.0))
 
 pub returns-in-Err-OutOfBounds : goal.returns-in-Err-OutOfBounds
 returns-in-Err-OutOfBounds c =

@@ -1,6 +1,6 @@
 use Rattle.std.proofs.Common.{rules}
 use Rattle.std.proofs.lemmas.List.Sorted.{IsNonDecreasingBy-from_sort_by_key, answers_always}
-use Rattle.miette_source_lines.specs.views.Walking.{line_of_text}
+use Rattle.miette_lines.specs.views.Walking.{line_of_text}
 use Rattle.miette_narrated.proofs.Ends.{ended_again}
 use Rattle.miette_narrated.proofs.label_order.ended_on.Goals as goal
 

@@ -1,7 +1,7 @@
 use Rattle.std.proofs.Common.{ℕ, ◌+◌, ◌<◌, ◌≡◌, List, [], ◌∷◌, ◌++◌, get_or, drop, rules, length, sym, ap, ◌∙◌}
 use Rattle.std.proofs.Common.{append_assoc, append-nil}
 use Rattle.std.proofs.lemmas.List.{at_drop_more, at_drop_all, length-append}
-use Rattle.miette_label_rules.specs.declared.placed.PlacedLabel.{PlacedLabel}
+use Rattle.miette_labels.specs.declared.placed.PlacedLabel.{PlacedLabel}
 use Rattle.miette_narrated.specs.declared.label_order.RankedLabel.{RankedLabel}
 use Rattle.miette_narrated.specs.steps.Ends.{ranked_labels}
 use Rattle.miette_narrated.proofs.label_order.with_ranks.Goals as goal

@@ -1,6 +1,6 @@
 use Rattle.std.proofs.Common.{◌≡◌, ℕ, List, ap, sym, ◌∙◌, ◌++◌, string_bytes}
 use Rattle.std.proofs.lemmas.Result.{on_ok_weaker}
-use Rattle.miette_label_rules.specs.declared.placed.PlacedLabel.{PlacedLabel}
+use Rattle.miette_labels.specs.declared.placed.PlacedLabel.{PlacedLabel}
 use Rattle.miette_narrated.specs.steps.Ends.{without_ranks}
 use Rattle.miette_narrated.specs.rules.Labels.{label_rows}
 use Rattle.miette_narrated.specs.steps.Conversions.{ranges_of, narrated_line}

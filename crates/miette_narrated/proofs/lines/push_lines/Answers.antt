@@ -1,8 +1,8 @@
 use Rattle.std.proofs.Common.{Option, ◌≡◌, ◌++◌, ◌∙◌, refl, sym, subst, string_bytes, rules, arith}
-use Rattle.miette_source_lines.specs.declared.lines.LineOfText.{LineOfText}
-use Rattle.miette_source_lines.specs.views.Walking.{GivesLine}
+use Rattle.miette_lines.specs.declared.lines.LineOfText.{LineOfText}
+use Rattle.miette_lines.specs.views.Walking.{GivesLine}
 use Rattle.miette_narrated.specs.declared.label_order.LabelOrder.{LabelOrder}
-use Rattle.miette_narrated.specs.rules.Lines.{rows_of_line}
+use Rattle.miette_narrated.specs.rules.Lines.{narrated_line_rows}
 use Rattle.miette_narrated.specs.steps.Conversions.{ranges_of, narrated_line}
 use Rattle.miette_narrated.specs.steps.Ends.{IsOrder}
 use Rattle.miette_narrated.proofs.Lining.{left_first, left_more, left_none}
@@ -45,7 +45,7 @@ loop-line-preserved c =
           l.invariant.left
           given.0 given.1 c.in_ok-number.ensures (search rules) c.narrated_line-it.ensures
           (subst (λ (o : LabelOrder). string_bytes c.push_shown.new.out ≡ string_bytes l.out
-          ++ rows_of_line (ranges_of o.placed.now) (narrated_line c.narrated_line-it.result)) l.invariant.order
+          ++ narrated_line_rows (ranges_of o.placed.now) (narrated_line c.narrated_line-it.result)) l.invariant.order
           c.in_ok-push_shown.ensures.rows);
       order = c.push_shown.ensures.order ∙ l.invariant.order;
       at = c.in_ok-push_shown.ensures.at;

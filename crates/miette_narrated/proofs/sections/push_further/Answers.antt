@@ -1,5 +1,5 @@
 use Rattle.std.proofs.Common.{rules, arith}
-use Rattle.miette_tree.specs.views.Attached.{section_of}
+use Rattle.miette_tree.specs.views.Attachments.{section_of}
 use Rattle.miette_narrated.proofs.Further.{none_told, next_told, further_told, section_refused}
 use Rattle.miette_narrated.proofs.sections.push_further.Goals as goal
 

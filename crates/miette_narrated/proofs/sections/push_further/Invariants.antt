@@ -1,5 +1,5 @@
 use Rattle.std.proofs.Common.{string_bytes, map, drop}
-use Rattle.miette_tree.specs.views.Attached.{section_of}
+use Rattle.miette_tree.specs.views.Attachments.{section_of}
 use Rattle.miette_narrated.proofs.Further.{FurtherSoFar}
 use Rattle.miette_narrated.proofs.sections.push_further.Given as goal
 

@@ -1,16 +1,16 @@
 use Rattle.std.proofs.Common.{◌≡◌, ◌++◌, ap, ◌∙◌, map, List, string_bytes, subst, sym}
 use Rattle.std.specs.Option.{option_map}
-use Rattle.miette_label_rules.specs.rules.Around.{group_context}
-use Rattle.miette_label_rules.specs.rules.Groups.{in_order}
-use Rattle.miette_label_rules.specs.declared.placed.PlacedLabel.{PlacedLabel}
-use Rattle.miette_labels.specs.views.Placing.{placed_of}
+use Rattle.miette_labels.specs.rules.Around.{group_context}
+use Rattle.miette_labels.specs.rules.Groups.{in_order}
+use Rattle.miette_labels.specs.declared.placed.PlacedLabel.{PlacedLabel}
+use Rattle.miette_labels.specs.views.Placing.{placement_of}
 use Rattle.miette_labels.specs.views.Reads.{AreGroups}
 use Rattle.miette_labels.proofs.GroupsOfReads.{are_grouped}
 use Rattle.miette_narrated.specs.declared.label_order.LabelOrder.{LabelOrder}
 use Rattle.miette_narrated.specs.declared.label_order.RankedLabel.{RankedLabel}
 use Rattle.miette_narrated.specs.rules.Snippets.{snippet}
 use Rattle.miette_narrated.specs.steps.Ends.{AreEnds, IsOrder}
-use Rattle.miette_narrated.specs.steps.Sweeping.{AreOrdered}
+use Rattle.miette_narrated.specs.steps.LabelSweep.{AreOrdered}
 use Rattle.miette_narrated.specs.steps.Conversions.{ranges_of}
 use Rattle.miette_narrated.proofs.Reading.{placed_ordered, groups_more, groups_end, snippets_told, unread_group}
 use Rattle.miette_narrated.proofs.snippets.push_read.Goals as goal
@@ -20,7 +20,7 @@ push_snippet-requires-clause-order g c =
     let source = g.S.SourceCode.source c.args.source.now in
     let placed = c.deref-2.result.now in
     let ordered : AreOrdered placed = placed_ordered c.args.context source c.args.labels.now c.args.reads.now placed
-    c.requires.each c.requires.order (ap (map placed_of) c.deref-2.ensures.value ∙ c.in_ok-placed.ensures) in
+    c.requires.each c.requires.order (ap (map placement_of) c.deref-2.ensures.value ∙ c.in_ok-placed.ensures) in
     let ended : AreEnds placed c.deref-3.result.now =
     subst (λ (es : List RankedLabel). AreEnds placed es) (sym c.deref-3.ensures.value)
     (subst (λ (ps : List PlacedLabel). AreEnds ps c.in_ok-ends.ends.items)
@@ -59,7 +59,7 @@ returns-clause-text g c =
     c.in_ok-groups.ensures (ap (option_map (λ v. v.items)) c.in-Some.is) c.deref-group-items.ensures.value in
     snippets_told c.args.context source c.args.labels.now c.args.reads.now placed groups _ _
     c.data_reach_the_span.ensures c.requires.each c.requires.order
-    (ap (map placed_of) c.deref-2.ensures.value ∙ c.in_ok-placed.ensures)
+    (ap (map placement_of) c.deref-2.ensures.value ∙ c.in_ok-placed.ensures)
     grouped
     (groups_end (group_context c.args.context (in_order c.args.labels.now)) source (ranges_of placed)
     groups l.group-index (string_bytes l.out) _ c.loop-group-test.false l.invariant.rows)

@@ -1,9 +1,9 @@
-use Rattle.miette_label_rules.specs.rules.Around.{group_context}
-use Rattle.miette_label_rules.specs.rules.Groups.{in_order}
+use Rattle.miette_labels.specs.rules.Around.{group_context}
+use Rattle.miette_labels.specs.rules.Groups.{in_order}
 use Rattle.std.proofs.Common.{◌≡◌, ◌++◌, string_bytes, drop, map}
 use Rattle.miette_narrated.specs.steps.Conversions.{ranges_of}
 use Rattle.miette_narrated.specs.rules.Snippets.{snippets_of}
-use Rattle.miette_narrated.specs.steps.Sweeping.{IsUnderWay}
+use Rattle.miette_narrated.specs.steps.LabelSweep.{IsUnderWay}
 use Rattle.miette_narrated.proofs.snippets.push_read.Given as goal
 
 abbrev pub invariant-loop-group : goal.invariant-loop-group

@@ -1,7 +1,7 @@
 use Rattle.std.proofs.Common.{ap, map, ◌∙◌}
 use Rattle.miette_labels.specs.declared.reading.ReadLabel.{ReadLabel}
 use Rattle.miette_labels.proofs.ReadOrder.{all_in_order}
-use Rattle.miette_label_rules.specs.views.GivenLabels.{label_at}
+use Rattle.miette_labels.specs.views.ProgramLabels.{label_at}
 use Rattle.miette_narrated.proofs.Reading.{refused_read}
 use Rattle.miette_narrated.proofs.snippets.push_snippets.Goals as goal
 

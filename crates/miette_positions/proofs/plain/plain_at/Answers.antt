@@ -1,8 +1,8 @@
 use Rattle.std.proofs.Common.{◌∙◌, ap, arith, length, sym, take}
 use Rattle.std.proofs.lemmas.List.{length-drop, length-take}
 use Rattle.std.specs.List.{list_all}
-use Rattle.miette_cells.specs.views.Printable.{is_printable}
-use Rattle.miette_cells.proofs.Prefixes.{prefix_taken}
+use Rattle.miette_columns.specs.views.Printable.{is_printable}
+use Rattle.miette_columns.proofs.Prefixes.{prefix_taken}
 use Rattle.miette_positions.proofs.plain.plain_at.Goals as goal
 
 pub returns-clause-printable : goal.returns-clause-printable

@@ -1,10 +1,10 @@
 use Rattle.std.proofs.Common.{◌≡◌, ◌<◌, ◌≤◌, ◌+◌, ◌∷◌, ◌∙◌, ℕ, List, ap, sym, subst, arith, rules, refl, drop, length}
 use Rattle.std.proofs.Common.{eqb-true}
 use Rattle.std.proofs.lemmas.List.{length-drop, nil_from_length}
-use Rattle.miette_cells.proofs.Stepping.{made}
-use Rattle.miette_positions.specs.declared.place.Stop.{Stop}
+use Rattle.miette_columns.proofs.Stepping.{made}
+use Rattle.miette_positions.specs.declared.position.Stop.{Stop}
 use Rattle.miette_positions.specs.rules.Stops.{moved_by, stops_from}
-use Rattle.miette_positions.specs.steps.Marks.{IsWithin}
+use Rattle.miette_positions.specs.steps.Samples.{IsWithin}
 use Rattle.miette_positions.proofs.Stepping.{first_at, lf_is, pair_parts, stops_end, stops_one, stops_two}
 use Rattle.miette_positions.proofs.Stepping.{within_moved, within_one}
 use Rattle.miette_positions.proofs.stops.next_stop.Goals as goal

@@ -3,7 +3,7 @@ use Rattle.std.proofs.Common.{ap, rules, refl}
 use Rattle.std.specs.Prelude.{string_bytes}
 use Rattle.std.proofs.lemmas.Slice.Eq.{slice_eq-Decides}
 use Rattle.std.proofs.lemmas.Bool.Decides.{Decides-and}
-use Rattle.miette_basics.proofs.Equality.{lifted, options, texts}
+use Rattle.miette_lines.proofs.Equality.{lifted, options, texts}
 use Rattle.miette_protocol.proofs.diagnostic.diagnostic_equality_law.Goals as goal
 
 pub returns : goal.returns

@@ -3,7 +3,7 @@ use Rattle.std.proofs.Common.{ap, refl}
 use Rattle.std.specs.Cmp.{unsigned_Decides, booleans_Decides}
 use Rattle.std.proofs.lemmas.Slice.Eq.{slice_eq-Decides}
 use Rattle.std.proofs.lemmas.Bool.Decides.{Decides-and}
-use Rattle.miette_basics.proofs.Equality.{options}
+use Rattle.miette_lines.proofs.Equality.{options}
 use Rattle.miette_protocol.proofs.protocol.comparison_laws.Goals as goal
 
 pub returns-clause-equal_labels : goal.returns-clause-equal_labels

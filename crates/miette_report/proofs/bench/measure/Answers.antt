@@ -3,7 +3,7 @@ use Rattle.std.proofs.lemmas.Result.{on_err_weaker, on_ok_weaker}
 use Rattle.std.specs.Io.KnownBytes.{Appends}
 use Rattle.miette_devices.specs.views.Device.{TakesBeginning}
 use Rattle.miette_report.specs.rules.Job.{IsDescription}
-use Rattle.miette_devices.specs.declared.fault.Fault.TheVariants.{Usage, Write, Description, Refused}
+use Rattle.miette_devices.specs.declared.fault.ProgramError.TheVariants.{Usage, Write, Description, Refused}
 use Rattle.miette_report.proofs.JobEnds.{measured, told-of}
 use Rattle.miette_devices.proofs.WriteResults.{no-other, of-error, read-failed, write-failed}
 use Rattle.miette_report.proofs.bench.measure.Goals as goal

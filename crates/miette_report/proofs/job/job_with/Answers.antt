@@ -9,6 +9,10 @@ use Rattle.miette_report.proofs.job.job_with.Goals as goal
 pub returns : goal.returns
 returns g c =
     let words = map string_bytes c.args.words.now in
-    let end = subst (λ d. IsJobEnd (asked_by words ≡ None) words (g.R.Read.remaining d) c.run_asked-work.result)
-    c.new-reader.ensures.inner c.run_asked-work.ensures.end in
-    record { status = job-status (status_of Job) (λ f. refl) _ _ _ c.run_asked-work.result _ end c.finish.ensures }
+    let end = subst (λ d. IsJobEnd (asked_by words ≡ None) words (g.R.Read.remaining d)
+    c.run_from_arguments-work.result)
+    c.new-reader.ensures.inner c.run_from_arguments-work.ensures.end in
+    record {
+      status = job-status (status_of Job) (λ f. refl) _ _ _ c.run_from_arguments-work.result _ end
+          c.finish.ensures;
+    }

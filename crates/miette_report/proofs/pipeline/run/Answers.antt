@@ -1,6 +1,6 @@
 use Rattle.std.proofs.Common.{inl}
 use Rattle.std.proofs.lemmas.Result.{on_err_weaker, on_ok_weaker}
-use Rattle.miette_devices.specs.declared.fault.Fault.TheVariants.{Usage, Write, Description, Refused}
+use Rattle.miette_devices.specs.declared.fault.ProgramError.TheVariants.{Usage, Write, Description, Refused}
 use Rattle.miette_report.proofs.JobSteps.{written}
 use Rattle.miette_devices.proofs.WriteResults.{no-other, of-error, read-failed, write-failed}
 use Rattle.miette_report.proofs.pipeline.run.Goals as goal

@@ -2,7 +2,7 @@ use Rattle.std.proofs.Common.{◌≡◌, ◌∙◌, ◌++◌, ap, chars, length,
 use Rattle.std.proofs.lemmas.Result.{on_ok_weaker}
 use Rattle.miette_runs.specs.rules.Runs.{printed_run}
 use Rattle.miette_runs.proofs.Painting.{run-empty, run-plain, run-pushed}
-use Rattle.miette_page.proofs.Paging.{some-chars, nonzero}
+use Rattle.miette_style.proofs.Paging.{some-chars, nonzero}
 use Rattle.miette_runs.proofs.runs.push_run.Goals as goal
 use Rattle.miette_runs.proofs.runs.push_run.Goals.{then-is_empty-via-then-is_empty}
 use Rattle.miette_runs.proofs.runs.push_run.Goals.{then-is_empty-via-else-is_empty+then-is_plain}

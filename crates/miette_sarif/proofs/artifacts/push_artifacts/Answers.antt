@@ -3,7 +3,7 @@ use Rattle.std.proofs.lemmas.Result.{on_ok_weaker}
 use Rattle.miette_json.specs.rules.Json.{json_text}
 use Rattle.miette_sarif.specs.rules.Artifacts.{artifact}
 use Rattle.miette_sarif.specs.rules.Objects.{items_of}
-use Rattle.miette_sarif.specs.views.Found.{texts_of}
+use Rattle.miette_sarif.specs.views.Findings.{texts_of}
 use Rattle.miette_sarif.proofs.Gathers.{next_in, none_in}
 use Rattle.miette_sarif.proofs.Growing.{item_put, items_end}
 use Rattle.miette_sarif.proofs.artifacts.push_artifacts.Goals as goal

@@ -2,7 +2,7 @@ use Rattle.std.proofs.Common.{◌≡◌, ◌++◌, drop, map, string_bytes}
 use Rattle.miette_json.specs.rules.Json.{items_text}
 use Rattle.miette_sarif.specs.rules.Artifacts.{artifact}
 use Rattle.miette_sarif.specs.rules.Objects.{items_of}
-use Rattle.miette_sarif.specs.views.Found.{texts_of}
+use Rattle.miette_sarif.specs.views.Findings.{texts_of}
 use Rattle.miette_sarif.specs.views.Values.{rest_items}
 use Rattle.miette_sarif.proofs.artifacts.push_artifacts.Given as goal
 

@@ -3,7 +3,7 @@ use Rattle.std.proofs.lemmas.Result.{IfOk-weaker}
 use Rattle.miette_fixes.specs.views.Ordered.{edits_of}
 use Rattle.miette_sarif.specs.rules.Proposals.{applicable}
 use Rattle.miette_sarif.specs.steps.Drafts.{made_of}
-use Rattle.miette_sarif.specs.views.Drafted.{draft_of}
+use Rattle.miette_sarif.specs.views.DraftValue.{draft_of}
 use Rattle.miette_sarif.proofs.Finishing.{made_applicable}
 use Rattle.miette_sarif.proofs.edits.applicable.Goals as goal
 

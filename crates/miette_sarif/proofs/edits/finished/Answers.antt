@@ -1,7 +1,7 @@
 use Rattle.std.proofs.Common.{◌≡◌, ◌++◌, ◌∙◌, ap, string_bytes}
 use Rattle.std.specs.Prelude.{slice_range}
 use Rattle.std.proofs.lemmas.Str.{IsUtf8-string_bytes}
-use Rattle.miette_sarif.specs.views.Drafted.{draft_of}
+use Rattle.miette_sarif.specs.views.DraftValue.{draft_of}
 use Rattle.miette_sarif.proofs.Shown.{draft_read, draft_unread}
 use Rattle.miette_sarif.proofs.edits.finished.Goals as goal
 

@@ -2,7 +2,7 @@ use Rattle.std.proofs.Common.{[], ◌∷◌, ◌∙◌, ap, map, refl, sym}
 use Rattle.std.proofs.lemmas.List.{map-append}
 use Rattle.std.proofs.lemmas.Result.{IfOk-weaker}
 use Rattle.miette_sarif.specs.steps.Drafts.{begun, with_edit}
-use Rattle.miette_sarif.specs.views.Drafted.{draft_of}
+use Rattle.miette_sarif.specs.views.DraftValue.{draft_of}
 use Rattle.miette_sarif.proofs.Drafting.{draft_joined, draft_next}
 use Rattle.miette_sarif.proofs.edits.next_draft.Goals as goal
 

@@ -2,7 +2,7 @@ use Rattle.std.proofs.Common.{◌+◌, ◌++◌, ◌∙◌, ap, drop, map, sym}
 use Rattle.miette_fixes.specs.rules.Edits.{Replacement}
 use Rattle.miette_fixes.specs.views.Ordered.{edits_of}
 use Rattle.miette_sarif.specs.steps.Drafts.{drafts_from}
-use Rattle.miette_sarif.specs.views.Drafted.{draft_of}
+use Rattle.miette_sarif.specs.views.DraftValue.{draft_of}
 use Rattle.miette_sarif.proofs.Gathers.{next_in}
 use Rattle.miette_sarif.proofs.edits.push_drafts.Goals as goal
 use denote.Ref.{Bor}

@@ -1,7 +1,7 @@
 use Rattle.std.proofs.Common.{◌≡◌, ◌++◌, ◌∷◌, drop, map}
 use Rattle.miette_fixes.specs.views.Ordered.{edits_of}
 use Rattle.miette_sarif.specs.steps.Drafts.{drafts, drafts_from}
-use Rattle.miette_sarif.specs.views.Drafted.{draft_of}
+use Rattle.miette_sarif.specs.views.DraftValue.{draft_of}
 use Rattle.miette_sarif.proofs.edits.push_drafts.Given as goal
 
 abbrev pub invariant-loop-edit : goal.invariant-loop-edit

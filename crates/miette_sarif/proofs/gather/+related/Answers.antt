@@ -5,8 +5,8 @@ use Rattle.miette_tree.proofs.Nesting.{next_of}
 use Rattle.miette_tree.proofs.TreeSizes.{item_falls}
 use Rattle.miette_tree.specs.rules.Tree.{trees}
 use Rattle.miette_tree.specs.views.Report.{tree_of}
-use Rattle.miette_sarif.specs.views.Collected.{gathered_of}
-use Rattle.miette_sarif.specs.views.Found.{finding_of}
+use Rattle.miette_sarif.specs.views.FindingParts.{gathered_of}
+use Rattle.miette_sarif.specs.views.Findings.{finding_of}
 use Rattle.miette_sarif.specs.views.Sources.{over_of}
 use Rattle.miette_sarif.proofs.Gathers.{ReportsSoFar, all_reports, no_reports, none_in, one_report, report_gathered}
 use Rattle.miette_sarif.proofs.gather.+related.Goals as goal

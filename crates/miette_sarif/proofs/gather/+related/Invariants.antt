@@ -2,7 +2,7 @@ use Rattle.std.proofs.Common.{drop, map}
 use Rattle.miette_tree.proofs.TreeSizes.{reports_size, tree_size}
 use Rattle.miette_tree.specs.rules.Tree.{trees}
 use Rattle.miette_tree.specs.views.Report.{tree_of}
-use Rattle.miette_sarif.specs.views.Collected.{gathered_of}
+use Rattle.miette_sarif.specs.views.FindingParts.{gathered_of}
 use Rattle.miette_sarif.specs.views.Sources.{over_of}
 use Rattle.miette_sarif.proofs.Gathers.{ReportsSoFar}
 use Rattle.miette_sarif.proofs.gather.+related.Given as goal

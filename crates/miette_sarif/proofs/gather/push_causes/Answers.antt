@@ -2,7 +2,7 @@ use Rattle.std.proofs.Common.{subst, sym}
 use Rattle.miette_tree.proofs.Nesting.{texts_shown}
 use Rattle.miette_tree.specs.rules.Tree.{cause_of}
 use Rattle.miette_tree.specs.views.Report.{tree_of}
-use Rattle.miette_sarif.specs.views.Collected.{collected_of}
+use Rattle.miette_sarif.specs.views.FindingParts.{collected_of}
 use Rattle.miette_sarif.specs.views.Sources.{over_of}
 use Rattle.miette_sarif.proofs.Gathers.{CausesSoFar, all_causes, no_causes, one_cause}
 use Rattle.miette_sarif.proofs.gather.push_causes.Goals as goal

@@ -1,7 +1,7 @@
 use Rattle.miette_tree.proofs.TreeSizes.{tree_size}
 use Rattle.miette_tree.specs.rules.Tree.{cause_of}
 use Rattle.miette_tree.specs.views.Report.{tree_of}
-use Rattle.miette_sarif.specs.views.Collected.{collected_of}
+use Rattle.miette_sarif.specs.views.FindingParts.{collected_of}
 use Rattle.miette_sarif.specs.views.Sources.{over_of}
 use Rattle.miette_sarif.proofs.Gathers.{CausesSoFar}
 use Rattle.miette_sarif.proofs.gather.push_causes.Given as goal

@@ -1,6 +1,6 @@
 use Rattle.std.proofs.Common.{◌≡◌, drop}
 use Rattle.miette_sarif.specs.steps.Gathering.{with_fixes}
-use Rattle.miette_sarif.specs.views.Collected.{collected_of}
+use Rattle.miette_sarif.specs.views.FindingParts.{collected_of}
 use Rattle.miette_sarif.specs.views.Sources.{over_of}
 use Rattle.miette_sarif.proofs.gather.push_fixes.Given as goal
 

@@ -1,7 +1,7 @@
 use Rattle.std.proofs.Common.{ap, ◌∙◌}
 use Rattle.miette_sarif.specs.rules.Marks.{pick_in}
 use Rattle.miette_sarif.specs.steps.Picking.{is_asked}
-use Rattle.miette_sarif.specs.views.Found.{mark_of}
+use Rattle.miette_sarif.specs.views.Findings.{mark_of}
 use Rattle.miette_sarif.specs.views.Grouped.{group_of}
 use Rattle.miette_sarif.proofs.Taken.{first_taken}
 use Rattle.miette_sarif.proofs.labels.take_first.Goals as goal

@@ -4,7 +4,7 @@ use Rattle.std.specs.Prelude.{codes, option_map}
 use Rattle.std.specs.Option.{option_copied}
 use Rattle.json.specs.Print.{escape_byte}
 use Rattle.miette_json.specs.rules.Json.{string}
-use Rattle.miette_sarif.specs.rules.Objects.{maybe_text, pair}
+use Rattle.miette_sarif.specs.rules.Objects.{optional_text_pairs, pair}
 use Rattle.miette_sarif.specs.rules.Uris.{address_uri}
 use Rattle.miette_sarif.specs.steps.Members.{further}
 use Rattle.miette_sarif.proofs.Growing.{text_put}
@@ -17,5 +17,5 @@ returns-in_ok-uri-in-Some c =
     on_ok_weaker c.push_string.result (λ put. text_put (codes "informationUri") c.as_str.result.now old _ put
     ∙ ap (λ t. old ++ further (pair (codes "informationUri") (string t)))
     (c.as_str.ensures.value ∙ c.in_ok-uri-in-Some.ensures)
-    ∙ ap (λ o. old ++ further (maybe_text (codes "informationUri") (option_map address_uri (option_copied o))))
+    ∙ ap (λ o. old ++ further (optional_text_pairs (codes "informationUri") (option_map address_uri (option_copied o))))
     (sym c.in-Some.is)) c.push_string.ensures

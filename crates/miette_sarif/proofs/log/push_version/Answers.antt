@@ -3,7 +3,7 @@ use Rattle.std.proofs.lemmas.Result.{on_ok_weaker}
 use Rattle.std.specs.Prelude.{codes}
 use Rattle.std.specs.Option.{option_copied}
 use Rattle.json.specs.Print.{escape_byte}
-use Rattle.miette_sarif.specs.rules.Objects.{maybe_text}
+use Rattle.miette_sarif.specs.rules.Objects.{optional_text_pairs}
 use Rattle.miette_sarif.specs.steps.Members.{further}
 use Rattle.miette_sarif.proofs.Growing.{text_put}
 use Rattle.miette_sarif.proofs.log.push_version.Goals as goal
@@ -13,5 +13,5 @@ unfolding escape_byte
 returns-in-Some c =
     let old = string_bytes c.args.out.now in
     on_ok_weaker c.push_string.result (λ put. text_put (codes "version") c.in-Some.version.now old _ put
-    ∙ ap (λ o. old ++ further (maybe_text (codes "version") (option_copied o))) (sym c.in-Some.is))
+    ∙ ap (λ o. old ++ further (optional_text_pairs (codes "version") (option_copied o))) (sym c.in-Some.is))
     c.push_string.ensures

@@ -5,5 +5,5 @@ use Rattle.miette_sarif.proofs.members.push_string.Goals as goal
 
 pub returns : goal.returns
 returns c =
-    on_ok_weaker c.push_quoted.result (two_put _ _ _ c.args.before.now (json_text (string c.args.text.now))
-    c.in_ok-push_plain.ensures) c.push_quoted.ensures
+    on_ok_weaker c.push_json_string.result (two_put _ _ _ c.args.before.now (json_text (string c.args.text.now))
+    c.in_ok-push_plain.ensures) c.push_json_string.ensures

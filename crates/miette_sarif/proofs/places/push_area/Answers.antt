@@ -2,7 +2,7 @@ use Rattle.std.proofs.Common.{ap, ◌∙◌, ◌++◌, string_bytes}
 use Rattle.std.proofs.lemmas.Result.{on_ok_weaker}
 use Rattle.std.specs.Prelude.{codes}
 use Rattle.miette_json.specs.rules.Json.{json_text, number}
-use Rattle.miette_sarif.specs.views.Found.{area_of}
+use Rattle.miette_sarif.specs.views.Findings.{area_of}
 use Rattle.miette_sarif.proofs.Pieces.{area_put}
 use Rattle.miette_sarif.proofs.places.push_area.Goals as goal
 

@@ -6,7 +6,7 @@ use Rattle.json.specs.Print.{escape_byte}
 use Rattle.miette_sarif.specs.rules.Places.{place_pairs, place_value}
 use Rattle.miette_sarif.specs.steps.Members.{further}
 use Rattle.miette_sarif.specs.views.Artifacts.{artifacts_view}
-use Rattle.miette_sarif.specs.views.Found.{place_of}
+use Rattle.miette_sarif.specs.views.Findings.{place_of}
 use Rattle.miette_sarif.proofs.Growing.{member_put}
 use Rattle.miette_sarif.proofs.places.push_further_place.Goals as goal
 

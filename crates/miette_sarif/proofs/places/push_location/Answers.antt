@@ -5,7 +5,7 @@ use Rattle.miette_json.specs.rules.Json.{json_text}
 use Rattle.miette_sarif.specs.rules.Objects.{object_of}
 use Rattle.miette_sarif.specs.rules.Places.{place_pairs, text_pairs}
 use Rattle.miette_sarif.specs.views.Artifacts.{artifacts_view}
-use Rattle.miette_sarif.specs.views.Found.{place_of}
+use Rattle.miette_sarif.specs.views.Findings.{place_of}
 use Rattle.miette_sarif.proofs.places.push_location.Goals as goal
 
 pub returns-in-Some : goal.returns-in-Some

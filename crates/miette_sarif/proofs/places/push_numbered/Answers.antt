@@ -1,6 +1,6 @@
 use Rattle.std.proofs.lemmas.Result.{on_ok_weaker}
 use Rattle.miette_sarif.specs.views.Artifacts.{artifacts_view}
-use Rattle.miette_sarif.specs.views.Found.{mark_of}
+use Rattle.miette_sarif.specs.views.Findings.{mark_of}
 use Rattle.miette_sarif.proofs.Pieces.{numbered_put}
 use Rattle.miette_sarif.proofs.places.push_numbered.Goals as goal
 

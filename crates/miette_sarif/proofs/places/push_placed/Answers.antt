@@ -3,7 +3,7 @@ use Rattle.std.specs.Prelude.{codes}
 use Rattle.json.specs.Print.{escape_byte}
 use Rattle.miette_sarif.specs.rules.Places.{place_value, text_pairs}
 use Rattle.miette_sarif.specs.views.Artifacts.{artifacts_view}
-use Rattle.miette_sarif.specs.views.Found.{place_of}
+use Rattle.miette_sarif.specs.views.Findings.{place_of}
 use Rattle.miette_sarif.proofs.Pieces.{object_put}
 use Rattle.miette_sarif.proofs.places.push_placed.Goals as goal
 

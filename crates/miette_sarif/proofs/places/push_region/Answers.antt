@@ -5,7 +5,7 @@ use Rattle.std.specs.Option.{option_map}
 use Rattle.json.specs.Print.{escape_byte}
 use Rattle.miette_sarif.specs.rules.Places.{region, region_pairs}
 use Rattle.miette_sarif.specs.steps.Members.{further}
-use Rattle.miette_sarif.specs.views.Found.{area_of}
+use Rattle.miette_sarif.specs.views.Findings.{area_of}
 use Rattle.miette_sarif.proofs.Growing.{member_put}
 use Rattle.miette_sarif.proofs.places.push_region.Goals as goal
 

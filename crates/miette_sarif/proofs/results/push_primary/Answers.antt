@@ -6,7 +6,7 @@ use Rattle.miette_sarif.specs.rules.Objects.{listed}
 use Rattle.miette_sarif.specs.rules.Places.{primary_locations}
 use Rattle.miette_sarif.specs.steps.Members.{further}
 use Rattle.miette_sarif.specs.views.Artifacts.{artifacts_view}
-use Rattle.miette_sarif.specs.views.Found.{mark_of}
+use Rattle.miette_sarif.specs.views.Findings.{mark_of}
 use Rattle.miette_sarif.proofs.Pieces.{primary_put}
 use Rattle.miette_sarif.proofs.results.push_primary.Goals as goal
 

@@ -3,7 +3,7 @@ use Rattle.std.proofs.lemmas.Result.{on_ok_weaker}
 use Rattle.miette_sarif.specs.rules.Objects.{items_of}
 use Rattle.miette_sarif.specs.rules.Places.{related_from}
 use Rattle.miette_sarif.specs.views.Artifacts.{artifacts_view}
-use Rattle.miette_sarif.specs.views.Found.{mark_of}
+use Rattle.miette_sarif.specs.views.Findings.{mark_of}
 use Rattle.miette_sarif.specs.views.Values.{rest_items}
 use Rattle.miette_sarif.proofs.Gathers.{next_at, none_in}
 use Rattle.miette_sarif.proofs.Growing.{item_put, items_end}
@@ -13,20 +13,20 @@ pub loop-mark-preserved : goal.loop-mark-preserved
 loop-mark-preserved c =
     let l = c.loop-mark in
     let a = artifacts_view c.args.artifacts.now in
-    let marks = c.args.marks.now in
-    let left = map mark_of (drop (l.mark-index + 1) marks) in
+    let locations = c.args.locations.now in
+    let left = map mark_of (drop (l.mark-index + 1) locations) in
     let new = string_bytes c.push_numbered.new.out in
     ap (λ n. new ++ rest_items false (items_of (related_from a n left))) c.in_ok-id.ensures
-    ∙ item_put l.first (items_of (related_from a l.id (map mark_of (drop l.mark-index marks))))
+    ∙ item_put l.first (items_of (related_from a l.id (map mark_of (drop l.mark-index locations))))
     (items_of (related_from a (l.id + 1) left)) _ (string_bytes l.out) (string_bytes c.push_comma.new.out) new _
-    (ap (λ ms. items_of (related_from a l.id ms)) (next_at mark_of marks l.mark-index _ c.loop-mark-test.true))
+    (ap (λ ms. items_of (related_from a l.id ms)) (next_at mark_of locations l.mark-index _ c.loop-mark-test.true))
     c.in_ok-push_comma.ensures c.in_ok-push_numbered.ensures l.invariant
 
 pub returns : goal.returns
 returns c =
     let l = c.loop-mark in
     let a = artifacts_view c.args.artifacts.now in
-    let marks = c.args.marks.now in
+    let locations = c.args.locations.now in
     on_ok_weaker c.push_plain.result (λ put. items_end l.first (items_of (related_from a l.id
-    (map mark_of (drop l.mark-index marks)))) (string_bytes l.out) _ _ (ap (λ ms. items_of (related_from a l.id ms))
-    (none_in mark_of marks l.mark-index (omega arith))) put l.invariant) c.push_plain.ensures
+    (map mark_of (drop l.mark-index locations)))) (string_bytes l.out) _ _ (ap (λ ms. items_of (related_from a l.id ms))
+    (none_in mark_of locations l.mark-index (omega arith))) put l.invariant) c.push_plain.ensures

@@ -6,14 +6,14 @@ use Rattle.miette_sarif.specs.rules.Objects.{object_of}
 use Rattle.miette_sarif.specs.rules.Places.{line_pairs}
 use Rattle.miette_sarif.specs.rules.Results.{inserted}
 use Rattle.miette_sarif.specs.steps.Members.{further}
-use Rattle.miette_sarif.specs.views.Found.{replaced_of}
+use Rattle.miette_sarif.specs.views.Findings.{replacement_value_of}
 use Rattle.miette_sarif.proofs.Pieces.{object_put}
 use Rattle.miette_sarif.proofs.results.push_replacement.Goals as goal
 
 pub returns : goal.returns
 unfolding escape_byte
 returns c =
-    let item = replaced_of c.args.item.now in
+    let item = replacement_value_of c.args.item.now in
     let placed = string_bytes c.push_stretch.new.out in
     on_ok_weaker c.push_plain-2.result (object_put (codes "deletedRegion") (object_of (line_pairs item.deleted))
     (inserted item.text) _ _ _ _ _ c.in_ok-push_plain.ensures c.in_ok-push_stretch.ensures

@@ -3,7 +3,7 @@ use Rattle.std.proofs.lemmas.Result.{on_ok_weaker}
 use Rattle.miette_sarif.specs.rules.Objects.{items_of}
 use Rattle.miette_sarif.specs.rules.Results.{result_of, results}
 use Rattle.miette_sarif.specs.views.Artifacts.{artifacts_view}
-use Rattle.miette_sarif.specs.views.Found.{finding_of, findings_of}
+use Rattle.miette_sarif.specs.views.Findings.{finding_of, sarif_findings_of}
 use Rattle.miette_sarif.specs.views.Rules.{rules_view}
 use Rattle.miette_sarif.proofs.Gathers.{next_in, none_in}
 use Rattle.miette_sarif.proofs.Growing.{item_put, items_end}
@@ -15,8 +15,8 @@ loop-finding-preserved c =
     let r = rules_view c.args.rules.now in
     let a = artifacts_view c.args.artifacts.now in
     let found = c.args.findings.now in
-    item_put l.first (items_of (results r a (findings_of (drop l.finding-index found))))
-    (items_of (results r a (findings_of (drop (l.finding-index + 1) found))))
+    item_put l.first (items_of (results r a (sarif_findings_of (drop l.finding-index found))))
+    (items_of (results r a (sarif_findings_of (drop (l.finding-index + 1) found))))
     (result_of r a (finding_of c.finding-item.result)) (string_bytes l.out) (string_bytes c.push_comma.new.out)
     (string_bytes c.push_result.new.out) _
     (ap (λ fs. items_of (results r a fs)) (next_in finding_of found l.finding-index c.finding-item.result
@@ -29,5 +29,5 @@ returns c =
     let a = artifacts_view c.args.artifacts.now in
     let found = c.args.findings.now in
     on_ok_weaker c.push_plain.result (λ put. items_end l.first (items_of (results r a
-    (findings_of (drop l.finding-index found)))) (string_bytes l.out) _ _ (ap (λ fs. items_of (results r a fs))
+    (sarif_findings_of (drop l.finding-index found)))) (string_bytes l.out) _ _ (ap (λ fs. items_of (results r a fs))
     (none_in finding_of found l.finding-index (omega arith))) put l.invariant) c.push_plain.ensures

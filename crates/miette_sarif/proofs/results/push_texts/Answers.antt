@@ -1,6 +1,6 @@
 use Rattle.std.proofs.Common.{◌+◌, ◌++◌, ◌∙◌, ap, arith, drop, string_bytes}
 use Rattle.std.proofs.lemmas.Result.{on_ok_weaker}
-use Rattle.miette_sarif.specs.views.Found.{texts_of}
+use Rattle.miette_sarif.specs.views.Findings.{texts_of}
 use Rattle.miette_sarif.proofs.Gathers.{next_in, none_in}
 use Rattle.miette_sarif.proofs.Growing.{text_item_put, texts_end}
 use Rattle.miette_sarif.proofs.results.push_texts.Goals as goal

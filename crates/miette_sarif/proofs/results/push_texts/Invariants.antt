@@ -1,6 +1,6 @@
 use Rattle.std.proofs.Common.{◌≡◌, ◌++◌, drop, string_bytes}
 use Rattle.miette_sarif.specs.steps.Members.{rest_texts, texts_listed}
-use Rattle.miette_sarif.specs.views.Found.{texts_of}
+use Rattle.miette_sarif.specs.views.Findings.{texts_of}
 use Rattle.miette_sarif.proofs.results.push_texts.Given as goal
 
 abbrev pub invariant-loop-text : goal.invariant-loop-text

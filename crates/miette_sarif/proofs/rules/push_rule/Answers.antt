@@ -1,6 +1,6 @@
 use Rattle.std.proofs.lemmas.Result.{on_ok_weaker}
 use Rattle.std.specs.Prelude.{codes}
-use Rattle.miette_sarif.specs.rules.Objects.{maybe_text}
+use Rattle.miette_sarif.specs.rules.Objects.{optional_text_pairs}
 use Rattle.miette_sarif.specs.views.Rules.{option_text}
 use Rattle.std.specs.Option.{option_copied}
 use Rattle.json.specs.Print.{escape_byte}
@@ -11,5 +11,5 @@ pub returns : goal.returns
 unfolding escape_byte
 returns c =
     on_ok_weaker c.push_plain.result (named_put (codes "id") c.args.code.now
-    (maybe_text (codes "helpUri") (option_text (option_copied c.args.uri))) _ _ _ _ c.in_ok-push_string.ensures
+    (optional_text_pairs (codes "helpUri") (option_text (option_copied c.args.uri))) _ _ _ _ c.in_ok-push_string.ensures
     c.in_ok-push_uri.ensures) c.push_plain.ensures

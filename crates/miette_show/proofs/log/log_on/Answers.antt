@@ -2,22 +2,22 @@ use Rattle.std.proofs.Common.{◌≡◌, ◌∙◌, ℕ, List, Bool, Option, Err
 use Rattle.std.specs.Prelude.{Vec}
 use Rattle.std.specs.Io.KnownBytes.{Appends}
 use Rattle.std.specs.declared.alloc.Global.{Global}
-use Rattle.miette_devices.specs.declared.fault.Fault.TheVariants.{Read, Write}
+use Rattle.miette_devices.specs.declared.fault.ProgramError.TheVariants.{Read, Write}
 use Rattle.miette_devices.specs.views.Device.{TakesBeginning}
-use Rattle.miette_logs.specs.rules.LogWords.{logged_text}
+use Rattle.miette_lsp.specs.rules.LogWords.{logged_text}
 use Rattle.miette_protocol.specs.rules.Reading.{Source}
 use Rattle.miette_protocol.specs.views.Diagnostic.{meaning_of}
 use Rattle.miette_tree.specs.rules.Reads.{AllAlwaysRead}
 use Rattle.miette_tree.specs.rules.Tree.{Tree, trees}
 use Rattle.miette_tree.specs.views.Report.{tree_of}
-use Rattle.miette_tool_rows.specs.views.Reading.{left_of}
-use Rattle.miette_tool_rows.proofs.Beginnings.{none_taken}
-use Rattle.miette_row_reports.proofs.Logging.{all_first, all_read, logs_all, logs_first, logs_none, logs_some}
-use Rattle.miette_tool_rows.proofs.NoteEnds.{no_other, on_err_of}
+use Rattle.miette_show_rows.specs.views.Reading.{left_of}
+use Rattle.miette_show_rows.proofs.Beginnings.{none_taken}
+use Rattle.miette_show.proofs.Logging.{all_first, all_read, logs_all, logs_first, logs_none, logs_some}
+use Rattle.miette_show_rows.proofs.NoteEnds.{no_other, on_err_of}
 use Rattle.miette_show.specs.rules.LogCalls.{needs_places}
-use Rattle.miette_row_reports.specs.declared.words.Format.{Format}
-use Rattle.miette_row_reports.specs.views.Logged.{AreLogged, AreLoggedFirst}
-use Rattle.miette_tool_rows.specs.declared.verdict.Verdict.{Verdict}
+use Rattle.miette_show.specs.declared.words.Format.{Format}
+use Rattle.miette_show.specs.views.LoggedRow.{AreLogged, AreLoggedFirst}
+use Rattle.miette_show_rows.specs.declared.verdict.Verdict.{Verdict}
 use Rattle.miette_show.proofs.log.log_on.Goals as goal
 
 abbrev items_of : Vec ℕ Global → List ℕ
@@ -51,18 +51,19 @@ returns-clause-ok g c =
     let wrote = g.W.Write.contents c.args.streams.now.writer.inner in
     let written = g.W.Write.contents c.write_whole.new.writer.inner in
     let before = g.E.Write.contents c.args.streams.now.faults.inner in
-    let after = g.E.Write.contents c.all_reports.new.faults.inner in
+    let after = g.E.Write.contents c.reports_of_parts.new.faults.inner in
     let text = c.as_bytes.ensures.value ∙ c.in_ok-text.ensures.ok
     ∙ ap (λ rs. logged_text c.args.log (trees (map tree rs))) c.as_slice.ensures.value
     in
-    logs_all c.args.from (needs_places c.args.log.form) g.F.Files.found g.F.Loader.knows c.args.files.now
-    c.load_parts.new.files
+    logs_all c.args.from (needs_places c.args.log.form) g.F.Files.found g.F.FileLoader.knows c.args.files.now
+    c.load_part_files.new.files
     (left_of g.R.Read.remaining c.args.streams.now.rows) (map items_of c.in_ok-parts.parts.items)
     (λ all notes. (map tree c.in_ok-verdict.reports.items ≡ all) × Appends before after notes)
     (λ ts notes. Appends wrote written (logged_text c.args.log (trees ts)) × Appends before after notes)
-    c.in_ok-verdict.verdict c.in_ok-parts.ensures.parts c.in_ok-load_parts.ensures.known c.load_parts.ensures.goes
+    c.in_ok-verdict.verdict c.in_ok-parts.ensures.parts c.in_ok-load_part_files.ensures.known
+    c.load_part_files.ensures.goes
     (logged_by c.args.from c.needs_places.result (needs_places c.args.log.form)
-    (g.F.Files.found c.load_parts.new.files) (map items_of c.in_ok-parts.parts.items)
+    (g.F.Files.found c.load_part_files.new.files) (map items_of c.in_ok-parts.parts.items)
     (λ all notes. (map tree c.in_ok-verdict.reports.items ≡ all) × Appends before after notes)
     c.in_ok-verdict.verdict needs c.in_ok-verdict.ensures.ok)
     (λ ts notes said. (
@@ -81,19 +82,20 @@ returns-in_err-write_whole-clause-beginning g c =
     let wrote = g.W.Write.contents c.args.streams.now.writer.inner in
     let written = g.W.Write.contents c.write_whole.new.writer.inner in
     let before = g.E.Write.contents c.args.streams.now.faults.inner in
-    let after = g.E.Write.contents c.all_reports.new.faults.inner in
+    let after = g.E.Write.contents c.reports_of_parts.new.faults.inner in
     let text = c.as_bytes.ensures.value ∙ c.in_ok-text.ensures.ok
     ∙ ap (λ rs. logged_text c.args.log (trees (map tree rs))) c.as_slice.ensures.value
     in
     on_err_of _ _ (inr
-    (logs_some c.args.from (needs_places c.args.log.form) g.F.Files.found g.F.Loader.knows c.args.files.now
-    c.load_parts.new.files
+    (logs_some c.args.from (needs_places c.args.log.form) g.F.Files.found g.F.FileLoader.knows c.args.files.now
+    c.load_part_files.new.files
     (left_of g.R.Read.remaining c.args.streams.now.rows) (map items_of c.in_ok-parts.parts.items)
     (λ all notes. (map tree c.in_ok-verdict.reports.items ≡ all) × Appends before after notes)
     (λ ts notes. TakesBeginning wrote written (logged_text c.args.log (trees ts)) × Appends before after notes)
-    c.in_ok-verdict.verdict c.in_ok-parts.ensures.parts c.in_ok-load_parts.ensures.known c.load_parts.ensures.goes
+    c.in_ok-verdict.verdict c.in_ok-parts.ensures.parts c.in_ok-load_part_files.ensures.known
+    c.load_part_files.ensures.goes
     (logged_by c.args.from c.needs_places.result (needs_places c.args.log.form)
-    (g.F.Files.found c.load_parts.new.files) (map items_of c.in_ok-parts.parts.items)
+    (g.F.Files.found c.load_part_files.new.files) (map items_of c.in_ok-parts.parts.items)
     (λ all notes. (map tree c.in_ok-verdict.reports.items ≡ all) × Appends before after notes)
     c.in_ok-verdict.verdict needs c.in_ok-verdict.ensures.ok)
     (λ ts notes said. (
@@ -106,15 +108,15 @@ returns-in_err-write_whole-clause-beginning g c =
 
 pub returns-in_err-parts-clause-noted : goal.returns-in_err-parts-clause-noted
 returns-in_err-parts-clause-noted g c = on_err_of _ _
-    (logs_none c.args.from (needs_places c.args.log.form) g.F.Files.found g.F.Loader.knows c.args.files.now
+    (logs_none c.args.from (needs_places c.args.log.form) g.F.Files.found g.F.FileLoader.knows c.args.files.now
     c.args.files.now
     (left_of g.R.Read.remaining c.args.streams.now.rows)
     (TakesBeginning (g.E.Write.contents c.args.streams.now.faults.inner)
     (g.E.Write.contents c.args.streams.now.faults.inner)) (none_taken _ _))
 
-pub returns-in_err-load_parts-clause-noted : goal.returns-in_err-load_parts-clause-noted
-returns-in_err-load_parts-clause-noted g c = on_err_of _ _
-    (logs_none c.args.from (needs_places c.args.log.form) g.F.Files.found g.F.Loader.knows c.args.files.now
+pub returns-in_err-load_part_files-clause-noted : goal.returns-in_err-load_part_files-clause-noted
+returns-in_err-load_part_files-clause-noted g c = on_err_of _ _
+    (logs_none c.args.from (needs_places c.args.log.form) g.F.Files.found g.F.FileLoader.knows c.args.files.now
     c.args.files.now
     (left_of g.R.Read.remaining c.args.streams.now.rows)
     (TakesBeginning (g.E.Write.contents c.args.streams.now.faults.inner)
@@ -125,34 +127,34 @@ returns-in_err-verdict-clause-noted g c =
     let form : c.log.inside.form ≡ c.args.log.form = search rules in
     let needs = c.needs_places.ensures ∙ ap needs_places form in
     on_err_of _ _
-    (logs_first c.args.from (needs_places c.args.log.form) g.F.Files.found g.F.Loader.knows c.args.files.now
-    c.load_parts.new.files
+    (logs_first c.args.from (needs_places c.args.log.form) g.F.Files.found g.F.FileLoader.knows c.args.files.now
+    c.load_part_files.new.files
     (left_of g.R.Read.remaining c.args.streams.now.rows) (map items_of c.in_ok-parts.parts.items)
     (TakesBeginning (g.E.Write.contents c.args.streams.now.faults.inner)
-    (g.E.Write.contents c.all_reports.new.faults.inner))
-    c.in_ok-parts.ensures.parts c.in_ok-load_parts.ensures.known c.load_parts.ensures.goes
+    (g.E.Write.contents c.reports_of_parts.new.faults.inner))
+    c.in_ok-parts.ensures.parts c.in_ok-load_part_files.ensures.known c.load_part_files.ensures.goes
     (first_by c.args.from c.needs_places.result (needs_places c.args.log.form)
-    (g.F.Files.found c.load_parts.new.files) (map items_of c.in_ok-parts.parts.items)
+    (g.F.Files.found c.load_part_files.new.files) (map items_of c.in_ok-parts.parts.items)
     (TakesBeginning (g.E.Write.contents c.args.streams.now.faults.inner)
-    (g.E.Write.contents c.all_reports.new.faults.inner)) needs c.in_err-verdict.ensures.beginning))
+    (g.E.Write.contents c.reports_of_parts.new.faults.inner)) needs c.in_err-verdict.ensures.beginning))
 
 pub returns-in_err-text-clause-noted : goal.returns-in_err-text-clause-noted
 returns-in_err-text-clause-noted g c =
     let form : c.log.inside.form ≡ c.args.log.form = search rules in
     let needs = c.needs_places.ensures ∙ ap needs_places form in
     let before = g.E.Write.contents c.args.streams.now.faults.inner in
-    let after = g.E.Write.contents c.all_reports.new.faults.inner in
+    let after = g.E.Write.contents c.reports_of_parts.new.faults.inner in
     on_err_of _ _
-    (logs_first c.args.from (needs_places c.args.log.form) g.F.Files.found g.F.Loader.knows c.args.files.now
-    c.load_parts.new.files
+    (logs_first c.args.from (needs_places c.args.log.form) g.F.Files.found g.F.FileLoader.knows c.args.files.now
+    c.load_part_files.new.files
     (left_of g.R.Read.remaining c.args.streams.now.rows) (map items_of c.in_ok-parts.parts.items)
-    (TakesBeginning before after) c.in_ok-parts.ensures.parts c.in_ok-load_parts.ensures.known
-    c.load_parts.ensures.goes
-    (all_first c.args.from (needs_places c.args.log.form) (g.F.Files.found c.load_parts.new.files)
+    (TakesBeginning before after) c.in_ok-parts.ensures.parts c.in_ok-load_part_files.ensures.known
+    c.load_part_files.ensures.goes
+    (all_first c.args.from (needs_places c.args.log.form) (g.F.Files.found c.load_part_files.new.files)
     (map items_of c.in_ok-parts.parts.items)
     (map (tree_of meaning_of (λ (it : Source). it)) c.in_ok-verdict.reports.items) before after
     c.in_ok-verdict.verdict (logged_by c.args.from c.needs_places.result (needs_places c.args.log.form)
-    (g.F.Files.found c.load_parts.new.files) (map items_of c.in_ok-parts.parts.items)
+    (g.F.Files.found c.load_part_files.new.files) (map items_of c.in_ok-parts.parts.items)
     (λ all notes. (map (tree_of meaning_of (λ (it : Source). it)) c.in_ok-verdict.reports.items ≡ all)
     × Appends before after notes) c.in_ok-verdict.verdict needs c.in_ok-verdict.ensures.ok)))
 
@@ -161,18 +163,18 @@ returns-in_err-write_whole-clause-noted g c =
     let form : c.log.inside.form ≡ c.args.log.form = search rules in
     let needs = c.needs_places.ensures ∙ ap needs_places form in
     let before = g.E.Write.contents c.args.streams.now.faults.inner in
-    let after = g.E.Write.contents c.all_reports.new.faults.inner in
+    let after = g.E.Write.contents c.reports_of_parts.new.faults.inner in
     on_err_of _ _
-    (logs_first c.args.from (needs_places c.args.log.form) g.F.Files.found g.F.Loader.knows c.args.files.now
-    c.load_parts.new.files
+    (logs_first c.args.from (needs_places c.args.log.form) g.F.Files.found g.F.FileLoader.knows c.args.files.now
+    c.load_part_files.new.files
     (left_of g.R.Read.remaining c.args.streams.now.rows) (map items_of c.in_ok-parts.parts.items)
-    (TakesBeginning before after) c.in_ok-parts.ensures.parts c.in_ok-load_parts.ensures.known
-    c.load_parts.ensures.goes
-    (all_first c.args.from (needs_places c.args.log.form) (g.F.Files.found c.load_parts.new.files)
+    (TakesBeginning before after) c.in_ok-parts.ensures.parts c.in_ok-load_part_files.ensures.known
+    c.load_part_files.ensures.goes
+    (all_first c.args.from (needs_places c.args.log.form) (g.F.Files.found c.load_part_files.new.files)
     (map items_of c.in_ok-parts.parts.items)
     (map (tree_of meaning_of (λ (it : Source). it)) c.in_ok-verdict.reports.items) before after
     c.in_ok-verdict.verdict (logged_by c.args.from c.needs_places.result (needs_places c.args.log.form)
-    (g.F.Files.found c.load_parts.new.files) (map items_of c.in_ok-parts.parts.items)
+    (g.F.Files.found c.load_part_files.new.files) (map items_of c.in_ok-parts.parts.items)
     (λ all notes. (map (tree_of meaning_of (λ (it : Source). it)) c.in_ok-verdict.reports.items ≡ all)
     × Appends before after notes) c.in_ok-verdict.verdict needs c.in_ok-verdict.ensures.ok)))
 

@@ -1,10 +1,10 @@
 use Rattle.std.proofs.Common.{◌≡◌, true, refl, arith, rules}
-use Rattle.miette_tree.specs.rules.Reads.{AlwaysReads, report_accepted}
+use Rattle.miette_tree.specs.rules.Reads.{AlwaysReads, report_in_bounds}
 use Rattle.miette_tree.specs.views.Report.{tree_of}
 use Rattle.miette_program.proofs.HighlighterSteps.{led-nowhere, led-on}
 use Rattle.miette_program.proofs.JobHandlerSteps.{stays-itself, stays-on}
 use Rattle.miette_show.proofs.ReportSteps.{all_texts, one_text_more}
-use Rattle.miette_row_reports.proofs.ReportSteps.{item_holds}
+use Rattle.miette_show.proofs.RowReportSteps.{item_holds}
 use Rattle.miette_show.proofs.message.texts_of.Goals as goal
 
 pub loop-report-init : goal.loop-report-init
@@ -21,7 +21,7 @@ push_text-requires g c =
     record {
       reads = item_holds AlwaysReads tree c.args.reports.now l.report-index c.report-item.result c.loop-report-test.true
           c.report-item.is c.requires.reads;
-      accepted = item_holds (λ t. report_accepted t ≡ true) tree c.args.reports.now l.report-index c.report-item.result
+      accepted = item_holds (λ t. report_in_bounds t ≡ true) tree c.args.reports.now l.report-index c.report-item.result
           c.loop-report-test.true c.report-item.is c.requires.accepted;
     }
 

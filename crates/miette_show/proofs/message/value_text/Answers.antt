@@ -1,11 +1,11 @@
 use Rattle.std.proofs.Common.{◌∙◌, Some, ap, map, sym}
 use Rattle.serde_json.specs.View.{view}
-use Rattle.miette_program.specs.steps.JobHandler.{IsGiven}
+use Rattle.miette_program.specs.rules.JobText.{IsGiven}
 use Rattle.miette_protocol.specs.rules.Reading.{Source}
 use Rattle.miette_protocol.specs.views.Diagnostic.{meaning_of}
 use Rattle.miette_tree.specs.views.Report.{tree_of}
-use Rattle.miette_row_reports.specs.rules.Shown.{value_trees}
-use Rattle.miette_row_reports.specs.rules.Told.{failure_of}
+use Rattle.miette_show.specs.rules.ShownRow.{value_trees}
+use Rattle.miette_show.specs.rules.ValueKinds.{failure_of}
 use Rattle.miette_show.proofs.TextSteps.{value_said}
 use Rattle.miette_show.proofs.message.value_text.Goals as goal
 

@@ -5,16 +5,16 @@ use Rattle.std.specs.Io.KnownBytes.{Appends}
 use Rattle.std.specs.Prelude.{◌||◌}
 use Rattle.miette_program.proofs.HighlighterSteps.{led-nowhere, led-on}
 use Rattle.miette_program.proofs.JobHandlerSteps.{stays-itself, stays-on}
-use Rattle.miette_devices.specs.declared.fault.Fault.TheVariants.{Read, Refused, Usage, Write}
-use Rattle.miette_program.specs.steps.JobHandler.{IsGiven}
+use Rattle.miette_devices.specs.declared.fault.ProgramError.TheVariants.{Read, Refused, Usage, Write}
+use Rattle.miette_program.specs.rules.JobText.{IsGiven}
 use Rattle.miette_devices.specs.views.Device.{TakesBeginning}
-use Rattle.miette_tool_rows.specs.rules.Looking.{IsFoundBy}
-use Rattle.miette_row_reports.specs.rules.Shown.{ShowsFirst, passed_on}
-use Rattle.miette_tool_rows.specs.views.Reading.{left_of}
-use Rattle.miette_tool_rows.proofs.Beginnings.{all_taken, none_taken}
-use Rattle.miette_tool_rows.proofs.Going.{goes_on, goes_still}
+use Rattle.miette_show_rows.specs.rules.Looking.{IsFoundBy}
+use Rattle.miette_show.specs.rules.ShownRow.{ShowsFirst, passed_on}
+use Rattle.miette_show_rows.specs.views.Reading.{left_of}
+use Rattle.miette_show_rows.proofs.Beginnings.{all_taken, none_taken}
+use Rattle.miette_show_rows.proofs.Going.{continues_value, goes_still}
 use Rattle.miette_show.proofs.Showing.{shown_before}
-use Rattle.miette_tool_rows.proofs.NoteEnds.{no_other, not_failed, on_err_of}
+use Rattle.miette_show_rows.proofs.NoteEnds.{no_other, not_failed, on_err_of}
 use Rattle.miette_show.proofs.Progress as progress
 use Rattle.miette_show.proofs.show.show_rows.Goals as goal
 
@@ -70,14 +70,15 @@ loop-preserved g c =
     let blank = g.H.Highlighter.is_blank in
     let follow = g.H.Highlighter.may_follow in
     let gives = IsGiven blank follow c.args.handler.now in
-    let found = IsFoundBy g.F.Files.found g.F.Loader.knows first in
+    let found = IsFoundBy g.F.Files.found g.F.FileLoader.knows first in
     let kind = c.in_ok-kind.kind in
     let row = c.next_part.new.part.items in
     let shown = c.in_ok-kind.ensures.shown in
     let some : 0 < length row =
     (let a = c.is_empty.ensures in let b = c.if-is_empty.false in grind (arith, nat_tests))
     in
-    let is_shown = shown_before c.args.from blank follow c.args.handler.now l.handler g.F.Files.found g.F.Loader.knows
+    let is_shown = shown_before c.args.from blank follow c.args.handler.now l.handler g.F.Files.found
+    g.F.FileLoader.knows
     first l.files
     c.as_slice.result.now row kind shown.0 l.invariant.stays l.invariant.led l.invariant.goes
     c.as_slice.ensures.value shown.1
@@ -90,8 +91,9 @@ loop-preserved g c =
       rows_sound = not_failed _ _ Read c.in_ok-following.ensures.failed;
       writer_sound = not_failed _ _ Write c.in_ok-kind.ensures.failed;
       faults_sound = not_failed _ _ Write c.in_ok-pass_on.ensures.failed;
-      goes = goes_on (g.F.Files.found first) (g.F.Files.found l.files) (g.F.Files.found c.show_row.new.files)
-          (g.F.Loader.knows first) (g.F.Loader.knows l.files) (g.F.Loader.knows c.show_row.new.files) l.invariant.goes
+      goes = continues_value (g.F.Files.found first) (g.F.Files.found l.files) (g.F.Files.found c.show_row.new.files)
+          (g.F.FileLoader.knows first) (g.F.FileLoader.knows l.files) (g.F.FileLoader.knows c.show_row.new.files)
+          l.invariant.goes
           c.show_row.ensures.goes;
       stays = stays-on blank c.args.handler.now l.handler c.show_row.new.handler l.invariant.stays
           c.show_row.ensures.stays;
@@ -112,7 +114,7 @@ returns-in_err-kind-clause-beginning g c =
     let l = c.loop in
     let first = c.args.files.now in
     let gives = IsGiven g.H.Highlighter.is_blank g.H.Highlighter.may_follow c.args.handler.now in
-    let found = IsFoundBy g.F.Files.found g.F.Loader.knows first in
+    let found = IsFoundBy g.F.Files.found g.F.FileLoader.knows first in
     let left = left_of g.R.Read.remaining c.args.streams.now.rows in
     let row = c.next_part.new.part.items in
     let some : 0 < length row =
@@ -122,7 +124,7 @@ returns-in_err-kind-clause-beginning g c =
       | inl failed ↦
           (let cut = c.in_err-kind.ensures.beginning failed in
           let is_shown = shown_before c.args.from g.H.Highlighter.is_blank g.H.Highlighter.may_follow c.args.handler.now
-          l.handler g.F.Files.found g.F.Loader.knows first l.files c.as_slice.result.now row cut.0 cut.1
+          l.handler g.F.Files.found g.F.FileLoader.knows first l.files c.as_slice.result.now row cut.0 cut.1
           l.invariant.stays l.invariant.led l.invariant.goes c.as_slice.ensures.value cut.2
           in
           progress.begun_with c.args.from gives found left _ _ _ _ _ _ _ _ l.number l.seen l.verdict row cut.0 cut.1
@@ -141,7 +143,7 @@ returns-in_err-pass_on-clause-beginning g c =
     let l = c.loop in
     let first = c.args.files.now in
     let gives = IsGiven g.H.Highlighter.is_blank g.H.Highlighter.may_follow c.args.handler.now in
-    let found = IsFoundBy g.F.Files.found g.F.Loader.knows first in
+    let found = IsFoundBy g.F.Files.found g.F.FileLoader.knows first in
     let left = left_of g.R.Read.remaining c.args.streams.now.rows in
     let kind = c.in_ok-kind.kind in
     let row = c.next_part.new.part.items in
@@ -151,7 +153,7 @@ returns-in_err-pass_on-clause-beginning g c =
     in
     let is_shown = shown_before c.args.from g.H.Highlighter.is_blank g.H.Highlighter.may_follow c.args.handler.now
     l.handler
-    g.F.Files.found g.F.Loader.knows first l.files c.as_slice.result.now row kind shown.0 l.invariant.stays
+    g.F.Files.found g.F.FileLoader.knows first l.files c.as_slice.result.now row kind shown.0 l.invariant.stays
     l.invariant.led l.invariant.goes c.as_slice.ensures.value shown.1
     in
     let before = g.E.Write.contents l.streams.faults.inner in

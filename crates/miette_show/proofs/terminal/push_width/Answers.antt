@@ -4,8 +4,8 @@ use Rattle.std.proofs.lemmas.Result.{on_ok_weaker}
 use Rattle.miette_show.proofs.TerminalSteps.{width_said}
 use Rattle.miette_show.proofs.terminal.push_width.Goals as goal
 
-pub returns-in_ok-number-in-Some : goal.returns-in_ok-number-in-Some
-returns-in_ok-number-in-Some c =
+pub returns-in_ok-number-in-Some-clause-words : goal.returns-in_ok-number-in-Some-clause-words
+returns-in_ok-number-in-Some-clause-words c =
     let said : c.as_str.result.now ≡ decimal c.in-Some.width = search rules in
     on_ok_weaker c.push_value.result
     (width_said c.args.width c.in-Some.width c.as_str.result.now (map string_bytes c.args.words.now.items)

@@ -2,7 +2,7 @@
 use Rattle.std.proofs.Common.{ap, rules}
 use Rattle.std.proofs.lemmas.Bool.Decides.{Decides-and}
 use Rattle.std.specs.Cmp.{booleans_Decides, unsigned_Decides}
-use Rattle.miette_basics.proofs.Equality.{options}
+use Rattle.miette_lines.proofs.Equality.{options}
 use Rattle.miette_style.proofs.Equality.{spelled}
 use Rattle.miette_style.proofs.laws.comparison_laws.Goals as goal
 

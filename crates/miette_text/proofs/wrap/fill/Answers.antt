@@ -1,8 +1,8 @@
 use Rattle.std.proofs.Common.{◌≡◌, ◌++◌, OnOk, chars, encode_utf8_all, string_bytes}
 use Rattle.std.proofs.lemmas.Grind.{common_steps}
 use Rattle.std.proofs.Common.{arith}
-use Rattle.miette_wrap_rules.specs.views.Plans.{options_plan}
-use Rattle.miette_wrap_rules.specs.rules.Wrapping.{wrapped_text}
+use Rattle.miette_text.specs.views.Plans.{options_plan}
+use Rattle.miette_text.specs.rules.Wrapping.{wrapped_text}
 use Rattle.miette_text.proofs.AppendedColours.{appends_on_ok}
 use Rattle.miette_text.proofs.wrap.fill.Goals as goal
 

@@ -1,7 +1,7 @@
 use Rattle.std.proofs.Common.{string_bytes, map}
 use Rattle.std.specs.Option.{option_map}
 use Rattle.miette_tree.specs.rules.Tree.{trees}
-use Rattle.miette_tree.specs.views.Owned.{shown_source}
+use Rattle.miette_tree.specs.views.Owned.{ref_source}
 use Rattle.miette_tree.specs.views.Report.{tree_of}
 use Rattle.miette_tree.proofs.TreeSizes.{tree_size, trees_size}
 use Rattle.miette_brief.proofs.Telling.{RelatedSoFar}
@@ -10,7 +10,7 @@ use Rattle.miette_brief.proofs.handler.BriefReportHandler.+report.Given as goal
 abbrev pub invariant-push_related-loop-report : goal.invariant-push_related-loop-report
 invariant-push_related-loop-report g l =
     RelatedSoFar (tree_of g.D.Diagnostic.meaning g.S.SourceCode.source) l.fn.self
-    (option_map (shown_source g.S.SourceCode.source) l.source) l.reports l.report-index (string_bytes l.fn.out)
+    (option_map (ref_source g.S.SourceCode.source) l.source) l.reports l.report-index (string_bytes l.fn.out)
     (string_bytes l.out)
 
 abbrev pub decreases-push_report : goal.decreases-push_report

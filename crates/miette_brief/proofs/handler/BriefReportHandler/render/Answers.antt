@@ -6,5 +6,6 @@ use Rattle.miette_brief.proofs.handler.BriefReportHandler.render.Goals as goal
 pub returns-clause-only : goal.returns-clause-only
 returns-clause-only g c =
     let t = tree_of g.D.Diagnostic.meaning g.S.SourceCode.source c.args.report.now in
-    on_ok_weaker c.append_text.result (λ put. only_brief c.args.self.now t put.text _ _ put.is_given put.appended)
-    c.append_text.ensures.text
+    on_ok_weaker c.append_report_text.result (λ put. only_brief c.args.self.now t put.text _ _ put.is_given
+    put.appended)
+    c.append_report_text.ensures.text

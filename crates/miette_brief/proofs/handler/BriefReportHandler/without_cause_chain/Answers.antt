@@ -1,4 +1,4 @@
 use Rattle.miette_brief.proofs.handler.BriefReportHandler.without_cause_chain.Goals as goal
 
 pub returns : goal.returns
-returns c = c.telling_causes.ensures
+returns c = c.set_cause_chain.ensures

@@ -1,5 +1,5 @@
 use Rattle.std.proofs.Common.{sym, ap, ◌∙◌}
-use Rattle.miette_cells.specs.rules.Cells.{characters}
+use Rattle.miette_columns.specs.rules.Cells.{characters}
 use Rattle.miette_columns.specs.rules.Columns.{column}
 use Rattle.miette_columns.proofs.PlainColumns.{plain_column}
 use Rattle.miette_columns.proofs.text_columns.TextColumns.column.Goals as goal

@@ -1,8 +1,8 @@
-use Rattle.miette_picture_rules.specs.rules.Snippets.{whole_drawing}
-use Rattle.miette_picture_rules.specs.views.Handling.{AreCallsOf, follows_of}
+use Rattle.miette_graphical_rules.specs.rules.Snippets.{whole_drawing}
+use Rattle.miette_graphical_rules.specs.views.HandlerState.{AreCallsOf, follows_of}
 use Rattle.miette_graphical.proofs.RenderedBytes.{rendered-ok, rendered-only, rendered-colours, rendered-colourless}
 use Rattle.miette_graphical.proofs.RenderedBytes.{rendered-holds, rendered-plain, rendered-themes}
-use Rattle.miette_painting.proofs.Stateless.{rendered-stateless}
+use Rattle.miette_graphical.proofs.Stateless.{rendered-stateless}
 use Rattle.miette_graphical.proofs.handler.GraphicalReportHandler.render_report.Goals as goal
 
 pub returns-clause-ok : goal.returns-clause-ok

@@ -1,7 +1,7 @@
 use Rattle.std.proofs.Common.{◌++◌, ◌∙◌, refl, subst, sym, take}
 use Rattle.std.proofs.KnownBytes.{Appends-trans}
 use Rattle.miette_devices.proofs.DeviceLemmas.{taken-more}
-use Rattle.miette_devices.specs.declared.fault.Fault.TheVariants.{Write}
+use Rattle.miette_devices.specs.declared.fault.ProgramError.TheVariants.{Write}
 use Rattle.miette_devices.specs.views.Device.{TakesBeginning}
 use Rattle.miette_language_server.proofs.Beginnings.{on_err, takes_more}
 use Rattle.miette_language_server.proofs.Clients.{not_failed}

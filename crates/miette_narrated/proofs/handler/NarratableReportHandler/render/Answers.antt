@@ -6,5 +6,6 @@ use Rattle.miette_narrated.proofs.handler.NarratableReportHandler.render.Goals a
 pub returns-clause-only : goal.returns-clause-only
 returns-clause-only g c =
     let t = tree_of g.D.Diagnostic.meaning g.S.SourceCode.source c.args.report.now in
-    on_ok_weaker c.append_text.result (λ put. appended_only c.args.self.now t put.text _ _ put.is_given put.appended)
-    c.append_text.ensures.text
+    on_ok_weaker c.append_report_text.result (λ put. appended_only c.args.self.now t put.text _ _ put.is_given
+    put.appended)
+    c.append_report_text.ensures.text

@@ -14,4 +14,4 @@ returns c =
     c.in_ok-first.ensures
     ∙ ap (λ row. string_bytes c.args.out.now ++ row) (sym (begun_here it d
     (sym c.ends_before.ensures ∙ c.if-ends_before.false)
-    (sym c.begins_within.ensures ∙ c.if-not-begins_within.false)))) c.push_column.ensures
+    (sym c.begins_before_text_end.ensures ∙ c.if-not-begins_before_text_end.false)))) c.push_column.ensures

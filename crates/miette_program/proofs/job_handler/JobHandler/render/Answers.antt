@@ -15,11 +15,11 @@ returns-clause-ok g c =
     elim c.match-self.branch [
       | in-Json w ↦
           handed-on _ _ _ _ _ _ _ (json-given blank follow _ _ _ _ _ w.in-Json.is c.requires.reads
-          (spelled-value _ _ _ _ w.append_text-rendered.ensures.text)) w.rendered-is w.text-is
+          (spelled-value _ _ _ _ w.append_report_text-rendered.ensures.text)) w.rendered-is w.text-is
           c.text_or_fault.ensures.ok (search rules)
       | in-Debug w ↦
           handed-on _ _ _ _ _ _ _ (debug-given blank follow _ _ _ _ _ w.in-Debug.is
-          w.append_text-rendered-in-Debug.ensures.text) w.rendered-is w.text-is c.text_or_fault.ensures.ok
+          w.append_report_text-rendered-in-Debug.ensures.text) w.rendered-is w.text-is c.text_or_fault.ensures.ok
           (search rules)
       | in-Built-Graphical w ↦
           handed-on _ _ _ _ _ _ _ (graphical-given blank follow _ w.in-Built-Graphical.handler
@@ -44,8 +44,8 @@ returns-clause-refused g c =
     λ refused.
     let is = c.text_or_fault.ensures.refused refused in
     elim c.match-self.branch [
-      | in-Json w ↦ absurd (w.append_text-rendered.ensures.refused (sym w.rendered-is ∙ is))
-      | in-Debug w ↦ absurd (w.append_text-rendered-in-Debug.ensures.refused (sym w.rendered-is ∙ is))
+      | in-Json w ↦ absurd (w.append_report_text-rendered.ensures.refused (sym w.rendered-is ∙ is))
+      | in-Debug w ↦ absurd (w.append_report_text-rendered-in-Debug.ensures.refused (sym w.rendered-is ∙ is))
       | in-Built-Graphical w ↦ graphical-accepts _ w.in-Built-Graphical.handler _ c.requires.reads
           (w.debug-rendered.ensures.refused (sym w.rendered-is ∙ is))
       | in-Built-Narrated w ↦

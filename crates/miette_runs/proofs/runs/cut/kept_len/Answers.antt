@@ -22,7 +22,7 @@ loop-i-preserved c =
     let left = c.loop-i.left.now in
     let x = c.index-codes-i.result in
     let colours : are_colours c.split_at.result.0.now ≡ are_colours (upto i left) =
-    ap are_colours (c.split_at.ensures.front ∙ c.upto_len.ensures.before) in
+    ap are_colours (c.split_at.ensures.front ∙ c.count_tags_before.ensures.before) in
     let is_kept : c.if-code-ne10.kept ≡ (if is_line_feed x then (if are_colours (upto i left) then kept else i) else i
     + 1) = elim c.if-code-ne10.branch [
       | then-code-ne10 w ↦ w.kept-is ∙ ap (λ (v : Bool). if v then (if are_colours (upto i left) then kept else i)
@@ -47,7 +47,7 @@ loop-i-preserved c =
     record {
       counted =
           kept-next kept i c.if-code-ne10.kept x cs left c.if-code-ne10.left.now c.loop-i-test.true c.index-codes-i.is
-          (ap (λ b. b.now) is_left ∙ c.split_at.ensures.back ∙ c.upto_len.ensures.behind) is_kept
+          (ap (λ b. b.now) is_left ∙ c.split_at.ensures.back ∙ c.count_tags_before.ensures.behind) is_kept
           ∙ c.loop-i.invariant.counted;
       within = within;
     }

@@ -6,7 +6,7 @@ use Rattle.miette_json.specs.rules.Json.{Json}
 use Rattle.miette_sarif.specs.rules.Artifacts.{artifact}
 use Rattle.miette_sarif.specs.rules.Objects.{array_of, listed, pair}
 use Rattle.miette_sarif.specs.steps.Members.{further}
-use Rattle.miette_sarif.specs.views.Found.{texts_of}
+use Rattle.miette_sarif.specs.views.Findings.{texts_of}
 use Rattle.miette_sarif.proofs.Growing.{list_put, none_put, some_put}
 use Rattle.miette_sarif.proofs.artifacts.Artifacts.push_all.Goals as goal
 

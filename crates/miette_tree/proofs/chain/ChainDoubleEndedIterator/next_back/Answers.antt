@@ -1,7 +1,7 @@
 use Rattle.std.proofs.Common.{◌≡◌, ◌∷◌, ◌++◌, [], map, take, string_bytes}
 use Rattle.std.specs.Option.{option_map}
 use Rattle.miette_tree.specs.rules.Chain.{spine, spine_from}
-use Rattle.miette_tree.specs.views.RemainingChain.{left_of}
+use Rattle.miette_tree.specs.views.RemainingChain.{remaining_chain}
 use Rattle.miette_tree.specs.views.Report.{tree_of}
 use Rattle.miette_tree.proofs.Ends.{last_left, fewer_before}
 use Rattle.miette_tree.proofs.chain.ChainDoubleEndedIterator.next_back.Goals as goal
@@ -12,7 +12,7 @@ returns g c =
     let chain = c.args.self.now in
     let xs = spine (value c.in-Some-at.report.now) in
     let last = c.last_within-before in
-    let steps : left_of g.D.Diagnostic.meaning g.S.SourceCode.source chain
+    let steps : remaining_chain g.D.Diagnostic.meaning g.S.SourceCode.source chain
     ≡ (take last.result.1 (spine_from (option_map (λ r. value r.now) chain.at)) ++ map string_bytes chain.texts.now)
     ++ last.result.0.now ∷ [] =
     rw c.in-Some-at.is (last_left xs chain.texts.now chain.count last.result.1 last.result.0.now

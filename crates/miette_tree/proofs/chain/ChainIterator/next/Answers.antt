@@ -2,7 +2,7 @@ use Rattle.std.proofs.Common.{◌≡◌, suc, ◌-◌, ◌∷◌, ◌++◌, map,
 use Rattle.std.specs.Option.{option_map}
 use Rattle.miette_tree.specs.rules.Tree.{head, cause_of}
 use Rattle.miette_tree.specs.rules.Chain.{spine_from, spine_below}
-use Rattle.miette_tree.specs.views.RemainingChain.{left_of}
+use Rattle.miette_tree.specs.views.RemainingChain.{remaining_chain}
 use Rattle.miette_tree.specs.views.Report.{tree_of}
 use Rattle.miette_tree.proofs.Ends.{first_left, fewer_after}
 use Rattle.miette_tree.proofs.chain.ChainIterator.next.Goals as goal
@@ -17,7 +17,7 @@ returns g c =
     let one : chain.count ≡ suc (chain.count - 1) = omega (arith, c.if-self-gt0.true) in
     let rest : below ≡ spine_below (cause_of at) = search rules in
     let first : c.message.result.now ≡ (head at).message = search rules in
-    let steps : left_of g.D.Diagnostic.meaning g.S.SourceCode.source chain ≡ c.message.result.now
+    let steps : remaining_chain g.D.Diagnostic.meaning g.S.SourceCode.source chain ≡ c.message.result.now
     ∷ (take (chain.count - 1) below ++ ts) =
     rw c.in-Some.is (first_left at below ts chain.count (chain.count - 1) c.message.result.now one rest first) in
     record {

@@ -8,7 +8,7 @@ use Rattle.miette.specs.rules.Counting.{with_one}
 use Rattle.miette.specs.rules.Forms.{IsNextBy}
 use Rattle.miette.specs.rules.Printing.{WritesOne}
 use Rattle.miette.specs.rules.Reported.{IsReported, behaving}
-use Rattle.miette.specs.rules.Run.{Run}
+use Rattle.miette.specs.rules.ReporterRun.{ReporterRun}
 use Rattle.miette.proofs.reporter.run.Reporter.report.Goals as goal
 
 -- what holds of two values holds of those that they are
@@ -25,7 +25,7 @@ returns-in-Ok-clause-asks g c =
 
 -- ---- the writing of the next report, with its count before it and what is remembered after it
 
-module _ {T W F : Type 0} (next before : Run T W F) (counts : Counts) (severity given : Option Severity)
+module _ {T W F : Type 0} (next before : ReporterRun T W F) (counts : Counts) (severity given : Option Severity)
     (one : counts ≡ with_one before.counts severity) (is : severity ≡ given)
     (state : next ≡ record before { handler = next.handler; outputs = next.outputs; counts = counts }) where
   counted : next ≡ record before {
@@ -43,7 +43,7 @@ module _ {T W F : Type 0} (next before : Run T W F) (counts : Counts) (severity 
     counts = with_one before.counts given;
     is_begun = true;
   }
-  begun = ap (λ (it : Run T W F). record it { is_begun = true }) counted
+  begun = ap (λ (it : ReporterRun T W F). record it { is_begun = true }) counted
 
   failed : (why : PrintError) → record next { failure = Some why } ≡ record before {
     handler = next.handler;
@@ -51,7 +51,7 @@ module _ {T W F : Type 0} (next before : Run T W F) (counts : Counts) (severity 
     counts = with_one before.counts given;
     failure = Some why;
   }
-  failed why = ap (λ (it : Run T W F). record it { failure = Some why }) counted
+  failed why = ap (λ (it : ReporterRun T W F). record it { failure = Some why }) counted
 
 pub returns-in-Ok-clause-reported : goal.returns-in-Ok-clause-reported
 returns-in-Ok-clause-reported g c =

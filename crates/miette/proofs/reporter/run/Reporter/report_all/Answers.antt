@@ -1,7 +1,7 @@
 use Rattle.std.proofs.Common.{◌∙◌, ap}
 use Rattle.miette.specs.declared.reporter.counts.Counts.{Counts}
 use Rattle.miette.specs.rules.Reported.{behaving}
-use Rattle.miette.specs.rules.Run.{run_status}
+use Rattle.miette.specs.rules.ReporterRun.{run_status}
 use Rattle.miette.proofs.Reported.{counted_all}
 use Rattle.miette.proofs.reporter.run.Reporter.report_all.Goals as goal
 

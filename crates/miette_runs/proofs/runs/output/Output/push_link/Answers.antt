@@ -1,5 +1,5 @@
 use Rattle.std.proofs.Common.{ap, chars, encode_utf8_all, refl, sym, ◌++◌, ◌∙◌}
-use Rattle.miette_page.proofs.PrintedText.{printed}
+use Rattle.miette_style.proofs.PrintedText.{printed}
 use Rattle.miette_runs.specs.rules.Runs.{link_start}
 use Rattle.miette_runs.specs.views.Outputs.{target_text}
 use Rattle.miette_runs.proofs.runs.output.Output.push_link.Goals as goal

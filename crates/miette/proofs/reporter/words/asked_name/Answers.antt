@@ -1,8 +1,0 @@
-use Rattle.std.specs.Prelude.{codes}
-use Rattle.miette_tree.proofs.Prefixes.{stripped}
-use Rattle.miette.specs.rules.Words.{asked_name}
-use Rattle.miette.proofs.reporter.words.asked_name.Goals as goal
-
-pub returns : goal.returns
-unfolding asked_name
-returns c = stripped c.strip_prefix.result (codes "--") c.args.word.now c.strip_prefix.ensures.cases

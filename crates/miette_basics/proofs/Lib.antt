@@ -1,3 +1,0 @@
-pub mod Cases
-pub mod Equality
-pub mod Ranges

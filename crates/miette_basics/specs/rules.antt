@@ -1,2 +1,0 @@
--- What users rely on.
-pub mod Lists

@@ -1,5 +1,0 @@
-use Rattle.miette_brief.proofs.EditsBack.{edit_back}
-use Rattle.miette_brief.proofs.laws.an_edit_reads_back.Goals as goal
-
-pub returns : goal.returns
-returns c = λ it name text start end. edit_back it name text start end

@@ -1,7 +1,0 @@
-use Rattle.std.proofs.Common.{Some}
-use Rattle.miette_tree.specs.views.Owned.{shown_source}
-use Rattle.miette_brief.proofs.KnownPlaces.{start_of}
-use Rattle.miette_brief.proofs.spots.read_spot.Goals as goal
-
-pub read_begin-requires : goal.read_begin-requires
-read_begin-requires g c = start_of (Some (shown_source g.S.SourceCode.source c.args.source))

@@ -1,3 +1,0 @@
-pub mod Plaining
-pub mod Prefixes
-pub mod Stepping

@@ -1,5 +1,0 @@
-//! The characters of a text, with their bytes and their columns.
-#![tactic(auto)]
-
-pub mod cells;
-pub mod plain;

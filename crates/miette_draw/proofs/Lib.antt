@@ -1,0 +1,2 @@
+pub mod PictureSteps
+pub mod DrawSteps

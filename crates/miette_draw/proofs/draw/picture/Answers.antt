@@ -1,0 +1,9 @@
+use Rattle.std.proofs.Common.{None}
+use Rattle.miette_draw.proofs.PictureSteps.{IfOk-same, reads-over}
+use Rattle.miette_draw.proofs.draw.picture.Goals as goal
+
+pub draw-requires : goal.draw-requires
+draw-requires c = record { reads = reads-over None _ _ _ _ c.in-Ok.ensures }
+
+pub returns-clause-ok : goal.returns-clause-ok
+returns-clause-ok c = IfOk-same None c.draw.result _ _ c.in-Ok.ensures c.draw.ensures.ok

@@ -1,0 +1,3 @@
+-- The definitions that users rely on, named as in docs/RULES.md.
+pub mod Pictures
+pub mod Words

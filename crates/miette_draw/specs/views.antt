@@ -1,0 +1,2 @@
+-- Values of the code, as the rules represent them.
+pub mod DrawReports

@@ -1,2 +1,0 @@
--- What holds of the rules.
-pub mod Places

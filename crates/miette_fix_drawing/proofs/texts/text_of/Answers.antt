@@ -1,5 +1,0 @@
-use Rattle.std.proofs.Common.{ap, take}
-use Rattle.miette_fix_drawing.proofs.texts.text_of.Goals as goal
-
-pub returns-clause-text : goal.returns-clause-text
-returns-clause-text c = ap (λ k. take k c.args.line.now) c.text_len-len.ensures.len

@@ -1,3 +1,0 @@
-pub mod CleanLines
-pub mod PlainFixes
-pub mod ShownContext

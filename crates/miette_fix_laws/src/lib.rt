@@ -1,4 +1,0 @@
-//! What holds of the rows of a fix.
-#![tactic(auto)]
-
-pub mod laws;

@@ -1,5 +1,0 @@
-use Rattle.miette_folds.proofs.NearFolds.{AreSomeStops}
-use Rattle.miette_folds.proofs.snippet_folds.stops_of.Given as goal
-
-abbrev pub invariant-loop-k : goal.invariant-loop-k
-invariant-loop-k l = AreSomeStops l.folds l.made.items l.k l.least

@@ -1,5 +1,0 @@
-use Rattle.miette_folds.proofs.AroundLines.{AreFroms}
-use Rattle.miette_folds.proofs.windows.froms_of.Given as goal
-
-abbrev pub invariant-loop-k : goal.invariant-loop-k
-invariant-loop-k l = AreFroms l.labels l.made.items l.k l.least

@@ -1,2 +1,0 @@
--- The code's own steps, which no rule names.
-pub mod FrameParts

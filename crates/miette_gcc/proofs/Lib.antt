@@ -1,3 +1,0 @@
-pub mod Arrays
-pub mod Reports
-pub mod Steps

@@ -1,2 +1,0 @@
--- What values mean.
-pub mod Grounds

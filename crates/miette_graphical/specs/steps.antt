@@ -1,0 +1,3 @@
+-- Steps of the code, which no rule names.
+pub mod TextKinds
+pub mod FixSources

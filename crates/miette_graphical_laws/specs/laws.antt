@@ -1,0 +1,7 @@
+-- The statements of further theorems about graphical reports.
+pub mod FittingRows
+pub mod Arrows
+pub mod Levels
+pub mod NumberRows
+pub mod ShownLines
+pub mod Determined

@@ -1,0 +1,4 @@
+//! Further theorems about graphical reports.
+#![tactic(auto)]
+
+pub mod laws;

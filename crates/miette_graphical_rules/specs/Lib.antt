@@ -1,0 +1,4 @@
+pub mod rules
+pub mod views
+pub mod steps
+pub mod laws

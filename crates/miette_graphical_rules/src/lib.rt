@@ -1,0 +1,5 @@
+//! The rules of graphical reports, their settings, and theorems about both.
+#![tactic(auto)]
+
+pub mod laws;
+pub mod settings;

@@ -1,2 +1,0 @@
-mod RuleTexts
-mod OneJobText

@@ -1,2 +1,0 @@
--- What the code's values stand for.
-pub mod GivenLabels

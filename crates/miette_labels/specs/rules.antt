@@ -1,0 +1,6 @@
+-- Definitions that contracts use. docs/RULES.md says them in words.
+pub mod Answers
+pub mod Around
+pub mod Contexts
+pub mod Groups
+pub mod Labels

@@ -1,5 +1,0 @@
-use Rattle.miette_language_server.proofs.ReadBack.{read_back}
-use Rattle.miette_language_server.proofs.laws.frame_laws.Goals as goal
-
-pub returns : goal.returns
-returns c = record { back = read_back }

@@ -1,2 +1,0 @@
-pub mod PassedCells
-pub mod PlainText

@@ -1,0 +1,15 @@
+pub mod Cases
+pub mod Equality
+pub mod Ranges
+pub mod Scans
+pub mod Places
+pub mod Backs
+pub mod Columns
+pub mod BinarySearch
+pub mod Cuts
+pub mod AreLines
+pub mod Only
+pub mod Firsts
+pub mod Parts
+pub mod Blocks
+pub mod Feeds

@@ -1,0 +1,16 @@
+use Rattle.std.proofs.Common.{◌-◌, length, not}
+use Rattle.memchr.specs.Find.{is_byte2}
+use Rattle.miette_lines.proofs.Blocks.{HasPassed}
+use Rattle.miette_lines.proofs.newlines.text_len.Given as goal
+
+abbrev pub invariant-loop-len : goal.invariant-loop-len
+invariant-loop-len l = HasPassed (λ b. not (is_byte2 10 13 b)) l.bytes l.len
+
+abbrev pub decreases-loop-len : goal.decreases-loop-len
+decreases-loop-len l = length l.bytes - l.len
+
+abbrev pub invariant-loop-len-2 : goal.invariant-loop-len-2
+invariant-loop-len-2 l = HasPassed (λ b. not (is_byte2 10 13 b)) l.bytes l.len
+
+abbrev pub decreases-loop-len-2 : goal.decreases-loop-len-2
+decreases-loop-len-2 l = length l.bytes - l.len

@@ -1,0 +1,13 @@
+use Rattle.std.proofs.Common.{◌≡◌, ◌+◌, ◌-◌, ◌≤◌}
+use Rattle.miette_lines.specs.rules.Lines.{line_of}
+use Rattle.miette_lines.proofs.scan.ends_between.Given as goal
+
+abbrev pub invariant-loop-at : goal.invariant-loop-at
+invariant-loop-at l = (line_of l.bytes l.from + l.ends ≡ line_of l.bytes l.at) × (l.from ≤ l.at) × (l.at ≤ l.to)
+    × (l.ends ≤ l.at - l.from)
+
+abbrev pub decreases-loop-at : goal.decreases-loop-at
+decreases-loop-at l = l.to - l.at
+
+abbrev pub invariant-loop-i : goal.invariant-loop-i
+invariant-loop-i l = (line_of l.bytes l.from + l.ends ≡ line_of l.bytes l.i) × (l.ends ≤ l.i - l.from)

@@ -1,9 +1,0 @@
-use Rattle.std.proofs.Common.{◌≡◌, ◌++◌, take}
-use Rattle.std.specs.List.{flat_map}
-use Rattle.miette_fixes.specs.rules.Edits.{Proposal}
-use Rattle.miette_lint.proofs.joint.joined.Given as goal
-
-abbrev pub invariant-loop-other : goal.invariant-loop-other
-invariant-loop-other l = l.joint ≡ record l.fn.fix {
-  edits = l.fn.fix.edits ++ flat_map (λ (other : Proposal). other.edits) (take l.other-index l.fixes);
-}

@@ -1,9 +1,0 @@
-pub mod Lists
-pub mod Parts
-pub mod Labels
-pub mod Fixes
-pub mod Rows
-pub mod Addresses
-pub mod Places
-pub mod Listed
-pub mod Results

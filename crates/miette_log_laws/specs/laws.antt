@@ -1,3 +1,0 @@
--- What holds of logs.
-pub mod Told
-pub mod Values

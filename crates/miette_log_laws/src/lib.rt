@@ -1,4 +1,0 @@
-//! What holds of SARIF logs.
-#![tactic(auto)]
-
-pub mod laws;

@@ -1,5 +1,0 @@
-use Rattle.miette_log_reading_laws.proofs.Written.{text_read}
-use Rattle.miette_log_reading_laws.proofs.laws.texts_of_logs_read_back.Goals as goal
-
-pub returns : goal.returns
-returns c = text_read

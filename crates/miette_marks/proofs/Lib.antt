@@ -1,3 +1,0 @@
-pub mod EndColumns
-pub mod OffsetColumns
-pub mod StopColumns

@@ -1,4 +1,0 @@
--- Values as they are held.
-pub mod Holding
-pub mod Counting
-pub mod Counted

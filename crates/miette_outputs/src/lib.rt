@@ -1,4 +1,0 @@
-//! What programs draw: the picture of a diagnostic over an input.
-#![tactic(auto)]
-
-pub mod picture;

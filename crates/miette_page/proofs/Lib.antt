@@ -1,3 +1,0 @@
-pub mod Paging
-pub mod PrintedText
-pub mod StyleBytes

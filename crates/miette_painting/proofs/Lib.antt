@@ -1,9 +1,0 @@
-pub mod DrawnRows
-pub mod Painted
-pub mod Remaining
-pub mod ShownFixes
-pub mod Sizes
-pub mod SourceRows
-pub mod Stateless
-pub mod Steps
-pub mod Styling

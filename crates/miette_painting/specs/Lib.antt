@@ -1,2 +1,0 @@
-pub mod views
-pub mod steps

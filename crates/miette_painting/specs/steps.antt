@@ -1,3 +1,0 @@
--- The code's own steps, which no rule names.
-pub mod TextKinds
-pub mod FixSources

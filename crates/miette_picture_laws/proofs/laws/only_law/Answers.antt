@@ -1,5 +1,0 @@
-use Rattle.miette_printed_laws.proofs.Only.{only-text}
-use Rattle.miette_picture_laws.proofs.laws.only_law.Goals as goal
-
-pub returns : goal.returns
-returns c = λ s t bytes printed reads. only-text s t bytes printed reads

@@ -1,4 +1,0 @@
-//! What holds of pictures.
-#![tactic(auto)]
-
-pub mod laws;

@@ -1,5 +1,0 @@
-use Rattle.miette_range_laws.proofs.Maximal.{ranges_are_maximal}
-use Rattle.miette_range_laws.proofs.laws.ranges_are_maximal.Goals as goal
-
-pub returns : goal.returns
-returns c = ranges_are_maximal

@@ -1,5 +1,0 @@
-use Rattle.miette_range_laws.proofs.FoldedRuns.{ranges_end_kept}
-use Rattle.miette_range_laws.proofs.laws.ranges_end_kept.Goals as goal
-
-pub returns : goal.returns
-returns c = ranges_end_kept

@@ -1,3 +1,0 @@
--- What holds of the rules.
-pub mod Belonging
-pub mod Folding

@@ -1,0 +1,12 @@
+use Rattle.std.proofs.Common.{◌≡◌, ◌++◌, take}
+use Rattle.std.specs.List.{flat_map}
+use Rattle.miette_read.specs.views.Values.{values_behind}
+use Rattle.miette_read_gcc.specs.rules.Gcc.{note_annotations}
+use Rattle.miette_read_gcc.specs.views.GccContexts.{gcc_context}
+use Rattle.miette_read_gcc.proofs.diagnostic_annotations.push_notes.Given as goal
+
+abbrev pub invariant-loop-note : goal.invariant-loop-note
+invariant-loop-note g l =
+    l.list.items
+    ≡ l.initial.list.items
+    ++ flat_map (note_annotations (gcc_context g.F.Files.found l.context)) (values_behind (take l.note-index l.notes))

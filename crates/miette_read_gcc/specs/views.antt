@@ -1,0 +1,2 @@
+-- The models of values.
+pub mod GccContexts

@@ -1,0 +1,12 @@
+use Rattle.std.proofs.Common.{◌≡◌, ◌++◌, take}
+use Rattle.std.specs.List.{flat_map}
+use Rattle.miette_read.specs.views.Values.{values_behind}
+use Rattle.miette_read_sarif.specs.rules.Results.{flow_annotations}
+use Rattle.miette_read_sarif.specs.views.RunContexts.{run_context}
+use Rattle.miette_read_sarif.proofs.context.RunContext.push_flows.Given as goal
+
+abbrev pub invariant-loop-flow : goal.invariant-loop-flow
+invariant-loop-flow g l =
+    l.list.items
+    ≡ l.initial.list.items
+    ++ flat_map (flow_annotations (run_context g.F.Files.found l.self)) (values_behind (take l.flow-index l.flows))

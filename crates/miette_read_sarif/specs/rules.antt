@@ -1,0 +1,14 @@
+-- The definitions that users rely on, as in docs/RULES.md.
+pub mod Messages
+pub mod Uris
+pub mod Bases
+pub mod Newlines
+pub mod Regions
+pub mod Descriptors
+pub mod Results
+pub mod Wholes
+pub mod Counting
+pub mod Notices
+pub mod Proposals
+pub mod Logs
+pub mod Names

@@ -1,8 +1,0 @@
--- What holds of the rules.
-pub mod Apart
-pub mod Applying
-pub mod Lists
-pub mod Proposed
-pub mod RustcTexts
-pub mod Shown
-pub mod Standing

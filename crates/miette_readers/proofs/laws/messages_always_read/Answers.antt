@@ -1,5 +1,0 @@
-use Rattle.miette_readers.proofs.AlwaysRead.{row_reads}
-use Rattle.miette_readers.proofs.laws.messages_always_read.Goals as goal
-
-pub returns : goal.returns
-returns c = λ files d h. row_reads files h d

@@ -1,5 +1,0 @@
-use Rattle.miette_readers.proofs.Kept.{report_keeps}
-use Rattle.miette_readers.proofs.laws.rows_are_kept.Goals as goal
-
-pub returns : goal.returns
-returns c = λ files said told offers t row. report_keeps files said told offers t row

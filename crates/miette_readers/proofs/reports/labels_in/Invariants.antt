@@ -1,6 +1,0 @@
-use Rattle.std.proofs.Common.{◌≡◌, take}
-use Rattle.miette_readers.specs.rules.Reports.{labels_in}
-use Rattle.miette_readers.proofs.reports.labels_in.Given as goal
-
-abbrev pub invariant-loop-mark : goal.invariant-loop-mark
-invariant-loop-mark l = l.labels.items ≡ labels_in (take l.mark-index l.marks) l.list

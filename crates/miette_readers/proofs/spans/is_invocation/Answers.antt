@@ -1,8 +1,0 @@
-use Rattle.std.proofs.Common.{rules}
-use Rattle.std.proofs.lemmas.Str.Pattern.{ends_text}
-use Rattle.miette_readers.specs.rules.Rustc.{is_invocation}
-use Rattle.miette_readers.proofs.spans.is_invocation.Goals as goal
-
-pub returns : goal.returns
-unfolding is_invocation
-returns c = search (rules, ends_text)

@@ -1,4 +1,0 @@
-use Rattle.miette_readers.proofs.standing.+first_from.Given as goal
-
-abbrev pub decreases-first_from : goal.decreases-first_from
-decreases-first_from g l = l.left

@@ -1,9 +1,0 @@
--- What was compiled, as a reader holds it.
-use Rattle.std.specs.Prelude.{ℕ, List, Option}
-use Rattle.std.specs.Option.{option_copied}
-use Rattle.miette_protocol.specs.rules.Reading.{Source}
-use Rattle.miette_readers.specs.declared.standing.Build.{Build}
-use Rattle.miette_readers.specs.rules.Rustc as rustc
-
-abbrev pub built : {F : Type 0} → (F → List ℕ → Option Source) → Build F → rustc.Build
-built found it = record { files = found it.files.now; folder = option_copied it.folder }

@@ -1,8 +1,0 @@
-use Rattle.miette_row_laws.proofs.CutLetters.{ends_shown, first_shown}
-use Rattle.miette_row_laws.proofs.laws.letters_are_cut.Goals as goal
-
-pub returns-clause-first : goal.returns-clause-first
-returns-clause-first c = first_shown
-
-pub returns-clause-ends : goal.returns-clause-ends
-returns-clause-ends c = ends_shown

@@ -1,5 +1,0 @@
-use Rattle.miette_row_laws.proofs.CutLaws.{cut_by_reach}
-use Rattle.miette_row_laws.proofs.laws.lines_are_cut_by_reach.Goals as goal
-
-pub returns : goal.returns
-returns c = cut_by_reach

@@ -1,8 +1,0 @@
-use Rattle.miette_row_laws.proofs.CutLaws.{bodies_stay, rows_stay}
-use Rattle.miette_row_laws.proofs.laws.lines_that_fit_stay.Goals as goal
-
-pub returns-clause-snippet : goal.returns-clause-snippet
-returns-clause-snippet c = bodies_stay
-
-pub returns-clause-rows : goal.returns-clause-rows
-returns-clause-rows c = rows_stay

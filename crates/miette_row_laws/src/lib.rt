@@ -1,4 +1,0 @@
-//! What holds of the rows of snippets.
-#![tactic(auto)]
-
-pub mod laws;

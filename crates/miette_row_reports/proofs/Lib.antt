@@ -1,3 +1,0 @@
-pub mod Logging
-pub mod ReportSteps
-pub mod WordSteps

@@ -1,7 +1,0 @@
-use Rattle.std.proofs.Common.{ap, map, refl}
-use Rattle.miette_sarif.specs.views.Found.{finding_of}
-use Rattle.miette_sarif.proofs.Gathers.{all_found}
-use Rattle.miette_sarif.proofs.gather.findings_of.Goals as goal
-
-pub returns : goal.returns
-returns g c = all_found _ _ _ (ap (map finding_of) c.new.ensures.items) refl c.in_ok-gather_all.ensures

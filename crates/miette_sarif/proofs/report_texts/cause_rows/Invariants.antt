@@ -1,0 +1,13 @@
+use Rattle.std.proofs.Common.{◌≡◌, ◌++◌, map}
+use Rattle.miette_tree.proofs.TreeSizes.{tree_size}
+use Rattle.miette_tree.specs.rules.Tree.{cause_of, causes_of}
+use Rattle.miette_tree.specs.views.Report.{tree_of}
+use Rattle.miette_sarif.proofs.report_texts.cause_rows.Given as goal
+
+abbrev pub decreases-loop-next : goal.decreases-loop-next
+decreases-loop-next g l = tree_size (tree_of g.D.Diagnostic.meaning g.S.SourceCode.source l.at)
+
+abbrev pub invariant-loop-next : goal.invariant-loop-next
+invariant-loop-next g l =
+    let value = tree_of g.D.Diagnostic.meaning g.S.SourceCode.source in
+    map (λ row. row.now) l.rows.items ++ causes_of (cause_of (value l.at)) ≡ causes_of (cause_of (value l.report))

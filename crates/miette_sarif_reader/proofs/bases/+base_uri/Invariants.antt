@@ -1,4 +1,0 @@
-use Rattle.miette_sarif_reader.proofs.bases.+base_uri.Given as goal
-
-abbrev pub decreases-base_uri : goal.decreases-base_uri
-decreases-base_uri l = l.most

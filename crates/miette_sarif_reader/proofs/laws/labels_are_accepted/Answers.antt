@@ -1,5 +1,0 @@
-use Rattle.miette_sarif_reader.proofs.LogsHold.{sarif_accepts}
-use Rattle.miette_sarif_reader.proofs.laws.labels_are_accepted.Goals as goal
-
-pub returns : goal.returns
-returns c = λ files d h. sarif_accepts files h d

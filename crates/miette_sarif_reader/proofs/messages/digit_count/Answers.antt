@@ -1,9 +1,0 @@
-use Rattle.miette_sarif_reader.specs.rules.Messages.{is_no_digit}
-use Rattle.miette_sarif_reader.proofs.WalkSteps.{position_nowhere, position_there}
-use Rattle.miette_sarif_reader.proofs.messages.digit_count.Goals as goal
-
-pub returns-in-Some : goal.returns-in-Some
-returns-in-Some c = position_there is_no_digit c.args.text.now c.in-Some.at c.in-Some.ensures
-
-pub returns-in-None : goal.returns-in-None
-returns-in-None c = position_nowhere is_no_digit c.args.text.now c.in-None.ensures

@@ -1,9 +1,0 @@
-use Rattle.serde_json.specs.View.{view}
-use Rattle.miette_sarif_reader.specs.rules.Newlines.{sequence_in}
-use Rattle.miette_sarif_reader.proofs.NewlineSteps.{pushed}
-use Rattle.miette_sarif_reader.proofs.newlines.push_sequence.Goals as goal
-
-pub returns-in-Some : goal.returns-in-Some
-returns-in-Some c =
-    pushed c.push_item.result c.args.list.now.items c.push_item.new.list.items c.in-Some.sequence
-    (sequence_in (view c.args.item.now)) c.in-Some.ensures c.push_item.ensures

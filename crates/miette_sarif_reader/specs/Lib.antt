@@ -1,2 +1,0 @@
-pub mod rules
-pub mod views

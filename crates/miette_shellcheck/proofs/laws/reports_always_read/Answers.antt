@@ -1,5 +1,0 @@
-use Rattle.miette_shellcheck.proofs.CommentsHold.{shellcheck_reads}
-use Rattle.miette_shellcheck.proofs.laws.reports_always_read.Goals as goal
-
-pub returns : goal.returns
-returns c = λ files d h. shellcheck_reads files h d

@@ -1,3 +1,0 @@
--- What users rely on, in the words of docs/RULES.md.
-pub mod Columns
-pub mod Comments

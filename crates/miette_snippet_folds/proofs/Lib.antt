@@ -1,0 +1,12 @@
+pub mod AroundLines
+pub mod GapLines
+pub mod HiddenLines
+pub mod LeftOutGaps
+pub mod LeftOutLines
+pub mod LineCounts
+pub mod LineExtent
+pub mod LineNumbers
+pub mod NearFolds
+pub mod PartCounts
+pub mod ReadExtents
+pub mod Starts

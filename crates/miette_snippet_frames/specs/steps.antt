@@ -1,0 +1,2 @@
+-- Steps of the code, which no rule names.
+pub mod FrameParts

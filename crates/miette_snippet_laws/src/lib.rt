@@ -1,0 +1,5 @@
+//! Theorems about the lines that snippets show and about their rows.
+#![tactic(auto)]
+
+pub mod range_laws;
+pub mod row_laws;

@@ -1,0 +1,4 @@
+use Rattle.miette_snippet_rules.proofs.line_underlines.ColumnMap.first_column.Goals as goal
+
+pub returns : goal.returns
+returns c = c.column_of.ensures

@@ -1,4 +1,0 @@
--- What the code's values stand for.
-pub mod Index
-pub mod Known
-pub mod Walking

@@ -1,7 +1,0 @@
-mod GccFixes
-mod GccTexts
-mod LogOffers
-mod LogFixes
-mod LogTexts
-mod ShellcheckFixes
-mod ShellcheckTexts

@@ -1,9 +1,0 @@
-use Rattle.std.proofs.Common.{◌≡◌, ◌++◌, map, string_bytes, take}
-use Rattle.std.specs.List.{flat_map}
-use Rattle.miette_tool_rows.specs.rules.Mends.{stale_row}
-use Rattle.miette_tool_rows.proofs.left.push_files.Given as goal
-
--- the rows of those that are passed
-abbrev pub invariant-loop-name : goal.invariant-loop-name
-invariant-loop-name l = string_bytes l.text
-    ≡ string_bytes l.initial.text ++ flat_map stale_row (map string_bytes (take l.name-index l.names))

@@ -1,4 +1,0 @@
-pub mod Folder
-pub mod RowState
-pub mod Reading
-pub mod Writing

@@ -1,2 +1,0 @@
-pub mod SameWords
-pub mod WordLaws

@@ -1,5 +1,0 @@
-use Rattle.miette_word_laws.proofs.WordLaws.{no-closing, no-half, no-inner, no-mark}
-use Rattle.miette_word_laws.proofs.laws.words_law.Goals as goal
-
-pub returns : goal.returns
-returns c = record { marks = no-mark; closing = no-closing; opening = no-inner; flags = no-half }

@@ -1,4 +1,0 @@
-//! What holds of the words of a text that is wrapped.
-#![tactic(auto)]
-
-pub mod laws;

@@ -1,8 +1,0 @@
-use Rattle.miette_wrap_laws.proofs.KeptTokens.{rows_kept, text_kept}
-use Rattle.miette_wrap_laws.proofs.laws.keeping_law.Goals as goal
-
-pub returns-clause-rows : goal.returns-clause-rows
-returns-clause-rows c = rows_kept
-
-pub returns-clause-text : goal.returns-clause-text
-returns-clause-text c = text_kept

@@ -1,4 +1,0 @@
-//! What holds of the rules of wrapping.
-#![tactic(auto)]
-
-pub mod laws;

@@ -1,4 +1,0 @@
-pub mod Simple
-pub mod Unique
-pub mod ColouredTexts
-pub mod KeptCells

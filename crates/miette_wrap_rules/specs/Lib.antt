@@ -1,3 +1,0 @@
-pub mod rules
-pub mod views
-pub mod laws

@@ -1,5 +1,0 @@
-use Rattle.miette_wrapping.proofs.PlainTexts.{searched-escape}
-use Rattle.miette_wrapping.proofs.wrap.has_no_escape.Goals as goal
-
-pub returns : goal.returns
-returns c = searched-escape c.args.bytes.now c.memchr.result c.is_none.result c.memchr.ensures c.is_none.ensures

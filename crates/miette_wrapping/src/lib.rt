@@ -1,4 +1,0 @@
-//! Text, wrapped under indents.
-#![tactic(auto)]
-
-pub mod wrap;
