@@ -34,7 +34,7 @@ def dependencies():
 
 
 def below(uses, name):
-    """The libraries that a crate stands on, lowest first."""
+    """The libraries that a crate depends on, lowest first."""
     found = []
     for it in uses[name]:
         found += [low for low in [*below(uses, it), it] if low not in found]
@@ -157,7 +157,7 @@ def has_clause(text, function):
 
 
 def at_top(text, separator):
-    """The parts of a text between separators that stand in no brackets."""
+    """The parts of a text between separators that are in no brackets."""
     depth, parts = 0, [""]
     for c in text.replace("->", "→"):
         depth += (c in "(<[{") - (c in ")>]}")

@@ -31,7 +31,7 @@ colon = record {
 abbrev pub colon_tree : Tree
 colon_tree = with_fix colon (with_source code_file (single_report (plain_diagnosis (message_alone (codes "no colon")))))
 
--- ---- what its picture is known to show
+-- ---- what its report is known to show
 
 -- The text contains the fix's message and rows.
 abbrev pub FixStands : List ℕ → Type 0

@@ -65,7 +65,7 @@ narrow = record plain {
       record plain.layout { line_columns = Some 12; label_lines = Some 2; end_labels = true };
 }
 
--- ---- what its picture is known to show
+-- ---- what its report is known to show
 
 -- The text contains each row of the report's own snippets on its own line.
 abbrev pub RowsStand : List ℕ → Type 0

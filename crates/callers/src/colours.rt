@@ -1,4 +1,4 @@
-//! What the clauses on colors and highlighters tell a caller.
+//! What the clauses on colors and highlighters say to a caller.
 
 ghost use Rattle.std.specs.Prelude.{◌≡◌, IfOk, true, encode_utf8_all, string_bytes};
 ghost use Rattle.miette_graphical_rules.specs.laws.PlainTexts.{plain_settings};

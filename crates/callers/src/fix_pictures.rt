@@ -1,4 +1,4 @@
-//! What the contract of `render_report` tells a caller about a fix.
+//! What the contract of `render_report` says about a fix.
 
 ghost use Rattle.std.specs.Prelude.{◌≡◌, IfOk, string_bytes};
 ghost use Rattle.miette_tree.specs.views.Report.{tree_of};

@@ -1,4 +1,4 @@
-//! What the contract of `render_report` tells a caller about one report.
+//! What the contract of `render_report` says about one report.
 
 ghost use Rattle.std.specs.Prelude.{◌≡◌, IfOk, string_bytes, encode_utf8_all};
 ghost use Rattle.miette_graphical_rules.specs.laws.HeldRows.{StartsRowIn};

@@ -1,5 +1,5 @@
-//! What each clause of `render_report` tells a caller. The report has a folded label, a line that is
-//! cut, a label at the end of its source, and a cause.
+//! What each clause of `render_report` says. The report has a folded label, a line that is cut, a label at the end of
+//! its source, and a cause.
 
 ghost use Rattle.std.specs.Prelude.{◌≡◌, ◌++◌, ℕ, List, IfOk, Some, false, true, string_bytes};
 ghost use Rattle.std.specs.List.{Contains};

@@ -6,7 +6,7 @@ use crate::stopping::{Reads, Red};
 use crate::themes::terminal;
 use crate::worked::{TABLES, table};
 use miette::handlers::{
-    BriefReportHandler, DebugReportHandler, Form, GraphicalReportHandler, JSONReportHandler,
+    BriefForm, BriefReportHandler, DebugReportHandler, GraphicalReportHandler, JSONReportHandler,
     NarratableReportHandler, ReportHandler,
 };
 use miette::options::{MietteHandler, MietteHandlerOpts};
@@ -139,7 +139,7 @@ pub fn tell(
         }
         HandlerKind::Brief => render_by(alloc, row, Ok(BriefReportHandler::new()), report),
         HandlerKind::Github => {
-            let telling = BriefReportHandler::new().with_form(Form::Github);
+            let telling = BriefReportHandler::new().with_form(BriefForm::Github);
             render_by(alloc, row, Ok(telling), report)
         }
         HandlerKind::Json => render_by(alloc, row, Ok(JSONReportHandler::new()), report),

@@ -22,7 +22,7 @@ pub enum Source {
     Missing,
     /// Bytes that the report owns, after their name (empty for none).
     Owned(&'static str, &'static [u8]),
-    /// Bytes of which a read may fail.
+    /// Bytes whose reads may fail.
     FailingSource(&'static [u8]),
 }
 

@@ -59,7 +59,7 @@ impl Reads {
     }
 }
 
-/// A source of which some reads fail.
+/// A source where some reads fail.
 #[derive(Drop)]
 pub struct FailingSource {
     bytes: Vec<u8>,

@@ -2,13 +2,14 @@
 //! what editors take of it, or its source after fixes.
 #![tactic(auto)]
 
-use miette_report::job::{fail_job_arguments, run_program};
+use miette_report::fault::Program;
+use miette_report::job::run_program;
 use miette_report::words::program_arguments;
 use std::process::ExitCode;
 
 fn main(rt: HostRuntime) -> ExitCode {
     ExitCode::from(match program_arguments(&rt) {
         Ok(words) => run_program(rt.alloc(), &words, rt.stdin(), rt.stdout(), rt.stderr()),
-        Err(fault) => fail_job_arguments(fault, rt.stderr()),
+        Err(fault) => Program::Job.end(fault, rt.stderr()),
     })
 }

@@ -1,4 +1,4 @@
--- The definitions that users rely on, named as in docs/RULES.md.
+-- The definitions that users rely on, named as in docs/REFERENCE.md.
 pub mod Options
 pub mod Choice
 pub mod Detection

@@ -1,6 +1,6 @@
 //! The handlers. Each renders reports in its own form.
 
-pub use miette_brief::form::Form;
+pub use miette_brief::form::BriefForm;
 pub use miette_brief::handler::BriefReportHandler;
 pub use miette_debug::handler::DebugReportHandler;
 pub use miette_graphical::handler::{GraphicalReportHandler, SetLayout};

@@ -28,7 +28,7 @@ use std::{fmt, io};
 pub enum PrintError {
     /// Allocation failed.
     Memory,
-    /// A source refused a read, and the output has no text for that.
+    /// A source couldn't be read, and the output has no text for that.
     Refused,
     /// The writer didn't take all bytes.
     Write,

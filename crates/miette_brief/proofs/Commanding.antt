@@ -18,8 +18,8 @@ use Rattle.miette_tree.specs.rules.DiagnosticParts.{given_labels}
 use Rattle.miette_tree.specs.rules.Reads.{accepts, further_pass}
 use Rattle.miette_labels.specs.rules.Groups.{in_order}
 use Rattle.miette_brief.specs.declared.escapes.CommandPart.TheVariants.{Message, Property as InProperty}
-use Rattle.miette_brief.specs.declared.form.Form.{Form}
-use Rattle.miette_brief.specs.declared.form.Form.TheVariants.{Github}
+use Rattle.miette_brief.specs.declared.form.BriefForm.{BriefForm}
+use Rattle.miette_brief.specs.declared.form.BriefForm.TheVariants.{Github}
 use Rattle.miette_brief.specs.rules.Commands.{Property, MessageRow, FileLocation, command_name, escaped}
 use Rattle.miette_brief.specs.rules.Commands.{further_property}
 use Rattle.miette_brief.specs.rules.Commands.{one_line_columns}
@@ -231,6 +231,6 @@ unread_refused source m its at ei ea unread =
 
 -- ---- forms
 
-pub same_settings : (b : BriefSettings) (chain : Bool) (form : Form) → chain ≡ b.cause_chain → form ≡ b.form
+pub same_settings : (b : BriefSettings) (chain : Bool) (form : BriefForm) → chain ≡ b.cause_chain → form ≡ b.form
     → record { cause_chain = chain; form = form } ≡ b
 same_settings b chain form e f = rw (e, f) refl

@@ -14,8 +14,8 @@ use Rattle.miette_tree.specs.rules.Answers.{AnswerTrees}
 use Rattle.miette_tree.specs.rules.Tree.{Tree, tree, Trees, no_trees, more_trees, effective}
 use Rattle.miette_brief.specs.declared.escapes.CommandPart.{CommandPart}
 use Rattle.miette_brief.specs.declared.escapes.CommandPart.TheVariants.{Message, Property as InProperty}
-use Rattle.miette_brief.specs.declared.form.Form.{Form}
-use Rattle.miette_brief.specs.declared.form.Form.TheVariants.{Gcc, Github}
+use Rattle.miette_brief.specs.declared.form.BriefForm.{BriefForm}
+use Rattle.miette_brief.specs.declared.form.BriefForm.TheVariants.{Gcc, Github}
 use Rattle.miette_brief.specs.laws.CommandBack.{AreCommands, AreCommandRows, ReadsCommand, all_diagnostics_in, as_it_is}
 use Rattle.miette_brief.specs.laws.CommandBack.{body_in}
 use Rattle.miette_brief.specs.laws.CommandBack.{decoded, diagnostics_in, head_in, hex_value, is_one_line}
@@ -343,7 +343,7 @@ rows_read : (cs : List Command) → AreCommandRows cs (map command_text cs)
 rows_read [] = tt
 rows_read (c ∷ cs) = (command_back c, rows_read cs)
 
-all_read : (f : Form) (chain : Bool) (t : Tree) (a : Answers) → f ≡ Github
+all_read : (f : BriefForm) (chain : Bool) (t : Tree) (a : Answers) → f ≡ Github
     → AreCommands (report_commands chain None a t) (brief_text_in f chain None a t)
 all_read Gcc chain t a is = cc
 all_read Github chain t a is = record {

@@ -32,8 +32,8 @@ use Rattle.miette_brief.specs.rules.Report.{own_brief_rows}
 use Rattle.miette_brief.specs.rules.Report.{report_rows, related_rows, brief, further_notes, labelled_rows}
 use Rattle.miette_brief.specs.rules.Report.{brief_advice_rows}
 use Rattle.miette_brief.specs.rules.Report.{brief_text_in}
-use Rattle.miette_brief.specs.declared.form.Form.{Form}
-use Rattle.miette_brief.specs.declared.form.Form.TheVariants.{Gcc, Github}
+use Rattle.miette_brief.specs.declared.form.BriefForm.{BriefForm}
+use Rattle.miette_brief.specs.declared.form.BriefForm.TheVariants.{Gcc, Github}
 use Rattle.miette_brief.specs.rules.PossibleAnswers.{IsBrief}
 use Rattle.miette_brief.specs.laws.Parts.{label_text_count, further_label_text_count, cause_count, edit_parts}
 use Rattle.miette_brief.specs.laws.Parts.{fix_parts, fixes_parts}
@@ -214,7 +214,7 @@ mutual
       counted_after (report_rows chain inherited (first_answers more) t) _ _ _
       (report_counted chain inherited (first_answers more) t) (related_counted chain inherited (later_answers more) ts)
 
-rows_for_each : (f : Form) (chain : Bool) (t : Tree) (a : Answers) → f ≡ Gcc → IsRows (parts chain t a)
+rows_for_each : (f : BriefForm) (chain : Bool) (t : Tree) (a : Answers) → f ≡ Gcc → IsRows (parts chain t a)
     (brief_text_in f chain None a t)
 rows_for_each Gcc chain t a is =
     let rows = report_rows chain None a t in

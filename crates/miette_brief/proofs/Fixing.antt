@@ -57,9 +57,9 @@ over_unread at source s fixes old new is fault e = record {
 
 -- ---- edits that can't be applied
 
-pub outside_told : (at : BriefLocation) (name : Option (List ℕ)) (bytes given : List ℕ) (proposal : FixModel)
+pub outside_told : {edit : ℕ} (at : BriefLocation) (name : Option (List ℕ)) (bytes given : List ℕ) (proposal : FixModel)
     (e : FixError)
-    → given ≡ bytes → (e ≢ Memory → edits_error (length given) proposal.edits ≡ Some e) → e ≡ OutOfRange
+    → given ≡ bytes → (e ≢ Memory → edits_error (length given) proposal.edits ≡ Some e) → e ≡ OutOfRange edit
     → failed_rows at proposal.message (codes "OutOfBounds") ≡ rows_in at name bytes proposal
 outside_told at name bytes given proposal e same h is =
     sym (ap (λ o. option_map_or (λ x. failed_rows at proposal.message (fix_failure_reason x)) o

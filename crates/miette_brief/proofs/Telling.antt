@@ -29,8 +29,8 @@ use Rattle.miette_brief.specs.rules.Report.{brief_text_in}
 use Rattle.miette_brief.specs.rules.Report.{own_command, report_commands, related_commands}
 use Rattle.miette_brief.specs.rules.Commands.{Command, command_text, commands_text}
 use Rattle.miette_brief.specs.rules.Github.{command}
-use Rattle.miette_brief.specs.declared.form.Form.{Form}
-use Rattle.miette_brief.specs.declared.form.Form.TheVariants.{Gcc, Github}
+use Rattle.miette_brief.specs.declared.form.BriefForm.{BriefForm}
+use Rattle.miette_brief.specs.declared.form.BriefForm.TheVariants.{Gcc, Github}
 use Rattle.miette_brief.specs.rules.Fixes.{brief_fix_origin, brief_fixes_rows}
 use Rattle.miette_brief.specs.rules.PossibleAnswers.{HasAccepted, FurtherAccepted, AreCauseAnswers, AreCausedAnswers}
 use Rattle.miette_brief.specs.rules.PossibleAnswers.{AreAnswers}
@@ -164,7 +164,7 @@ commands_joined (c ∷ cs) more =
     ∙ sym (append_assoc (command_text c) (10 ∷ commands_text cs) (commands_text more))
 
 -- a report is told as its own part, and after it those related to it
-report_joined : (f : Form) (chain : Bool) (inherited : Option Source) (a : Answers) (m : Diagnosis)
+report_joined : (f : BriefForm) (chain : Bool) (inherited : Option Source) (a : Answers) (m : Diagnosis)
     (s : Option Source) (c : Cause) (rs : Trees) → brief_text_in f chain inherited a (tree m s c rs)
     ≡ own_text f chain (effective s inherited) a m c ++ related_text f chain (effective s inherited) (related_answers a)
     rs
@@ -175,7 +175,7 @@ report_joined Github chain inherited a m s c rs =
     let from = effective s inherited in
     commands_joined (own_command chain from a m c ∷ []) (related_commands chain from (related_answers a) rs)
 
-related_joined : (f : Form) (chain : Bool) (inherited : Option Source) (more : AnswerTrees BriefReadAnswers) (t : Tree)
+related_joined : (f : BriefForm) (chain : Bool) (inherited : Option Source) (more : AnswerTrees BriefReadAnswers) (t : Tree)
     (ts : Trees)
     → related_text f chain inherited more (more_trees t ts) ≡ brief_text_in f chain inherited (first_answers more) t
     ++ related_text f chain inherited (later_answers more) ts
@@ -186,13 +186,13 @@ related_joined Github chain inherited more t ts =
     commands_joined (report_commands chain inherited (first_answers more) t)
     (related_commands chain inherited (later_answers more) ts)
 
-none_related : (f : Form) (chain : Bool) (inherited : Option Source) (more : AnswerTrees BriefReadAnswers)
+none_related : (f : BriefForm) (chain : Bool) (inherited : Option Source) (more : AnswerTrees BriefReadAnswers)
     → related_text f chain inherited more no_trees ≡ []
 none_related Gcc chain inherited more = refl
 none_related Github chain inherited more = refl
 
 -- of the answers for a report those for its own part are used there
-own_listed : (f : Form) (chain : Bool) (source : Option Source) (a : Answers) (more : AnswerTrees BriefReadAnswers)
+own_listed : (f : BriefForm) (chain : Bool) (source : Option Source) (a : Answers) (more : AnswerTrees BriefReadAnswers)
     (m : Diagnosis)
     (c : Cause) → own_text f chain source (listed (own_brief_answer a) (cause_answers a) more) m c
     ≡ own_text f chain source a m c
@@ -359,7 +359,7 @@ mutual
       let later = same_related chain inherited (later_answers more) ts p.1 reads.1 in
       (ap₂ (λ x y. x ++ y) own.0 later.0, ap₂ (λ x y. x ++ y) own.1 later.1)
 
-same_text : (f : Form) (chain : Bool) (a : Answers) (t : Tree) → AreAnswers None a t → BriefSourcesRead None t
+same_text : (f : BriefForm) (chain : Bool) (a : Answers) (t : Tree) → AreAnswers None a t → BriefSourcesRead None t
     → brief_text_in f chain None a t ≡ brief_text_in f chain None unlisted t
 same_text Gcc chain a t p reads = ap brief_rows_text (same_report chain None a t p reads).0
 same_text Github chain a t p reads = ap commands_text (same_report chain None a t p reads).1

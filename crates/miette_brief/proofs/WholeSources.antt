@@ -13,8 +13,8 @@ use Rattle.miette_tree.specs.rules.DiagnosticParts.{given_labels}
 use Rattle.miette_tree.specs.rules.Tree.{Tree, tree, Trees, effective, related_of}
 use Rattle.miette_tree.proofs.TreeSizes.{cause_size, tree_size, trees_size}
 use Rattle.miette_labels.specs.rules.Groups.{in_order, put_label}
-use Rattle.miette_brief.specs.declared.form.Form.{Form}
-use Rattle.miette_brief.specs.declared.form.Form.TheVariants.{Gcc, Github}
+use Rattle.miette_brief.specs.declared.form.BriefForm.{BriefForm}
+use Rattle.miette_brief.specs.declared.form.BriefForm.TheVariants.{Gcc, Github}
 use Rattle.miette_brief.specs.declared.whole_source.WholeSource.{WholeSource}
 use Rattle.miette_brief.specs.declared.whole_source.WholeSource.TheVariants.{Nowhere, Unread, Read}
 use Rattle.miette_brief.specs.rules.Commands.{FileLocation}
@@ -67,12 +67,12 @@ own_or_else (Some source) inherited None it h k = absurd h
 own_or_else (Some source) inherited (Some mine) it h k = h
 
 -- what a report lies over
-pub whole_below : (form : Form) (own inherited : Option Source) (mine : Option WholeSource) (it : WholeSource)
+pub whole_below : (form : BriefForm) (own inherited : Option Source) (mine : Option WholeSource) (it : WholeSource)
     → IsOwnIn form own mine → IsWholeIn form inherited it → IsWholeIn form (effective own inherited) (unwrap_or mine it)
 whole_below Gcc own inherited mine it h k = tt
 whole_below Github own inherited mine it h k = own_or_else own inherited mine it h k
 
-pub whole_in : (form : Form) (own inherited source : Option Source) (mine : Option WholeSource) (it below : WholeSource)
+pub whole_in : (form : BriefForm) (own inherited source : Option Source) (mine : Option WholeSource) (it below : WholeSource)
     → source ≡ effective own inherited → below ≡ unwrap_or mine it → IsOwnIn form own mine
     → IsWholeIn form inherited it → IsWholeIn form source below
 whole_in form own inherited source mine it below es eb h k =
@@ -81,7 +81,7 @@ whole_in form own inherited source mine it below es eb h k =
     (whole_below form own inherited mine it h k))
 
 -- above all reports there is no source
-pub nowhere_in : (form : Form) → IsWholeIn form None Nowhere
+pub nowhere_in : (form : BriefForm) → IsWholeIn form None Nowhere
 nowhere_in Gcc = tt
 nowhere_in Github = tt
 

@@ -151,8 +151,8 @@ fn push_read(
 {
     match check_edits(*out.allocator(), text.lines.bytes().len(), fix.edits()) {
         Ok(list) => push_applied(out, at, text, fix.message(), &list),
-        Err(FixError::OutOfBounds) => push_failed(out, at, fix.message(), "OutOfBounds"),
-        Err(FixError::Overlap) => push_failed(out, at, fix.message(), "Overlap"),
+        Err(FixError::OutOfBounds { .. }) => push_failed(out, at, fix.message(), "OutOfBounds"),
+        Err(FixError::Overlap { .. }) => push_failed(out, at, fix.message(), "Overlap"),
         Err(FixError::Memory) => Err(AllocError),
     }
 }

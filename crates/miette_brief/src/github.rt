@@ -5,7 +5,7 @@ ghost use Rattle.std.specs.Prelude.{◌+◌, Some, drop, option_copied, slice_ra
 ghost use Rattle.miette_tree.specs.views.Report.{tree_of};
 ghost use Rattle.miette_tree.specs.views.Owned.{opt_ref_source};
 ghost use Rattle.miette_tree.specs.rules.Tree.{head, cause_of, causes_of};
-ghost use Rattle.miette_brief.specs.declared.form.Form.TheVariants.{Github};
+ghost use Rattle.miette_brief.specs.declared.form.BriefForm.TheVariants.{Github};
 ghost use Rattle.miette_brief.specs.rules.Commands.{escaped, message_rows_text};
 ghost use Rattle.miette_brief.specs.rules.Github.{advice_message_rows, cause_message_rows, fix_message_row, nonempty};
 ghost use Rattle.miette_brief.specs.rules.Github.{note_message_row};

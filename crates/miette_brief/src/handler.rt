@@ -14,7 +14,7 @@ ghost use Rattle.miette_brief.specs.steps.AppendedParts.{AppendsBriefReport};
 ghost use Rattle.miette_brief.specs.steps.Reads.{brief_labels_accepted};
 ghost use Rattle.miette_brief.specs.steps.WholeSources.{IsOwnIn, IsWholeIn};
 
-use crate::form::Form;
+use crate::form::BriefForm;
 use crate::github::push_command;
 use crate::report::push_diagnostic;
 use crate::whole_source::{WholeSource, own_or_inherited, read_own_source};
@@ -34,7 +34,7 @@ use std::marker::Model;
 #[derive(Debug, Drop)]
 pub struct BriefReportHandler {
     cause_chain: bool,
-    form: Form,
+    form: BriefForm,
 }
 
 impl Model for BriefReportHandler {
@@ -64,7 +64,7 @@ impl BriefReportHandler {
     {
         BriefReportHandler {
             cause_chain: true,
-            form: Form::Gcc,
+            form: BriefForm::Gcc,
         }
     }
 
@@ -92,7 +92,7 @@ impl BriefReportHandler {
     }
 
     /// Sets the output format.
-    pub fn with_form(self, form: Form) -> Self
+    pub fn with_form(self, form: BriefForm) -> Self
         ensures { result ≡ record self { form = form } }
     {
         BriefReportHandler {
@@ -107,7 +107,7 @@ impl BriefReportHandler {
         self.cause_chain
     }
 
-    fn form(&self) -> Form
+    fn form(&self) -> BriefForm
         ensures { result ≡ self.now.form }
     {
         self.form
@@ -171,8 +171,8 @@ impl BriefReportHandler {
     {
         let chain = self.shows_causes();
         match self.form() {
-            Form::Gcc => push_diagnostic(out, chain, report, source),
-            Form::Github => push_command(out, chain, report, source, whole),
+            BriefForm::Gcc => push_diagnostic(out, chain, report, source),
+            BriefForm::Github => push_command(out, chain, report, source, whole),
         }
     }
 
@@ -186,8 +186,8 @@ impl BriefReportHandler {
             (source_of (tree_of D.meaning S.source report.now)) own) }
     {
         match self.form() {
-            Form::Gcc => Ok(None),
-            Form::Github => read_own_source(alloc, report),
+            BriefForm::Gcc => Ok(None),
+            BriefForm::Github => read_own_source(alloc, report),
         }
     }
 

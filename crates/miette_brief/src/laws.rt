@@ -6,7 +6,7 @@ ghost use Rattle.std.specs.List.{All};
 ghost use Rattle.miette_tree.specs.rules.Tree.{Tree};
 ghost use Rattle.miette_tree.specs.rules.Reads.{AlwaysReads};
 ghost use Rattle.miette_tree.specs.views.Handler.{AppendsOne};
-ghost use Rattle.miette_brief.specs.declared.form.Form.TheVariants.{Gcc, Github};
+ghost use Rattle.miette_brief.specs.declared.form.BriefForm.TheVariants.{Gcc, Github};
 ghost use Rattle.miette_brief.specs.rules.Rows.{TextRow, one_line_text, text_row_text};
 ghost use Rattle.miette_brief.specs.rules.FixIts.{FixIt, fix_it_text};
 ghost use Rattle.miette_brief.specs.rules.Report.{BriefSettings, Answers, brief, report_commands, unlisted};

@@ -9,7 +9,7 @@ ghost use Rattle.miette_tree.specs.views.Owned.{ref_source, opt_ref_source};
 ghost use Rattle.miette_tree.specs.rules.Tree.{head, cause_of};
 ghost use Rattle.miette_tree.specs.rules.DiagnosticParts.{given_labels};
 ghost use Rattle.miette_tree.specs.rules.Reads.{accepts, further_pass};
-ghost use Rattle.miette_brief.specs.declared.form.Form.TheVariants.{Gcc};
+ghost use Rattle.miette_brief.specs.declared.form.BriefForm.TheVariants.{Gcc};
 ghost use Rattle.miette_brief.specs.rules.Locations.{label_location as place_of_label};
 ghost use Rattle.miette_brief.specs.rules.PossibleAnswers.{HasAccepted, FurtherAccepted};
 ghost use Rattle.miette_brief.specs.rules.Report.{diagnostic_row, note_rows_of, note_rows, further_notes, cause_row};

@@ -1,2 +1,2 @@
--- The definitions that users rely on, named as in docs/RULES.md.
+-- The definitions that users rely on, named as in crates/miette_debug/CALLING.md.
 pub mod DebugText

@@ -1,4 +1,4 @@
--- Definitions that contracts use. docs/RULES.md says them in words.
+-- Definitions that contracts use. crates/miette_devices/CALLING.md says them in words.
 pub mod Words
 pub mod Faults
-pub mod Outputs
+pub mod OutputForms

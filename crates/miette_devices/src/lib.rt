@@ -1,9 +1,9 @@
-//! What all programs share: devices that remember their failures, faults with their rows and statuses, words, forms of
-//! output.
+//! What all programs share: readers and writers that remember failures, errors with their messages and exit codes,
+//! arguments, output forms.
 #![tactic(auto)]
 
 pub mod device;
 pub mod fault;
-pub mod output;
+pub mod output_form;
 pub mod whole;
 pub mod words;

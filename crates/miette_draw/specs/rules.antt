@@ -1,3 +1,3 @@
--- The definitions that users rely on, named as in docs/RULES.md.
+-- The definitions that users rely on, named as in crates/miette_draw/CALLING.md.
 pub mod Pictures
 pub mod Words

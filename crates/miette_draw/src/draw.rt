@@ -9,7 +9,6 @@ ghost use Rattle.miette_draw.specs.rules.Pictures.{IsPicture};
 ghost use Rattle.miette_protocol.specs.views.Diagnostic.{meaning_of};
 ghost use Rattle.miette_tree.specs.views.Report.{tree_of};
 ghost use Rattle.miette_draw.specs.views.DrawReports.{draw_request, draw_label_of, draw_meaning_of, draw_tree_of};
-ghost use Rattle.miette_devices.specs.rules.Faults.{status_of};
 ghost use Rattle.miette_draw.specs.rules.Words.{AreDrawWords, IsNoDrawCall};
 
 use crate::drawing::draw;
@@ -43,8 +42,8 @@ pub struct DrawArguments<'a> {
 }
 
 impl<'a> DrawArguments<'a> {
-    /// Reads the arguments after the program's name. Returns `None` unless there are five, of which the second and the
-    /// third are numbers.
+    /// Reads the arguments after the program's name. Returns `None` unless there are five, and the second and the third
+    /// are numbers.
     pub fn read(words: &'a [String]) -> Option<Self>
         ensures some { IfSome result (λ it. AreDrawWords (map string_bytes words.now) (draw_request it)) }
         ensures none { IsNone result → IsNoDrawCall (map string_bytes words.now) }
@@ -166,13 +165,6 @@ where
         Ok(()) => 0,
         Err(fault) => Program::Draw.end(fault, faults),
     }
-}
-
-/// Ends `draw` if its arguments could not be read: prints the error's text and a line feed, and returns the exit code.
-pub fn fail_draw_arguments<F: Write + Drop>(fault: ProgramError, faults: F) -> u8
-    ensures { result ≡ status_of Program.Draw fault }
-{
-    Program::Draw.end(fault, faults)
 }
 
 /// Checks the arguments before anything is read, then writes the graphical report.

@@ -93,8 +93,8 @@ fn push_refusal<O: Canvas>(
         ⊕ rows_tokens (refused_fix_row (settings_of settings.now) (error_name error) ∷ []))) }
 {
     match error {
-        FixError::OutOfBounds => push_refused_fix(page, settings, "OutOfBounds"),
-        FixError::Overlap => push_refused_fix(page, settings, "Overlap"),
+        FixError::OutOfBounds { .. } => push_refused_fix(page, settings, "OutOfBounds"),
+        FixError::Overlap { .. } => push_refused_fix(page, settings, "Overlap"),
         FixError::Memory => Err(AllocError),
     }
 }

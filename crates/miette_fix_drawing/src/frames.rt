@@ -1,6 +1,6 @@
 //! The frames of a fix.
 
-ghost use Rattle.std.specs.Prelude.{◌≡◌, ◌≤◌, ◌<◌, ◌+◌, ◌-◌, ◌++◌, ◌∷◌, length, decimal, drop, take};
+ghost use Rattle.std.specs.Prelude.{◌≡◌, ◌≤◌, ◌<◌, ◌+◌, ◌-◌, ◌++◌, ◌∷◌, length, drop, take};
 ghost use Rattle.std.specs.Prelude.{true, false, IfOk, OnOk};
 ghost use Rattle.std.specs.List.{AllByRecursion};
 ghost use Rattle.miette_style.specs.views.Printouts.{◌⊕◌};
@@ -25,10 +25,11 @@ use crate::frame_lines::{lines_after, measure_segments, past_kept, push_hunk, ta
 use crate::hunks::Hunk;
 use crate::line_starts::PushResult;
 use crate::segments::{DiffDrawing, Segment, measure_segment, push_segment};
-use itoa::Buffer;
 use miette_protocol::protocol::SourceSpan;
 use miette_protocol::source::SourceCode;
-use miette_snippet_frames::frame::{Frame, SnippetHeader, push_frame_bottom, push_frame_top};
+use miette_snippet_frames::frame::{
+    Frame, SnippetHeader, digits, push_frame_bottom, push_frame_top,
+};
 use miette_snippet_rules::options::SnippetSettings;
 use miette_style::canvas::Canvas;
 use miette_style::page::RowPrinter;
@@ -67,14 +68,6 @@ const FIRST: DiffPosition = DiffPosition {
     old_offset: 0,
     new_offset: 0,
 };
-
-// Returns the number of decimal digits.
-fn digits(number: usize) -> usize
-    ensures { result ≡ length (decimal number) }
-{
-    let mut buffer = Buffer::new();
-    buffer.format(number).len()
-}
 
 // Returns segment `i`.
 fn segment_at<'a>(list: &[Segment<'a>], i: usize) -> Segment<'a>

@@ -43,7 +43,7 @@ pub(crate) enum DiffLineKind {
 
 /// A shown line with its terminator, and its counterpart if it has one.
 #[derive(Clone, Copy)]
-pub(crate) struct SegmentLine<'a> {
+pub(crate) struct DiffLine<'a> {
     pub(crate) kind: DiffLineKind,
     pub(crate) text: &'a [u8],
     pub(crate) other: Option<PairedText<'a>>,
@@ -123,7 +123,7 @@ fn paired_text(other: Option<&[u8]>, away: usize) -> Option<PairedText<'_>>
 
 impl<'a> Segment<'a> {
     /// Takes off the first line, if there is one. `AllocError` if a byte count exceeds `usize::MAX`.
-    pub(crate) fn next(&mut self) -> Result<Option<SegmentLine<'a>>, AllocError>
+    pub(crate) fn next(&mut self) -> Result<Option<DiffLine<'a>>, AllocError>
         ensures lines { IfOk result (λ line.
             lines_of_segment self.old ≡ shown_before line (lines_of_segment self.new)) }
         ensures fewer { IfOk result (λ line.
@@ -136,7 +136,7 @@ impl<'a> Segment<'a> {
         };
         let other = next_line(&mut self.others);
         self.away = away_past(kind, away, other)?;
-        Ok(Some(SegmentLine {
+        Ok(Some(DiffLine {
             kind,
             text,
             other: paired_text(other, away),
@@ -145,7 +145,7 @@ impl<'a> Segment<'a> {
 }
 
 /// Returns the position after a line.
-pub(crate) fn past(at: &DiffPosition, line: &SegmentLine) -> Result<DiffPosition, AllocError>
+pub(crate) fn past(at: &DiffPosition, line: &DiffLine) -> Result<DiffPosition, AllocError>
     ensures { IfOk result (λ after. diff_position_of after ≡ past (diff_position_of at.now) (line_of_shown line.now)) }
 {
     let size = line.text.len();
@@ -162,7 +162,7 @@ pub(crate) fn past(at: &DiffPosition, line: &SegmentLine) -> Result<DiffPosition
 }
 
 // Returns the one-based number of a line.
-fn number_of(at: &DiffPosition, line: &SegmentLine) -> Result<usize, AllocError>
+fn number_of(at: &DiffPosition, line: &DiffLine) -> Result<usize, AllocError>
     ensures { IfOk result (λ number. number ≡ number_of (diff_position_of at.now) (line_of_shown line.now)) }
 {
     match line.kind {
@@ -254,7 +254,7 @@ fn push_changed_line<O: Canvas>(
     page: &mut RowPrinter<O>,
     drawing: &DiffDrawing,
     at: &DiffPosition,
-    line: &SegmentLine,
+    line: &DiffLine,
 ) -> PushResult
     requires deleted { AreApart drawing.now.deleted.now }
     requires inserted { AreApart drawing.now.inserted.now }
@@ -282,7 +282,7 @@ fn push_line<O: Canvas>(
     page: &mut RowPrinter<O>,
     drawing: &DiffDrawing,
     at: &DiffPosition,
-    line: &SegmentLine,
+    line: &DiffLine,
 ) -> Result<DiffPosition, AllocError>
     requires deleted { AreApart drawing.now.deleted.now }
     requires inserted { AreApart drawing.now.inserted.now }

@@ -1,3 +1,4 @@
+pub mod ChangedCuts
 pub mod Chains
 pub mod Commons
 pub mod Parting

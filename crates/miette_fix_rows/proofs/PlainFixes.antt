@@ -323,8 +323,8 @@ module _ (P : Type 0) where
         (plain_run_row P s hs are_plain clean (codes "]") (λ p. refl)))))
 
     name_clean : (error : FixError) → IsClean (error_name error)
-    name_clean OutOfBounds = refl
-    name_clean Overlap = refl
+    name_clean (OutOfBounds edit) = refl
+    name_clean (Overlap first second) = refl
     name_clean Memory = refl
 
     plain_unless : (source : Source) (edits : List Replacement) (refused : Option FixError) → (P → IsCleanSource source)

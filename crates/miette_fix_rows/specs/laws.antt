@@ -2,4 +2,5 @@
 pub mod Frames
 pub mod Whole
 pub mod Worked
+pub mod ChangedCuts
 pub mod Context

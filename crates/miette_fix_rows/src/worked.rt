@@ -1,7 +1,7 @@
 //! Examples of fixes, computed by the definitions.
 
 ghost use Rattle.std.specs.Prelude.{◌≡◌, [], ◌∷◌, ◌++◌, codes};
-ghost use Rattle.miette_fix_rows.specs.laws.Worked.{one_edit, han, worked_rows};
+ghost use Rattle.miette_fix_rows.specs.laws.Worked.{cut_rows, han, one_edit, worked_rows};
 
 /// The definitions give these rows for these fixes.
 pub fn worked_examples()
@@ -113,6 +113,14 @@ pub fn worked_examples()
         ∷ codes " 2 - b"
         ∷ codes " 1 + a"
         ∷ codes " 3 │ c"
+        ∷ codes "   ╰────"
+        ∷ [] }
+    ensures cut_lines { cut_rows 12 (codes "first line of many columns\nabcdefghijklmnopqrst\n")
+        (one_edit 36 2 (codes "XYZWVU") ∷ [])
+        ≡ codes "   ╭─[f:2:10]"
+        ∷ codes " 1 │ first line …"
+        ∷ codes " 2 - …hijklm…"
+        ∷ codes " 2 + …hiXYZWVUlm…"
         ∷ codes "   ╰────"
         ∷ [] }
 {}

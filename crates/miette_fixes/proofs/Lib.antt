@@ -6,6 +6,8 @@ pub mod Choosing
 pub mod Overlaps
 pub mod Sorting
 pub mod Taking
+pub mod Indices
 pub mod Moving
+pub mod Named
 pub mod Permuted
 pub mod AppliedStanding

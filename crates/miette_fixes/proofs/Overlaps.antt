@@ -1,14 +1,16 @@
 -- Edits in their order overlap where one begins before the one before it ends.
-use Rattle.std.proofs.Common.{ℕ, ◌≤◌, ◌≡◌, Bool, true, false, ltb, ◌||◌, List, [], ◌∷◌}
+use Rattle.std.proofs.Common.{ℕ, suc, ◌≤◌, ◌≡◌, Bool, true, false, cond, ltb, ◌||◌, List, [], ◌∷◌, length}
 use Rattle.std.proofs.Common.{refl, sym, ap, ◌∙◌, arith, subst}
-use Rattle.std.specs.Prelude.{None, Some}
-use Rattle.miette_fixes.specs.declared.error.FixError.TheVariants.{Overlap}
-use Rattle.std.specs.List.{AllByRecursion, list_any}
-use Rattle.std.proofs.lemmas.Bool.{le-ltb, ltb-false, or_parts}
+use Rattle.std.specs.Prelude.{Option, None, Some, is_some, position}
+use Rattle.miette_fixes.specs.declared.error.FixError.{FixError}
+use Rattle.miette_fixes.specs.declared.error.FixError.TheVariants.{OutOfBounds}
+use Rattle.std.specs.List.{AllByRecursion, list_any, position_or_len}
+use Rattle.std.proofs.lemmas.Bool.{le-ltb, lt-ltb, ltb-false, ltb-true, or_parts}
+use Rattle.std.proofs.lemmas.Option.{same_Some}
 use Rattle.miette_lines.proofs.Cases.{by_cases}
 use Rattle.miette_fixes.specs.rules.Edits.{Replacement, end_of, ends_after, is_after, overlap, some_overlap}
-use Rattle.miette_fixes.specs.rules.Applying.{put_edit, by_offset, edits_error}
-use Rattle.miette_fixes.specs.steps.Sweeping.{crosses_from}
+use Rattle.miette_fixes.specs.rules.Applying.{put_edit, by_offset, edits_error, first_overlap, overlap_after, overlap_error}
+use Rattle.miette_fixes.specs.steps.Sweeping.{crossing, crossing_after}
 use Rattle.miette_fixes.specs.views.Ordered.{FitFrom}
 use Rattle.miette_fixes.proofs.Sorting.{Climbs, less, less_order, not_after, by_offset_climbs}
 
@@ -85,6 +87,11 @@ overlap_by_offset (edit ∷ edits) = overlap_put edit (by_offset edits)
 
 -- ---- of edits in their order
 
+-- whether an edit begins before an offset, or before the end of the previous edit
+abbrev crosses_from : ℕ → List Replacement → Bool
+crosses_from at [] = false
+crosses_from at (edit ∷ edits) = ltb edit.span.offset at || crosses_from (end_of edit) edits
+
 -- an edit that ends before another one begins overlaps none after that
 none_further : (a e : Replacement) (edits : List Replacement) → end_of a ≤ e.span.offset
     → AllByRecursion (λ y. less y a ≡ false) edits → AllByRecursion (λ y. less y e ≡ false) edits
@@ -136,17 +143,91 @@ pub sorted_inside : (n : ℕ) (edits sorted : List Replacement) → sorted ≡ b
     → list_any (ends_after n) edits ≡ false → list_any (ends_after n) sorted ≡ false
 sorted_inside n edits sorted is h = ap (list_any (ends_after n)) is ∙ any_by_offset (ends_after n) edits ∙ h
 
-pub sorted_crosses : (n : ℕ) (edits sorted : List Replacement) (found : Bool) → sorted ≡ by_offset edits
-    → found ≡ crosses_from 0 sorted → some_overlap edits ≡ found
-sorted_crosses n edits sorted found is h = sym (crosses_is edits) ∙ ap (crosses_from 0) (sym is) ∙ sym h
+-- the error that the sweep finds
+found_after : (edits : List Replacement) (a : Replacement) (sorted : List Replacement) → Climbs less (a ∷ sorted)
+    → crossing_after edits a sorted ≡ overlap_after edits a sorted
+found_after edits a [] h = refl
+found_after edits a (e ∷ es) h =
+    let first : is_after a e ≡ false = h.0.0 in
+    rw first (ap (λ r. cond (ltb e.span.offset (end_of a)) (Some (overlap_error edits a e)) r)
+    (found_after edits e es h.1))
 
-pub refused_overlap : (n : ℕ) (edits : List Replacement) → list_any (ends_after n) edits ≡ false
-    → some_overlap edits ≡ true → edits_error n edits ≡ Some Overlap
-refused_overlap n edits h k = rw (h, k) refl
+found_first : (edits sorted : List Replacement) → Climbs less sorted → crossing edits sorted
+    ≡ first_overlap edits sorted
+found_first edits [] h = refl
+found_first edits (a ∷ es) h = found_after edits a es h
+
+some_after : (edits : List Replacement) (a : Replacement) (sorted : List Replacement)
+    → is_some (crossing_after edits a sorted) ≡ crosses_from (end_of a) sorted
+some_after edits a [] = refl
+some_after edits a (e ∷ es) =
+    by_cases {C = is_some (crossing_after edits a (e ∷ es)) ≡ crosses_from (end_of a) (e ∷ es)}
+    (ltb e.span.offset (end_of a)) (λ t. rw t refl) (λ f. rw f (some_after edits e es))
+
+some_found : (edits sorted : List Replacement) → is_some (crossing edits sorted) ≡ crosses_from 0 sorted
+some_found edits [] = refl
+some_found edits (e ∷ es) =
+    let low : ltb e.span.offset 0 ≡ false = le-ltb e.span.offset 0 (omega arith) in rw low (some_after edits e es)
+
+found_is : (edits : List Replacement) → crossing edits (by_offset edits) ≡ first_overlap edits (by_offset edits)
+found_is edits = found_first edits (by_offset edits) (by_offset_climbs edits)
+
+some_is : (edits : List Replacement) → is_some (first_overlap edits (by_offset edits)) ≡ some_overlap edits
+some_is edits = ap is_some (sym (found_is edits)) ∙ some_found edits (by_offset edits) ∙ crosses_is edits
+
+none_of : {X : Type 0} (o : Option X) → is_some o ≡ false → o ≡ None
+none_of None h = refl
+none_of (Some x) h = let bad = h in cc
+
+pub checked : (n : ℕ) (edits sorted : List Replacement) (found : Option FixError)
+    → list_any (ends_after n) edits ≡ false → sorted ≡ by_offset edits → found ≡ crossing edits sorted
+    → edits_error n edits ≡ found
+checked n edits sorted found inside is h =
+    let same : found ≡ first_overlap edits (by_offset edits) = h ∙ ap (crossing edits) is ∙ found_is edits in
+    by_cases {C = edits_error n edits ≡ found} (some_overlap edits)
+    (λ t. rw (inside, t) (sym same))
+    (λ f. rw (inside, f) (sym (none_of found (ap is_some same ∙ some_is edits ∙ f))))
 
 pub unrefused : (n : ℕ) (edits : List Replacement) → list_any (ends_after n) edits ≡ false
     → some_overlap edits ≡ false → edits_error n edits ≡ None
 unrefused n edits h k = rw (h, k) refl
+
+-- the first edit that ends after the end
+one_more : (k n m l : ℕ) → m ≡ suc k → l ≡ suc n → ltb k n ≡ ltb m l
+one_more k n m l em el =
+    by_cases {C = ltb k n ≡ ltb m l} (ltb k n)
+    (λ t. let lt = ltb-true k n t in t ∙ sym (lt-ltb m l (omega (arith, lt, em, el))))
+    (λ f. let le = ltb-false k n f in f ∙ sym (le-ltb m l (omega (arith, le, em, el))))
+
+any_position : {X : Type 0} (p : X → Bool) (xs : List X) → list_any p xs ≡ ltb (position_or_len p xs) (length xs)
+any_position p [] = refl
+any_position p (x ∷ xs) =
+    by_cases {C = list_any p (x ∷ xs) ≡ ltb (position_or_len p (x ∷ xs)) (length (x ∷ xs))} (p x)
+    (λ t. let e : position_or_len p (x ∷ xs) ≡ 0 = rw t refl in
+    let any : list_any p (x ∷ xs) ≡ true = rw t refl in
+    any ∙ sym (lt-ltb (position_or_len p (x ∷ xs)) (length (x ∷ xs)) (omega (arith, e))))
+    (λ f. let e : position_or_len p (x ∷ xs) ≡ suc (position_or_len p xs) = rw f (omega arith) in
+    let any : list_any p (x ∷ xs) ≡ list_any p xs = rw f refl in
+    any ∙ any_position p xs
+    ∙ one_more (position_or_len p xs) (length xs) (position_or_len p (x ∷ xs)) (length (x ∷ xs)) e refl)
+
+pub outside_found : (n : ℕ) (edits : List Replacement) (edit : ℕ) → Some edit ≡ position (ends_after n) edits
+    → edits_error n edits ≡ Some (OutOfBounds edit)
+outside_found n edits edit h =
+    let at : ℕ = position_or_len (ends_after n) edits in
+    by_cases {C = edits_error n edits ≡ Some (OutOfBounds edit)} (ltb at (length edits))
+    (λ t. let is : at ≡ edit = same_Some at edit (sym (h ∙ rw t refl)) in
+    let any : list_any (ends_after n) edits ≡ true = any_position (ends_after n) edits ∙ t in
+    rw any (ap (λ k. Some (OutOfBounds k)) is))
+    (λ f. let bad : Some edit ≡ None = h ∙ rw f refl in cc)
+
+pub none_outside : (n : ℕ) (edits : List Replacement) → None ≡ position (ends_after n) edits
+    → list_any (ends_after n) edits ≡ false
+none_outside n edits h =
+    let at : ℕ = position_or_len (ends_after n) edits in
+    any_position (ends_after n) edits
+    ∙ by_cases {C = ltb at (length edits) ≡ false} (ltb at (length edits))
+    (λ t. let bad : None ≡ Some at = h ∙ rw t refl in cc) (λ f. f)
 
 -- edits that can be applied
 pub none_refused : (n : ℕ) (edits : List Replacement) → edits_error n edits ≡ None
@@ -156,7 +237,8 @@ none_refused n edits h =
     (list_any (ends_after n) edits)
     (λ t. let bad = rw t at h in cc)
     (λ f. by_cases {C = (list_any (ends_after n) edits ≡ false) × (some_overlap edits ≡ false)} (some_overlap edits)
-    (λ t. let bad = rw (f, t) at h in cc) (λ g. (f, g)))
+    (λ t. let none : first_overlap edits (by_offset edits) ≡ None = rw (f, t) at h in
+    let bad : true ≡ false = sym t ∙ sym (some_is edits) ∙ ap is_some none in cc) (λ g. (f, g)))
 
 pub fit_unrefused : (n : ℕ) (edits : List Replacement) → edits_error n edits ≡ None → FitFrom n 0 (by_offset edits)
 fit_unrefused n edits h =

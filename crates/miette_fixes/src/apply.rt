@@ -1,11 +1,11 @@
 //! Sorts, checks and applies the edits of one fix.
 
-ghost use Rattle.std.specs.Prelude.{◌≡◌, ◌≢◌, false, length, IfOk, IfErr, None, Some};
-ghost use Rattle.std.specs.List.{list_any};
+ghost use Rattle.std.specs.Prelude.{◌≡◌, ◌≢◌, ◌+◌, drop, length, nat_lt, position, IfOk, IfErr, None, Some};
 ghost use Rattle.miette_fixes.specs.declared.error.FixError.TheVariants.{Memory};
-ghost use Rattle.miette_fixes.specs.rules.Applying.{applied, by_offset, edits_error, text_from};
-ghost use Rattle.miette_fixes.specs.rules.Edits.{ends_after};
-ghost use Rattle.miette_fixes.specs.steps.Sweeping.{crosses_from};
+ghost use Rattle.miette_fixes.specs.rules.Applying.{applied, by_offset, edits_error, index_from, overlap_error};
+ghost use Rattle.miette_fixes.specs.rules.Applying.{text_from};
+ghost use Rattle.miette_fixes.specs.rules.Edits.{end_of, ends_after, same_span};
+ghost use Rattle.miette_fixes.specs.steps.Sweeping.{crossing};
 ghost use Rattle.miette_fixes.specs.views.Ordered.{FitFrom, edits_of};
 
 use crate::edit::Edit;
@@ -20,31 +20,70 @@ fn is_outside(length: usize, edit: &Edit) -> bool
     length < edit.offset() || length - edit.offset() < edit.len()
 }
 
-// Whether one of the edits ends after the end of the source.
-fn some_outside(length: usize, edits: &[Edit]) -> bool
-    ensures { result ≡ list_any (ends_after length) edits.now }
+// Returns the index of the first edit that ends after the end of the source.
+fn first_outside(length: usize, edits: &[Edit]) -> Option<usize>
+    ensures { result ≡ position (ends_after length) edits.now }
 {
-    for edit in edits {
-        if is_outside(length, edit) {
-            return true;
-        }
-    }
-    false
+    edits.iter().position(|edit| is_outside(length, edit))
 }
 
-// Whether one of the edits begins before the end of the one before it. No edit ends after the end of the source.
-fn some_cross(length: usize, edits: &[&Edit]) -> bool
-    requires { list_any (ends_after length) (edits_of edits.now) ≡ false }
-    ensures { result ≡ crosses_from 0 (edits_of edits.now) }
+// Whether two edits have the same span.
+fn have_same_span(edit: &Edit, other: &Edit) -> bool
+    ensures { result ≡ same_span edit.now other.now }
 {
-    let mut end = 0;
-    for edit in edits {
-        if edit.offset() < end {
-            return true;
+    edit.offset() == other.offset() && edit.len() == other.len()
+}
+
+// Returns the index of the first edit with this one's span, from an index on.
+fn index_from(from: usize, edit: &Edit, edits: &[Edit]) -> usize
+    ensures { result ≡ index_from from edit.now edits.now }
+{
+    let mut index = from;
+    while index < edits.len() {
+        if have_same_span(edit, &edits[index]) {
+            return index;
         }
-        end = edit.offset() + edit.len();
+        index += 1;
     }
-    false
+    index
+}
+
+// Returns the error for two of these edits that overlap.
+fn overlap_error(edits: &[Edit], edit: &Edit, next: &Edit) -> FixError
+    ensures { result ≡ overlap_error edits.now edit.now next.now }
+{
+    let first = index_from(0, edit, edits);
+    let from = if have_same_span(edit, next) {
+        first + 1
+    } else {
+        0
+    };
+    let second = index_from(from, next, edits);
+    FixError::Overlap { first, second }
+}
+
+// Whether an edit ends after the next one begins.
+fn reaches(edit: &Edit, next: &Edit) -> bool
+    ensures { result ≡ nat_lt next.now.span.offset (end_of edit.now) }
+{
+    next.offset() < edit.offset() || next.offset() - edit.offset() < edit.len()
+}
+
+// Returns the error for the first edit that ends after the next one begins. `sorted` has these edits by offset.
+fn find_overlap(edits: &[Edit], sorted: &[&Edit]) -> Option<FixError>
+    ensures { result ≡ crossing edits.now (edits_of sorted.now) }
+{
+    let Some((first, rest)) = sorted.split_first() else {
+        return None;
+    };
+    let mut before = *first;
+    for edit in rest {
+        if reaches(before, edit) {
+            return Some(overlap_error(edits, before, edit));
+        }
+        before = edit;
+    }
+    None
 }
 
 // Returns the length of the text after these edits, in bytes.
@@ -88,8 +127,8 @@ pub fn splice_edits(
 /// Returns the edits sorted by offset, if they can be applied to a source of `length` bytes.
 ///
 /// # Errors
-/// `OutOfBounds` if an edit ends after the end of the source, else `Overlap` if two edits overlap. `Memory` if
-/// allocation fails.
+/// `OutOfBounds` if an edit ends after the end of the source, else `Overlap` if two edits overlap; both say which edits.
+/// `Memory` if allocation fails.
 pub fn check_edits<'a>(
     alloc: Global,
     length: usize,
@@ -99,14 +138,14 @@ pub fn check_edits<'a>(
         (edits_error length edits.now ≡ None) × (edits_of sorted.items ≡ by_offset edits.now)) }
     ensures refused { IfErr result (λ e. e ≢ Memory → edits_error length edits.now ≡ Some e) }
 {
-    if some_outside(length, edits) {
-        return Err(FixError::OutOfBounds);
+    if let Some(edit) = first_outside(length, edits) {
+        return Err(FixError::OutOfBounds { edit });
     }
     let list = sorted(alloc, edits)?;
-    if some_cross(length, &list) {
-        return Err(FixError::Overlap);
+    match find_overlap(edits, &list) {
+        Some(error) => Err(error),
+        None => Ok(list),
     }
-    Ok(list)
 }
 
 /// Applies edits to a source.

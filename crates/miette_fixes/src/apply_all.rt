@@ -37,8 +37,8 @@ fn counts(
     match check_edits(alloc, length, edits) {
         Ok(_) => Ok(!some_conflict(edits, begun)),
         Err(FixError::Memory) => Err(AllocError),
-        Err(FixError::OutOfBounds) => Ok(false),
-        Err(FixError::Overlap) => Ok(false),
+        Err(FixError::OutOfBounds { .. }) => Ok(false),
+        Err(FixError::Overlap { .. }) => Ok(false),
     }
 }
 

@@ -6,13 +6,23 @@ use std::alloc::AllocError;
 use std::error::Error;
 use std::fmt;
 
-/// Why a fix cannot be applied.
+/// Why a fix cannot be applied. Edits are given by their indices in the fix's list, in the order in which they were
+/// added.
 #[derive(Clone, Copy, Debug, PartialEq, Eq)]
 pub enum FixError {
     /// An edit ends after the end of the source.
-    OutOfBounds,
-    /// Two edits overlap.
-    Overlap,
+    OutOfBounds {
+        /// The first such edit in the list.
+        edit: usize,
+    },
+    /// Two edits overlap. If several pairs do, these are the first two by offset, then by length.
+    Overlap {
+        /// The edit that begins first. If several have its span, this is the first of them in the list.
+        first: usize,
+        /// The edit that begins before the end of the first one. If several have its span, this is the first of them
+        /// in the list, except for `first` itself.
+        second: usize,
+    },
     /// Allocation failed.
     Memory,
 }
@@ -29,7 +39,7 @@ impl From<AllocError> for FixError {
     }
 }
 
-/// Prints the error's text.
+/// Prints which edits are wrong, like `edits[0] and edits[2] overlap`.
 impl fmt::Display for FixError {
     ghost use Rattle.std.specs.Prelude.{Some};
     ghost use Rattle.miette_fixes.specs.rules.Texts.{fix_error_text};
@@ -37,23 +47,16 @@ impl fmt::Display for FixError {
     ghost output = { λ it. Some (fix_error_text it) };
 
     fn fmt<W: fmt::Write>(&self, f: &mut fmt::Formatter<W>) -> fmt::Result {
-        f.write_str(self.text())
+        match *self {
+            FixError::OutOfBounds { edit } => {
+                write!(f, "edits[{edit}] ends after the end of the source")
+            }
+            FixError::Overlap { first, second } => {
+                write!(f, "edits[{first}] and edits[{second}] overlap")
+            }
+            FixError::Memory => f.write_str("memory allocation failed"),
+        }
     }
 }
 
 impl Error for FixError {}
-
-impl FixError {
-    ghost use Rattle.miette_fixes.specs.rules.Texts.{fix_error_text};
-
-    /// Returns the text that the error prints. Does not allocate.
-    pub fn text(&self) -> &'static str
-        ensures { result.now ≡ fix_error_text self.now }
-    {
-        match self {
-            FixError::OutOfBounds => "an edit ends after the end of the source",
-            FixError::Overlap => "two edits overlap",
-            FixError::Memory => "memory allocation failed",
-        }
-    }
-}

@@ -122,8 +122,8 @@ impl Fix {
     /// Applies the fix to a source and returns the new text.
     ///
     /// # Errors
-    /// `OutOfBounds` if an edit ends after the end of the source, else `Overlap` if two edits overlap. `Memory` if
-    /// allocation fails.
+    /// `OutOfBounds` if an edit ends after the end of the source, else `Overlap` if two edits overlap; both say which
+    /// edits. `Memory` if allocation fails.
     pub fn apply(&self, alloc: Global, source: &[u8]) -> Result<Vec<u8>, FixError>
         ensures ok { IfOk result (λ text.
             (edits_error (length source.now) self.now.edits ≡ None) × (text.items ≡ applied source.now self.now.edits)) }

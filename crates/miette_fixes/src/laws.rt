@@ -3,12 +3,15 @@
 ghost use Rattle.std.specs.Prelude.{◌≡◌, ◌≢◌, ◌⊎◌, ℕ, ◌+◌, ◌<◌, List, [], ◌∷◌, ◌++◌, length, slice_get, slice_index_or};
 ghost use Rattle.std.specs.Prelude.{slice_range, take, None, Some, false, true};
 ghost use Rattle.std.specs.List.Sorted.{IsPermutation};
+ghost use Rattle.std.specs.List.{list_any};
+ghost use Rattle.miette_fixes.specs.declared.error.FixError.TheVariants.{OutOfBounds, Overlap};
 ghost use Rattle.miette_fixes.specs.laws.Conflicts.{NoTwoConflict};
+ghost use Rattle.miette_fixes.specs.laws.Errors.{AreOverlapping, EndsOutside};
 ghost use Rattle.miette_fixes.specs.laws.Places.{IsInserted, IsSourceByte, deleted, inserted, is_covered};
 ghost use Rattle.miette_fixes.specs.laws.Places.{shifted_offset, edit_text_start};
 ghost use Rattle.miette_fixes.specs.rules.Applying.{applied, by_offset, edits_error};
 ghost use Rattle.miette_fixes.specs.rules.ApplyingAll.{all_applied, all_edits, counted, some_conflict, taken};
-ghost use Rattle.miette_fixes.specs.rules.Edits.{Replacement};
+ghost use Rattle.miette_fixes.specs.rules.Edits.{Replacement, ends_after, some_overlap};
 
 /// For valid edits:
 ///
@@ -35,6 +38,20 @@ pub fn applied_laws()
     ensures nothing { (source : List ℕ) → applied source [] ≡ source }
 {}
 
+/// The error of edits that can't be applied names edits that are wrong:
+///
+/// - `OutOfBounds`: the first edit that ends after the end of the source.
+/// - `Overlap`: two different edits that overlap, the one that sorts first before the other.
+/// - No error: no edit ends after the end of the source, and no two overlap.
+pub fn edits_error_laws()
+    ensures outside { (n : ℕ) (edits : List Replacement) (edit : ℕ) →
+        edits_error n edits ≡ Some (OutOfBounds edit) → EndsOutside n edits edit }
+    ensures overlap { (n : ℕ) (edits : List Replacement) (first second : ℕ) →
+        edits_error n edits ≡ Some (Overlap first second) → AreOverlapping edits first second }
+    ensures valid { (n : ℕ) (edits : List Replacement) → edits_error n edits ≡ None →
+        (list_any (ends_after n) edits ≡ false) × (some_overlap edits ≡ false) }
+{}
+
 /// For several fixes:
 ///
 /// - A fix that isn't applied is invalid by itself, or conflicts with edits applied before it.
@@ -54,7 +71,7 @@ pub fn all_applied_laws()
 {}
 
 /// For several fixes: two applied fixes have the same edits, or no edit of one conflicts with an edit of the other.
-/// Applied fixes, and any fixes of which no two conflict, give the same text in any order.
+/// Applied fixes give the same text in any order. So do any fixes that don't conflict.
 pub fn any_order_laws()
     ensures taken { (n : ℕ) (fixes : List (List Replacement)) (i j : ℕ) → i < j → j < length fixes →
         slice_get (taken n [] fixes) i ≡ Some true → slice_get (taken n [] fixes) j ≡ Some true →

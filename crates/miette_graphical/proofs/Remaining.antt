@@ -70,8 +70,8 @@ abbrev pub Left : {H X A : Type 0} → (H → Bool) → (H → List Call → Typ
     → Painter H →
     Painter H → X → X → Type 0
 Left is_blank may_follow chain old now all left =
-    Remains (chain (settings_of old) (leaves_plain is_blank old.highlighter)) (follows may_follow old.highlighter)
-    (follows may_follow now.highlighter) all left old.out now.out
+    Remains (chain (settings_of old) (leaves_plain is_blank old.highlighter.now)) (follows may_follow old.highlighter.now)
+    (follows may_follow now.highlighter.now) all left old.out now.out
     × KeepsPainter is_blank old now
 
 pub all_remain : {X A : Type 0} (k : Chain X A) (begun : List Call → Type 0) (all : X) (old : List ℕ) →
@@ -83,15 +83,15 @@ all_remain k begun all old =
 pub one_printed : {H X A : Type 0} (is_blank : H → Bool) (may_follow : H → List Call → Type 0)
     (chain : GraphicalSettings → Bool → Chain X A) (old now new : Painter H) (all left rest : X) (one : List ℕ) →
     Left is_blank may_follow chain old now all left → KeepsPainter is_blank now new → new.out ≡ now.out ++ one →
-    (let k = chain (settings_of old) (leaves_plain is_blank old.highlighter) in (a : A) → k.are rest a
-    → IsShown k left (follows may_follow now.highlighter)
-    (λ later. follows may_follow new.highlighter (k.calls rest a ++ later)) (one ++ k.shows rest a)) →
-    (let k = chain (settings_of old) (leaves_plain is_blank old.highlighter) in
+    (let k = chain (settings_of old) (leaves_plain is_blank old.highlighter.now) in (a : A) → k.are rest a
+    → IsShown k left (follows may_follow now.highlighter.now)
+    (λ later. follows may_follow new.highlighter.now (k.calls rest a ++ later)) (one ++ k.shows rest a)) →
+    (let k = chain (settings_of old) (leaves_plain is_blank old.highlighter.now) in
     k.reads rest ≡ false → k.reads left ≡ false) →
-    (let k = chain (settings_of old) (leaves_plain is_blank old.highlighter) in k.size rest ≤ k.size left) →
+    (let k = chain (settings_of old) (leaves_plain is_blank old.highlighter.now) in k.size rest ≤ k.size left) →
     Left is_blank may_follow chain old new all rest
 one_printed is_blank may_follow chain old now new all left rest one r keeps e step fails fits =
-    let k = chain (settings_of old) (leaves_plain is_blank old.highlighter) in (
+    let k = chain (settings_of old) (leaves_plain is_blank old.highlighter.now) in (
       record {
         whole = λ a h.
             let one_more = step a h in
@@ -112,19 +112,19 @@ one_printed is_blank may_follow chain old now new all left rest one r keeps e st
 pub all_printed : {H X A : Type 0} (is_blank : H → Bool) (may_follow : H → List Call → Type 0)
     (chain : GraphicalSettings → Bool → Chain X A) (old now new : Painter H) (all left : X) →
     Left is_blank may_follow chain old now all left → PrintsOnly now new →
-    AppendsOne (IsShown (chain (settings_of old) (leaves_plain is_blank old.highlighter)) left
-    (follows may_follow now.highlighter) (follows may_follow now.highlighter)) now.out new.out →
-    AppendsOne (IsShown (chain (settings_of old) (leaves_plain is_blank old.highlighter)) all
-    (follows may_follow old.highlighter) (follows may_follow new.highlighter)) old.out new.out
+    AppendsOne (IsShown (chain (settings_of old) (leaves_plain is_blank old.highlighter.now)) left
+    (follows may_follow now.highlighter.now) (follows may_follow now.highlighter.now)) now.out new.out →
+    AppendsOne (IsShown (chain (settings_of old) (leaves_plain is_blank old.highlighter.now)) all
+    (follows may_follow old.highlighter.now) (follows may_follow new.highlighter.now)) old.out new.out
 all_printed is_blank may_follow chain old now new all left r e p =
-    let k = chain (settings_of old) (leaves_plain is_blank old.highlighter) in
+    let k = chain (settings_of old) (leaves_plain is_blank old.highlighter.now) in
     let given = p.is_given in
     let w = r.0.whole given.0 given.1 in record {
       text = k.shows all w.0;
       is_given = (
         w.0,
         w.1,
-        (λ later n. w.2 later (given.2 later (subst (λ h. follows may_follow h later) e.1 n))),
+        (λ later n. w.2 later (given.2 later (subst (λ h. follows may_follow h.now later) e.1 n))),
         refl,
       );
       appended = p.appended ∙ ap (λ x. now.out ++ x) given.3 ∙ w.3;
@@ -137,13 +137,13 @@ pub cause_printed : {H : Type 0} (is_blank : H → Bool) (may_follow : H → Lis
     Left is_blank may_follow (causes_under outer inherited) old new all (cause_of t)
 cause_printed is_blank may_follow old now new outer inherited all left t r is p keeps =
     let s = settings_of old in
-    let blank = leaves_plain is_blank old.highlighter in
+    let blank = leaves_plain is_blank old.highlighter.now in
     let k = causes_under outer inherited s blank in
-    let next : List Call → Type 0 = follows may_follow new.highlighter in
+    let next : List Call → Type 0 = follows may_follow new.highlighter.now in
     let one = paints_after is_blank may_follow (IsOneCause outer inherited t) old now now new r.1 (refl, refl) p in
     one_printed is_blank may_follow (causes_under outer inherited) old now new all (diagnostic t) (cause_of t) one.text
     (subst (λ x. Left is_blank may_follow (causes_under outer inherited) old now all x) (sym is) r) keeps one.appended
-    (λ a h. cause_step s blank (follows may_follow now.highlighter) next
+    (λ a h. cause_step s blank (follows may_follow now.highlighter.now) next
     (λ later. next (k.calls (cause_of t) a ++ later))
     outer inherited t one.text (k.shows (cause_of t) a) one.is_given (a, h, (λ later n. n), refl))
     (later_cause_fails s.related_as_nested inherited t) (omega (arith, cause_falls t))
@@ -155,14 +155,14 @@ pub related_printed : {H : Type 0} (is_blank : H → Bool) (may_follow : H → L
     → KeepsPainter is_blank now new → Left is_blank may_follow (related_under outer inherited) old new all ts
 related_printed is_blank may_follow old now new outer inherited all left t ts r is p keeps =
     let s = settings_of old in
-    let blank = leaves_plain is_blank old.highlighter in
+    let blank = leaves_plain is_blank old.highlighter.now in
     let k = related_under outer inherited s blank in
-    let next : List Call → Type 0 = follows may_follow new.highlighter in
+    let next : List Call → Type 0 = follows may_follow new.highlighter.now in
     let one = paints_after is_blank may_follow (IsOneRelated outer (are_last ts) (effective (source_of t) inherited) t)
     old now now new r.1 (refl, refl) p in
     one_printed is_blank may_follow (related_under outer inherited) old now new all (more_trees t ts) ts one.text
     (subst (λ x. Left is_blank may_follow (related_under outer inherited) old now all x) (sym is) r) keeps one.appended
-    (λ a h. related_step s blank (follows may_follow now.highlighter) next (λ later. next (k.calls ts a ++ later))
+    (λ a h. related_step s blank (follows may_follow now.highlighter.now) next (λ later. next (k.calls ts a ++ later))
     outer inherited t ts one.text (k.shows ts a) one.is_given (a, h, (λ later n. n), refl))
     (later_related_fails s.related_as_nested inherited t ts) (omega arith)
 

@@ -78,10 +78,10 @@ pub source_printed : {H : Type 0} (is_blank : H → Bool) (may_follow : H → Li
     → Paints is_blank may_follow (IsSourceDrawn s it) now new → KeepsPainter is_blank now new →
     Left is_blank may_follow sources_left old new all (left_in (after_labels (length it.labels) s) more)
 source_printed is_blank may_follow old now new all s it more r p keeps =
-    let k = sources_left (settings_of old) (leaves_plain is_blank old.highlighter) in
+    let k = sources_left (settings_of old) (leaves_plain is_blank old.highlighter.now) in
     let rest = left_in (after_labels (length it.labels) s) more in
-    let begun : List Call → Type 0 = follows may_follow now.highlighter in
-    let next : List Call → Type 0 = follows may_follow new.highlighter in
+    let begun : List Call → Type 0 = follows may_follow now.highlighter.now in
+    let next : List Call → Type 0 = follows may_follow new.highlighter.now in
     let one = paints_after is_blank may_follow (IsSourceDrawn s it) old now now new r.1 (refl, refl) p in
     let given = one.is_given in
     one_printed is_blank may_follow sources_left old now new all (left_in s (it ∷ more)) rest one.text r keeps
@@ -103,7 +103,7 @@ pub sources_printed : {H : Type 0} (is_blank : H → Bool) (may_follow : H → L
     Left is_blank may_follow sources_left old now (left_in s sources) (left_in end [])
     → Paints is_blank may_follow (AreSourcesDrawn s sources) old now
 sources_printed is_blank may_follow old now s end sources r =
-    let was : List Call → Type 0 = follows may_follow now.highlighter in
+    let was : List Call → Type 0 = follows may_follow now.highlighter.now in
     all_printed is_blank may_follow sources_left old now now (left_in s sources) (left_in end []) r (refl, refl)
     (nothing_after _ now.out ([], tt, leads_none was, refl))
 
@@ -122,8 +122,8 @@ own_and_further is_blank may_follow old mid new s it more p keeps q =
       is_given = (
         own.0 ∷ further.0,
         (own.1, further.1),
-        leads_on (follows may_follow old.highlighter) (follows may_follow mid.highlighter)
-            (follows may_follow new.highlighter) (source_calls s.layout it.source it.labels own.0)
+        leads_on (follows may_follow old.highlighter.now) (follows may_follow mid.highlighter.now)
+            (follows may_follow new.highlighter.now) (source_calls s.layout it.source it.labels own.0)
             (calls_over s.layout more further.0) own.2 further.2,
         ap₂ (λ x y. x ++ y) own.3 further.3
             ∙ sym (rows-appended (source_rows s it.source it.labels own.0)

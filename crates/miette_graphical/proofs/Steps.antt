@@ -280,9 +280,9 @@ own_after is_blank may_follow source m old drawn helped new p kept e only fixes 
       is_given = (
         record { sources = own.0; fixes_fail = fixes.fails },
         record { sources = own.1; fixes = fixes.possible },
-        subst (λ h. Leads (follows may_follow old.highlighter)
+        subst (λ h. Leads (follows may_follow old.highlighter.now)
             (own_calls s.layout source m (record { sources = own.0; fixes_fail = fixes.fails }))
-            (follows may_follow h)) after own.2,
+            (follows may_follow h.now)) after own.2,
         ap (λ x. x ++ help ++ shown) own.3,
       );
       appended = added_after old.out helped.out new.out (p.text ++ help) shown
@@ -310,8 +310,8 @@ below_after is_blank may_follow source t old drawn new p kept r =
         more.0,
         own.1,
         more.1,
-        leads_on (follows may_follow old.highlighter) (follows may_follow drawn.highlighter)
-            (follows may_follow new.highlighter) (own_calls s.layout source (head t) own.0)
+        leads_on (follows may_follow old.highlighter.now) (follows may_follow drawn.highlighter.now)
+            (follows may_follow new.highlighter.now) (own_calls s.layout source (head t) own.0)
             (related_calls s.layout s.related_as_nested source (related_of t) more.0) own.2 more.2,
         ap₂ (λ x y. x ++ y) own.3 more.3,
       );
@@ -356,18 +356,18 @@ pub sibling_after : {H : Type 0} (is_blank : H → Bool) (may_follow : H → Lis
     → Paints is_blank may_follow (IsSibling source t) old new
 sibling_after is_blank may_follow source t old told caused new e only causes kept below =
     let s = settings_of old in
-    let blank = leaves_plain is_blank old.highlighter in
-    let by = printing s blank (follows may_follow caused.highlighter) (follows may_follow new.highlighter) in
+    let blank = leaves_plain is_blank old.highlighter.now in
+    let by = printing s blank (follows may_follow caused.highlighter.now) (follows may_follow new.highlighter.now) in
     let titled = old.out ++ title_text s (head t) in
     let c = paints_after is_blank may_follow (AreCauses (head t).severity source (cause_of t)) old old told caused
-    (refl, refl) only causes in
+    (refl, refl, refl) only causes in
     let p = paints_after is_blank may_follow (IsBodyAndRelated source t) old caused caused new
     (keeps_on is_blank old told caused (only_kept is_blank old told only) kept) (refl, refl) below in
     let drawn = below_drawn by source t p.text p.is_given in
     let related = below_related by source t p.text p.is_given in record {
       text = title_text s (head t) ++ body_over s (head t) drawn c.text related;
-      is_given = sibling_step s blank (follows may_follow old.highlighter) (follows may_follow caused.highlighter)
-          (follows may_follow new.highlighter) source t c.text p.text c.is_given p.is_given;
+      is_given = sibling_step s blank (follows may_follow old.highlighter.now) (follows may_follow caused.highlighter.now)
+          (follows may_follow new.highlighter.now) source t c.text p.text c.is_given p.is_given;
       appended = added_after old.out titled new.out (title_text s (head t)) (body_over s (head t) drawn c.text related)
           refl (body_after s (head t) titled told.out caused.out new.out drawn c.text related p.text e c.appended
           p.appended p.is_given.5);
@@ -384,10 +384,11 @@ pub report_whole : {H : Type 0} (is_blank : H → Bool) (may_follow : H → List
     → Paints is_blank may_follow (IsOutermost t) old new
 report_whole is_blank may_follow t old told caused drawn new e only causes kept below later f last =
     let s = settings_of old in
-    let blank = leaves_plain is_blank old.highlighter in
-    let by = printing s blank (follows may_follow caused.highlighter) (follows may_follow drawn.highlighter) in
+    let blank = leaves_plain is_blank old.highlighter.now in
+    let by = printing s blank (follows may_follow caused.highlighter.now) (follows may_follow drawn.highlighter.now) in
     let headed = old.out ++ print (header s (head t)) in
-    let c = paints_after is_blank may_follow (AreRootCauses t) old old told caused (refl, refl) only causes in
+    let c = paints_after is_blank may_follow (AreRootCauses t) old old told caused
+    (refl, refl, refl) only causes in
     let known = keeps_on is_blank old told caused (only_kept is_blank old told only) kept in
     let p = paints_after is_blank may_follow (IsBodyAndRelated (source_of t) t) old caused caused drawn known
     (refl, refl) below
@@ -399,8 +400,8 @@ report_whole is_blank may_follow t old told caused drawn new e only causes kept 
     p.is_given.5 in
     paints_before is_blank may_follow (IsOutermost t) old drawn new last (record {
       text = report_over s (head t) own c.text related;
-      is_given = root_step s blank (follows may_follow old.highlighter) (follows may_follow caused.highlighter)
-          (follows may_follow drawn.highlighter) t c.text p.text c.is_given p.is_given;
+      is_given = root_step s blank (follows may_follow old.highlighter.now) (follows may_follow caused.highlighter.now)
+          (follows may_follow drawn.highlighter.now) t c.text p.text c.is_given p.is_given;
       appended = added_after old.out drawn.out new.out
           (print (header s (head t)) ++ body_over s (head t) own c.text related)
           (footer_text s)

@@ -80,11 +80,17 @@ pub fn render_output<D: Diagnostic, S: SourceCode, H: Highlighter>(
         alloc,
         settings,
         width: settings.width,
-        highlighter: highlighter.take(),
+        highlighter,
         out: Output::for_text(alloc),
     };
     let printed = push_report(&mut painter, report);
-    *highlighter = painter.highlighter;
+    let Painter {
+        highlighter,
+        out,
+        ..
+    } = painter;
+    // The borrow of the highlighter ends.
+    let _given_back = highlighter;
     printed?;
-    Ok(painter.out)
+    Ok(out)
 }

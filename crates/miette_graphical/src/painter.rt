@@ -15,7 +15,7 @@ pub struct Painter<'a, H> {
     /// The width of wrapped text in columns.
     pub width: usize,
     /// The highlighter, if there is one.
-    pub highlighter: Option<H>,
+    pub highlighter: &'a mut Option<H>,
     /// The output so far.
     pub out: Output,
 }

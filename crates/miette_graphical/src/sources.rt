@@ -31,13 +31,6 @@ use miette_tree::report::{Report, Snippets, SourceRef};
 use std::alloc::{AllocError, Global};
 use std::mem;
 
-/// The theme and the layout of the labels over one source.
-#[derive(Clone, Copy)]
-pub(crate) struct ThemedLayout<'a> {
-    pub(crate) theme: &'a GraphicalTheme,
-    pub(crate) layout: &'a LayoutOptions,
-}
-
 // Returns whether a further source has a label.
 fn is_labelled<S: SourceCode>(section: &Snippets<S>) -> bool
     ensures { result ≡ is_labelled (section_of S.source section.now) }
@@ -93,23 +86,18 @@ fn theme_after(alloc: Global, n: usize, theme: GraphicalTheme) -> Result<Graphic
 // Prints the snippets of labels over a source.
 fn push_label_rows<S: SourceCode, H: Highlighter>(
     painter: &mut Painter<'_, H>,
-    themed: &ThemedLayout<'_>,
+    drawn_with: &SnippetSettings<'_>,
     source: SourceRef<'_, S>,
     labels: &[LabeledSpan],
 ) -> Result<(), RenderError>
     ensures ok { OnOk result (Paints H.is_blank H.may_follow (AreDrawn
-        (settings_with (settings_of painter.old) themed.now)
+        (settings_with (settings_of painter.old) drawn_with.now)
         (ref_source S.source source.entry) labels.now) painter.old painter.new) }
     ensures refused { (result ≡ Err RenderError.Refused) → (ref_source S.source source.entry).always_reads ≡ false }
     ensures keeps { KeepsPainter H.is_blank painter.old painter.new }
 {
-    let drawn_with = SnippetSettings {
-        alloc: painter.alloc,
-        theme: themed.theme,
-        layout: themed.layout,
-    };
     let page = RowPrinter::over(mem::replace(&mut painter.out, Output::for_text(painter.alloc)));
-    let page = snippets(page, &mut painter.highlighter, &drawn_with, &source, labels)?;
+    let page = snippets(page, painter.highlighter, drawn_with, &source, labels)?;
     painter.out = page.into_output()?;
     Ok(())
 }
@@ -117,12 +105,12 @@ fn push_label_rows<S: SourceCode, H: Highlighter>(
 // Prints the snippets of labels over a source that exists.
 fn push_rows_over<S: SourceCode, H: Highlighter>(
     painter: &mut Painter<'_, H>,
-    themed: &ThemedLayout<'_>,
+    drawn_with: &SnippetSettings<'_>,
     source: SourceRef<'_, S>,
     labels: &[LabeledSpan],
 ) -> Result<(), RenderError>
     ensures ok { OnOk result (Paints H.is_blank H.may_follow
-        (IsSourceDrawn (settings_with (settings_of painter.old) themed.now)
+        (IsSourceDrawn (settings_with (settings_of painter.old) drawn_with.now)
         (labelled (Some (ref_source S.source source.entry)) labels.now)) painter.old painter.new) }
     ensures refused { (result ≡ Err RenderError.Refused) →
         always_reads (Some (ref_source S.source source.entry)) labels.now ≡ false }
@@ -130,19 +118,19 @@ fn push_rows_over<S: SourceCode, H: Highlighter>(
 {
     match labels {
         [] => Ok(()),
-        [_, ..] => push_label_rows(painter, themed, source, labels),
+        [_, ..] => push_label_rows(painter, drawn_with, source, labels),
     }
 }
 
 // Prints the snippets of labels, if there is a source.
 fn push_source_rows<S: SourceCode, H: Highlighter>(
     painter: &mut Painter<'_, H>,
-    themed: &ThemedLayout<'_>,
+    drawn_with: &SnippetSettings<'_>,
     source: Option<SourceRef<'_, S>>,
     labels: &[LabeledSpan],
 ) -> Result<(), RenderError>
     ensures ok { OnOk result (Paints H.is_blank H.may_follow
-        (IsSourceDrawn (settings_with (settings_of painter.old) themed.now)
+        (IsSourceDrawn (settings_with (settings_of painter.old) drawn_with.now)
         (labelled (opt_ref_source S.source source.entry) labels.now)) painter.old painter.new) }
     ensures refused { (result ≡ Err RenderError.Refused) →
         always_reads (opt_ref_source S.source source.entry) labels.now ≡ false }
@@ -150,7 +138,7 @@ fn push_source_rows<S: SourceCode, H: Highlighter>(
 {
     match source {
         None => Ok(()),
-        Some(source) => push_rows_over(painter, themed, source, labels),
+        Some(source) => push_rows_over(painter, drawn_with, source, labels),
     }
 }
 
@@ -176,11 +164,12 @@ fn push_further<S: SourceCode, H: Highlighter>(
     let mut rest = sections;
     while let [section, more @ ..] = rest {
         let labels = section.labels();
-        let themed = ThemedLayout {
+        let drawn_with = SnippetSettings {
+            alloc,
             theme: &theme,
             layout,
         };
-        push_source_rows(painter, &themed, Some(section.source()), labels)?;
+        push_source_rows(painter, &drawn_with, Some(section.source()), labels)?;
         theme = theme_after(alloc, labels.len(), theme)?;
         rest = more;
     }
@@ -203,11 +192,12 @@ pub(crate) fn push_rows<D: Diagnostic, S: SourceCode, H: Highlighter>(
     let sections = report.further_snippets();
     let settings = painter.settings;
     let layout = layout_with(&settings.layout, sections);
-    let themed = ThemedLayout {
+    let drawn_with = SnippetSettings {
+        alloc: painter.alloc,
         theme: &settings.theme,
         layout: &layout,
     };
     let labels = labels_of(report);
-    push_source_rows(painter, &themed, source, labels)?;
+    push_source_rows(painter, &drawn_with, source, labels)?;
     push_further(painter, &layout, labels.len(), sections)
 }

@@ -10,3 +10,7 @@ pub mod ShownLines
 pub mod Themes
 pub mod Determined
 pub mod DeterminedTokens
+pub mod PrintedRows
+pub mod RowRoom
+pub mod SourceSettings
+pub mod WholeRows

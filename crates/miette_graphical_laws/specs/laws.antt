@@ -5,3 +5,7 @@ pub mod Levels
 pub mod NumberRows
 pub mod ShownLines
 pub mod Determined
+pub mod RowRoom
+pub mod RowTexts
+pub mod SourceSettings
+pub mod WholeRows

@@ -18,7 +18,11 @@ ghost use Rattle.miette_graphical_laws.specs.laws.FittingRows.{fed_rows};
 ghost use Rattle.miette_graphical_laws.specs.laws.Levels.{HasPlainBars, HaveRoom, HoldsLevels, LevelRowsStand};
 ghost use Rattle.miette_graphical_laws.specs.laws.Levels.{StandAfterBars};
 ghost use Rattle.miette_graphical_laws.specs.laws.NumberRows.{IsPlainLine, PrintsItself, PrintsNumber};
+ghost use Rattle.miette_graphical_laws.specs.laws.RowRoom.{WordsHaveRoom};
+ghost use Rattle.miette_graphical_laws.specs.laws.RowTexts.{PrintsRow};
 ghost use Rattle.miette_graphical_laws.specs.laws.ShownLines.{ShownLinesShow, ShownLinesStand, SourcesStand};
+ghost use Rattle.miette_graphical_laws.specs.laws.SourceSettings.{AreSettingsAfter, AreSettingsWith};
+ghost use Rattle.miette_graphical_laws.specs.laws.WholeRows.{WholeDrawnStand, WholeFirstStands, WholeRowsStand};
 ghost use Rattle.miette_graphical_laws.specs.laws.Determined.{IsDetermined};
 ghost use Rattle.miette_graphical_rules.specs.views.HandlerState.{AreCallsOf, HandlerState, draws_plain, follows_of};
 ghost use Rattle.miette_highlight.specs.rules.FollowingCalls.{FollowTokens};
@@ -39,18 +43,21 @@ ghost use Rattle.miette_graphical_rules.specs.rules.Answers.{SourceAnswer, sourc
 ghost use Rattle.miette_graphical_rules.specs.rules.Snippets.{drawn_rows, drawn_without_fixes, own_rows, source_rows};
 ghost use Rattle.miette_graphical_rules.specs.rules.Snippets.{whole_drawing};
 ghost use Rattle.miette_graphical_rules.specs.rules.Sources.{LabelledSource, drawn_with, some_further, sources_of};
-ghost use Rattle.miette_tree.specs.rules.Diagnosis.{Diagnosis};
+ghost use Rattle.miette_tree.specs.rules.Diagnosis.{Diagnosis, Section};
 ghost use Rattle.miette_tree.specs.rules.DiagnosticParts.{given_labels};
 ghost use Rattle.miette_graphical_rules.specs.rules.Text.{report_text};
 ghost use Rattle.miette_tree.specs.rules.Tree.{Tree};
 ghost use Rattle.miette_style.specs.declared.theme.Terminal.{Terminal};
+ghost use Rattle.miette_style.specs.rules.Rows.{Row};
 ghost use Rattle.miette_style.specs.rules.Themes.{Characters, no_styles, terminal_theme, Theme};
+ghost use Rattle.miette_runs.specs.rules.Cells.{TaggedChar};
 ghost use Rattle.miette_runs.specs.rules.Sequences.{erase};
+ghost use Rattle.miette_text.specs.rules.Wrapping.{Cuts};
 ghost use Rattle.miette_columns.specs.rules.Widths.{width_of};
 
 use miette_graphical_rules::laws::{colours_law, drawn_rows_law};
 use miette_highlight::highlight::Highlighter;
-use miette_text::wrap_laws::encoding_law;
+use miette_text::wrap_laws::{encoding_law, printing_law};
 
 /// A text in plain styles has no colours to remove, if no line has highlighter pieces (`text`). The same holds for
 /// every text that a handler may print without highlighting (`printed`). The shipped themes without colours have plain
@@ -162,6 +169,18 @@ pub fn levels_law()
     ensures shipped { (s : GraphicalSettings) → AreShipped s.theme.characters → HasPlainBars s }
 {}
 
+/// If text isn't wrapped, rows with visible characters stay as they are, however wide. They follow one another after
+/// the arrow's bar (`rows`), and the first row follows the arrow (`first`). So do the rows of a drawing inside an inner
+/// report (`drawn`).
+pub fn whole_rows_law()
+    ensures rows { (s : GraphicalSettings) (outer : Option Severity) (is_last : Bool) (text : List ℕ) →
+        s.wrapping.wrap_lines ≡ false → WholeRowsStand s outer is_last text }
+    ensures first { (s : GraphicalSettings) (outer : Option Severity) (is_last : Bool) (text : List ℕ) →
+        s.wrapping.wrap_lines ≡ false → WholeFirstStands s outer is_last text }
+    ensures drawn { (s : GraphicalSettings) (arrow : Arrow) (drawn : GraphicalSettings → List ℕ) (text : List ℕ) →
+        s.wrapping.wrap_lines ≡ false → HoldsUnder (arrow ∷ []) s drawn text → WholeDrawnStand s arrow drawn text }
+{}
+
 /// The row of a source line is its right-aligned number, the bar, the gutter's spaces and the text, with tabs as spaces
 /// (`rows`). This holds if the line isn't cut, no multi-line label is on it, it isn't highlighted, and numbers have the
 /// plain style. Printable ASCII text is printed byte by byte (`text`).
@@ -182,6 +201,29 @@ pub fn shown_lines_law()
         ShowsRanges s source labels → ShownLinesShow s source labels }
     ensures sources { (s : GraphicalSettings) (source : Option Source) (m : Diagnosis) (a : DiagnosticAnswer) →
         SourcesStand (drawn_with m.snippets s) (sources_of source m) a.sources (drawn_rows s source m a) }
+{}
+
+/// The settings of a source differ from those of the diagnostic in two things only. Highlight styles continue after
+/// the labels of earlier sources (`after`). If a further source has a label, frames of one-line snippets show their
+/// position (`further`).
+pub fn source_settings_law()
+    ensures after { (n : ℕ) (s : GraphicalSettings) → AreSettingsAfter n s }
+    ensures further { (sections : List Section) (s : GraphicalSettings) → AreSettingsWith sections s }
+{}
+
+/// Any row of a report is printed as the characters of its glyphs, each run in its style. Without colours, its bytes
+/// are exactly these characters, if the row contains no escape.
+pub fn row_text_law()
+    ensures { (row : Row) → PrintsRow row }
+{
+    encoding_law();
+    printing_law();
+}
+
+/// If words that are too wide are broken, each row of wrapped text has room. A part of a word has at most the columns
+/// of the narrowest row, or only one character with columns. Each further word of a row ends within the row's columns.
+pub fn row_room_law()
+    ensures { (c : Cuts) (cells : List TaggedChar) → c.break_words ≡ true → WordsHaveRoom c cells }
 {}
 
 /// In the shipped themes, each character of frames, gutters and underlines is one column wide (`narrow`), and no

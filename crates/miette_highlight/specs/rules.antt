@@ -1,4 +1,4 @@
--- Definitions that contracts use. docs/RULES.md says them in words.
+-- Definitions that contracts use. crates/miette_highlight/CALLING.md says them in words.
 pub mod Characters
 pub mod FollowingCalls
 pub mod HighlighterCalls

@@ -11,7 +11,7 @@ use Rattle.miette_protocol.specs.views.Meaning.{Label}
 use Rattle.miette_tree.specs.rules.Tree.{Tree, tree, Trees, no_trees, more_trees, trees, effective, head, source_of}
 use Rattle.miette_tree.specs.rules.Tree.{Cause, cause_of, causes_of, related_of}
 use Rattle.miette_tree.specs.rules.Answers.{AnswerTrees}
-use Rattle.miette_json.specs.rules.Json.{Json, string, array, object, item, no_members, member, items_text}
+use Rattle.miette_json.specs.rules.Json.{Json, string, array, object, item, no_members, member}
 use Rattle.miette_json.specs.rules.Json.{json_text}
 use Rattle.miette_json.specs.rules.Denotes.{Denotes, HasTokensOf}
 use Rattle.miette_json.specs.rules.JsonReport.{NameAnswers, unlisted, listed, no_more, and_more}
@@ -23,91 +23,90 @@ use Rattle.miette_tree.specs.rules.DiagnosticParts.{given_labels}
 use Rattle.miette_tree.proofs.Readings.{fault_free, own_holds}
 use Rattle.miette_tree.specs.rules.Reads.{MayMeet, always_reads, report_passes, reports_pass, further_pass}
 use Rattle.miette_json.specs.rules.JsonText.{IsJsonOf}
-use Rattle.miette_json.proofs.JsonJoined.{last_piece, report_parts}
+use Rattle.miette_json.proofs.JsonJoined.{report_parts}
+use Rattle.miette_json.proofs.WrittenParts.{whole_written}
 use Rattle.miette_json.proofs.Standing.{stands_for}
-use Rattle.miette_json.specs.steps.JsonParts.{rest_text, AppendsJsonReport, AppendsJsonRelated, AppendsFileAndLabels}
-use Rattle.miette_json.specs.steps.JsonParts.{head_text}
-use Rattle.miette_json.specs.steps.JsonParts.{reasons_text, file_and_labels_text, snippets_and_fixes_text, key_text}
-use Rattle.miette_json.specs.steps.JsonParts.{list_key_text}
-use Rattle.miette_json.specs.steps.JsonParts.{AppendsSnippetsAndFixes}
+use Rattle.miette_json.specs.rules.Writing.{JsonPrefix, closed, empty_prefix, opened, with_items, with_key}
+use Rattle.miette_json.specs.rules.Writing.{with_value}
+use Rattle.miette_json.specs.steps.JsonParts.{AppendsJsonReport, AppendsJsonRelated, AppendsFileAndLabels}
+use Rattle.miette_json.specs.steps.JsonParts.{AppendsSnippetsAndFixes, with_head, with_reasons}
+use Rattle.miette_json.specs.steps.JsonParts.{with_file_and_labels, with_snippets_and_fixes}
 
 -- Some related reports are written, and these are left: whatever answers these have, the whole has some.
-pub record RelatedSoFar (inherited : Option Source) (all left : Trees) (first : Bool) (old now : List ℕ) : Type 0 where
+pub record RelatedSoFar (inherited : Option Source) (all left : Trees) (start now : JsonPrefix) : Type 0 where
   pub with_rest : AnswerTrees NameFaults → AnswerTrees NameFaults
   pub possible : (more : AnswerTrees NameFaults) → AllAnswers inherited more left
       → AllAnswers inherited (with_rest more) all
-  pub joined : (more : AnswerTrees NameFaults) → now ++ rest_text first (reports_json inherited more left) ≡ old
-      ++ items_text (reports_json inherited (with_rest more) all)
+  pub joined : (more : AnswerTrees NameFaults) → with_items (reports_json inherited more left) now
+      ≡ with_items (reports_json inherited (with_rest more) all) start
 
-pub none_so_far : (inherited : Option Source) (all : Trees) (old : List ℕ) → RelatedSoFar inherited all all true old old
-none_so_far inherited all old = record { with_rest = λ more. more; possible = λ more p. p; joined = λ more. refl }
+pub none_so_far : (inherited : Option Source) (all : Trees) (start now : JsonPrefix) → now ≡ start
+    → RelatedSoFar inherited all all start now
+none_so_far inherited all start now e = record {
+  with_rest = λ more. more;
+  possible = λ more p. p;
+  joined = λ more. ap (with_items (reports_json inherited more all)) e;
+}
 
-pub one_more : (inherited : Option Source) (all : Trees) (t : Tree) (ts : Trees) (first : Bool)
-    (old now comma new : List ℕ)
-    → RelatedSoFar inherited all (more_trees t ts) first old now → comma ≡ now ++ (if first then [] else 44 ∷ [])
-    → AppendsJsonReport inherited t comma new
-    → RelatedSoFar inherited all ts false old new
-one_more inherited all t ts first old now comma new r e a = record {
+pub one_more : (inherited : Option Source) (all : Trees) (t : Tree) (ts : Trees) (start now new : JsonPrefix)
+    → RelatedSoFar inherited all (more_trees t ts) start now → AppendsJsonReport inherited t now new
+    → RelatedSoFar inherited all ts start new
+one_more inherited all t ts start now new r a = record {
   with_rest = λ more. r.with_rest (and_more a.answers more);
   possible = λ more p. r.possible (and_more a.answers more) (a.possible, p);
-  joined = λ more. last_piece first now comma new (report_json inherited a.answers t) (reports_json inherited more ts) _
-      (r.joined (and_more a.answers more)) e a.appended;
+  joined = λ more. ap (with_items (reports_json inherited more ts)) a.written ∙ r.joined (and_more a.answers more);
 }
 
-pub all_written : (inherited : Option Source) (all : Trees) (first : Bool) (old now new : List ℕ)
-    → RelatedSoFar inherited all no_trees first old now → new ≡ now ++ 93 ∷ []
+pub all_written : (inherited : Option Source) (all : Trees) (old now new : JsonPrefix)
+    → RelatedSoFar inherited all no_trees (opened 91 old) now → new ≡ closed 93 now
     → AppendsJsonRelated inherited all old new
-all_written inherited all true old now new r e = record {
+all_written inherited all old now new r e = record {
   answers = r.with_rest no_more;
-  possible =
-      r.possible no_more tt;
-  appended = e ∙ r.joined no_more;
-}
-all_written inherited all false old now new r e = record {
-  answers = r.with_rest no_more;
-  possible =
-      r.possible no_more tt;
-  appended = e ∙ r.joined no_more;
+  possible = r.possible no_more tt;
+  written = e ∙ ap (closed 93) (r.joined no_more);
 }
 
 pub at_the_end : {R : Type 0} (value : R → Tree) (inherited : Option Source) (rs : List R) (all : Trees) (i : ℕ)
-    (first : Bool) (old now : List ℕ) → length rs ≤ i
-    → RelatedSoFar inherited all (trees (map value (drop i rs))) first old now
-    → RelatedSoFar inherited all no_trees first old now
-at_the_end value inherited rs all i first old now h r =
-    subst (λ l. RelatedSoFar inherited all (trees (map value l)) first old now) (drop_all i rs h) r
+    (start now : JsonPrefix) → length rs ≤ i
+    → RelatedSoFar inherited all (trees (map value (drop i rs))) start now
+    → RelatedSoFar inherited all no_trees start now
+at_the_end value inherited rs all i start now h r =
+    subst (λ l. RelatedSoFar inherited all (trees (map value l)) start now) (drop_all i rs h) r
 
--- what the parts of a report's object add
-joined : (old b p a q r new h re pl at key x : List ℕ) → b ≡ (old ++ h) ++ re → p ≡ b ++ pl → a ≡ p ++ at
-    → q ≡ a ++ (key ++ 91 ∷ []) → r ≡ q ++ x → new ≡ r ++ 125 ∷ []
-    → new ≡ old ++ (h ++ (re ++ (pl ++ (at ++ (key ++ (91 ∷ (x ++ 125 ∷ [])))))))
-joined old b p a q r new h re pl at key x f g k j l m =
-    m ∙ ap (λ y. y ++ 125 ∷ []) (l ∙ ap (λ y. y ++ x) (j ∙ ap (λ y. y ++ (key ++ 91 ∷ []))
-    (k ∙ ap (λ y. y ++ at) (g ∙ ap (λ y. y ++ pl) f)))) ∙ simp append_assoc
+-- six parts of an object, one after the other
+joined : (f g h k l m : JsonPrefix → JsonPrefix) (old a b c d e new : JsonPrefix) → a ≡ f old → b ≡ g a → c ≡ h b
+    → d ≡ k c → e ≡ l d → new ≡ m e → new ≡ m (l (k (h (g (f old)))))
+joined f g h k l m old a b c d e new p q r s t u =
+    u ∙ ap m (t ∙ ap l (s ∙ ap k (r ∙ ap h (q ∙ ap g p))))
 
 pub report_written : (inherited : Option Source) (t : Tree) (source : Option Source) (labels : List Label)
-    (related : Trees) (old b p a q r new : List ℕ)
+    (related : Trees) (old begun top reasons places more key others new : JsonPrefix)
     → source ≡ effective (source_of t) inherited → labels ≡ given_labels (head t).labels → related ≡ related_of t
-    → b ≡ (old ++ head_text (head t)) ++ reasons_text (causes_of (cause_of t)) (head t)
-    → AppendsFileAndLabels source labels b p → AppendsSnippetsAndFixes (head t) p a
-    → q ≡ a ++ list_key_text (codes "related") → AppendsJsonRelated source related q r → new ≡ r ++ 125 ∷ []
-    → AppendsJsonReport inherited t old new
-report_written inherited (tree m s c rs) source labels related old b p a q r new es el er f places more g others i =
+    → begun ≡ opened 123 old → top ≡ with_head (head t) begun
+    → reasons ≡ with_reasons (causes_of (cause_of t)) (head t) top
+    → AppendsFileAndLabels source labels reasons places → AppendsSnippetsAndFixes (head t) places more
+    → key ≡ with_key (codes "related") more → AppendsJsonRelated source related key others
+    → new ≡ closed 125 others → AppendsJsonReport inherited t old new
+report_written inherited (tree m s c rs) source labels related old begun top reasons places more key others new
+    es el er eb et e put added ek related_put en =
     let own = effective s inherited in
-    let here : AppendsFileAndLabels own (given_labels m.labels) b p =
-    subst (λ l. AppendsFileAndLabels own l b p) el (subst (λ o. AppendsFileAndLabels o labels b p) es places) in
-    let there : AppendsJsonRelated own rs q r = subst (λ ts. AppendsJsonRelated own ts q r) er
-    (subst (λ o. AppendsJsonRelated o related q r) es others) in
-    let faults : NameFaults = record { own = here.fault; further = more.faults } in
+    let here : AppendsFileAndLabels own (given_labels m.labels) reasons places =
+    subst (λ l. AppendsFileAndLabels own l reasons places) el
+    (subst (λ o. AppendsFileAndLabels o labels reasons places) es put) in
+    let there : AppendsJsonRelated own rs key others = subst (λ ts. AppendsJsonRelated own ts key others) er
+    (subst (λ o. AppendsJsonRelated o related key others) es related_put) in
+    let faults : NameFaults = record { own = here.fault; further = added.faults } in
     let answers : NameAnswers = listed faults unlisted there.answers in record {
       answers = answers;
-      possible = ((here.possible, more.possible), there.possible);
-      appended = joined old b p a q r new (head_text m) (reasons_text (causes_of c) m)
-          (file_and_labels_text here.fault own (given_labels m.labels)) (snippets_and_fixes_text more.faults m)
-          (key_text (codes "related"))
-          (items_text (reports_json own there.answers rs)) f here.appended more.appended g
-          there.appended i
-          ∙ ap (λ l. old ++ l) (sym (report_parts inherited answers (tree m s c rs)));
+      possible = ((here.possible, added.possible), there.possible);
+      written = en ∙ ap (closed 125) (joined (with_head m) (with_reasons (causes_of c) m)
+          (with_file_and_labels here.fault own (given_labels m.labels)) (with_snippets_and_fixes added.faults m)
+          (with_key (codes "related")) (with_value (array (reports_json own there.answers rs)))
+          begun top reasons places more key others et e here.written added.written ek there.written)
+          ∙ ap (λ q. closed 125 (with_value (array (reports_json own there.answers rs)) (with_key (codes "related")
+          (with_snippets_and_fixes added.faults m (with_file_and_labels here.fault own (given_labels m.labels)
+          (with_reasons (causes_of c) m (with_head m q))))))) eb
+          ∙ sym (report_parts inherited answers (tree m s c rs) old);
     }
 
 -- ---- sources that always read
@@ -173,10 +172,11 @@ mutual
 -- all that is claimed of a report's text
 pub is_json : ((v : Json) → HasTokensOf (json_text v) v)
     → ((bytes : List ℕ) (v w : Json) → Denotes bytes v → Denotes bytes w → v ≡ w)
-    → (t : Tree) (text : List ℕ) → IsUtf8 text → AppendsJsonReport None t [] text → IsJsonOf t text
-is_json tokens one t text utf8 a =
+    → (t : Tree) (text : List ℕ) (p : JsonPrefix) → IsUtf8 text → AppendsJsonReport None t empty_prefix p
+    → text ≡ p.text → IsJsonOf t text
+is_json tokens one t text p utf8 a e =
     let value = report_json None a.answers t in
-    let it = stands_for tokens one value text utf8 a.appended in
+    let it = stands_for tokens one value text utf8 (e ∙ whole_written value p a.written) in
     record {
       value = value;
       of_tree = record { answers = a.answers; possible = a.possible; is = refl };

@@ -3,6 +3,9 @@ pub mod Standing
 pub mod Blocks
 pub mod JsonUnique
 pub mod JsonUtf8
+pub mod WrittenParts
+pub mod WriterSteps
+pub mod WrittenSteps
 pub mod JsonJoined
 pub mod JsonAnswers
 pub mod JsonAttached

@@ -8,6 +8,7 @@ ghost use Rattle.miette_tree.specs.rules.Reads.{report_reads};
 
 use crate::laws;
 use crate::report::push_report;
+use crate::writer::JsonWriter;
 use miette_protocol::error::RenderError;
 use miette_protocol::protocol::Diagnostic;
 use miette_protocol::source::SourceCode;
@@ -28,7 +29,7 @@ impl JSONReportHandler {
 
     /// Appends the report's JSON text. If allocation fails, `out` is unchanged.
     pub fn render_report(&self, report: &Report, out: &mut String) -> Result<(), RenderError>
-        // The text spells a value that the report has. It denotes that value and no other.
+        // The text spells a value that the report has. It represents that value and no other.
         ensures text { let tree = tree_of ⟦<Box<dyn Diagnostic> as Diagnostic>⟧.meaning
             ⟦<Box<dyn SourceCode> as SourceCode>⟧.source report.now in
             OnOk result (AppendsOne (IsJsonOf tree) (string_bytes out.old) (string_bytes out.new)) }
@@ -71,7 +72,7 @@ fn json_of<D: Diagnostic, S: SourceCode>(
 {
     laws::json_spelling_denotes_its_value();
     laws::json_text_denotes_one_value();
-    let mut text = String::with_capacity(alloc, ROOM)?;
-    push_report(&mut text, report, None)?;
-    Ok(text)
+    let mut json = JsonWriter::with_capacity(alloc, ROOM)?;
+    push_report(&mut json, report, None)?;
+    Ok(json.into_text())
 }

@@ -1,34 +1,31 @@
 //! The file name and the labels of a source.
 
-ghost use Rattle.std.specs.Prelude.{◌≡◌, ◌++◌, Some, OnOk, string_bytes};
+ghost use Rattle.std.specs.Prelude.{◌≡◌, Some, OnOk};
 ghost use Rattle.std.specs.Option.{option_map, option_copied};
 ghost use Rattle.miette_tree.specs.views.Owned.{ref_source};
-ghost use Rattle.miette_json.specs.rules.Json.{json_text, items_text};
+ghost use Rattle.miette_json.specs.rules.Json.{array};
 ghost use Rattle.miette_json.specs.rules.JsonReport.{span_json, label_json, labels_json};
-ghost use Rattle.miette_json.specs.steps.JsonParts.{label_start, NamesFile, AppendsFileAndLabels};
+ghost use Rattle.miette_json.specs.rules.Writing.{with_value};
+ghost use Rattle.miette_json.specs.steps.JsonParts.{NamesFile, AppendsFileAndLabels};
 
-use crate::members::{
-    push_comma, push_first_key, push_key, push_list_key, push_name, push_optional_before,
-    push_optional_member,
-};
-use miette_lines::numbers::push_number;
+use crate::writer::JsonWriter;
 use miette_protocol::protocol::{LabeledSpan, SourceSpan};
 use miette_protocol::source::SourceCode;
 use miette_tree::report::SourceRef;
 use std::alloc::AllocError;
 
-/// `,"filename": "f","labels": [..]`
+/// `"filename": "f","labels": [..]`
 pub(crate) fn push_file_and_labels<S: SourceCode>(
-    out: &mut String,
+    json: &mut JsonWriter,
     labels: &[LabeledSpan],
     source: Option<SourceRef<'_, S>>,
 ) -> Result<(), AllocError>
     ensures { OnOk result (AppendsFileAndLabels (option_map (ref_source S.source) source.entry) labels.now
-        (string_bytes out.old) (string_bytes out.new)) }
+        json.old json.new) }
 {
-    push_optional_member(out, "filename", file_name_for(labels, source))?;
-    push_list_key(out, "labels")?;
-    push_labels(out, labels)
+    json.optional_string_member("filename", file_name_for(labels, source))?;
+    json.key("labels")?;
+    push_labels(json, labels)
 }
 
 /// Returns the file name, or `None` without a source.
@@ -61,44 +58,34 @@ pub(crate) fn source_file_name<'a, S: SourceCode>(
     }
 }
 
-/// Appends labels as list items, then the closing bracket.
-pub(crate) fn push_labels(out: &mut String, labels: &[LabeledSpan]) -> Result<(), AllocError>
-    ensures { OnOk result (string_bytes out.new ≡ string_bytes out.old ++ items_text (labels_json labels.now)) }
+/// Appends the list of labels.
+pub(crate) fn push_labels(json: &mut JsonWriter, labels: &[LabeledSpan]) -> Result<(), AllocError>
+    ensures { OnOk result (json.new ≡ with_value (array (labels_json labels.now)) json.old) }
 {
-    let mut first = true;
+    json.begin_list()?;
     for label in labels {
-        push_comma(out, first)?;
-        push_label(out, label)?;
-        first = false;
+        push_label(json, label)?;
     }
-    out.push_str("]")
+    json.end_list()
 }
 
 /// `{"label": "x","span": {"offset": 9,"length": 1}}`
-fn push_label(out: &mut String, label: &LabeledSpan) -> Result<(), AllocError>
-    ensures { OnOk result (string_bytes out.new ≡ string_bytes out.old ++ json_text (label_json label.now)) }
+fn push_label(json: &mut JsonWriter, label: &LabeledSpan) -> Result<(), AllocError>
+    ensures { OnOk result (json.new ≡ with_value (label_json label.now) json.old) }
 {
-    push_label_start(out, label)?;
-    push_span(out, label.inner())?;
-    out.push_str("}")
-}
-
-/// `{"label": "x","span": `
-fn push_label_start(out: &mut String, label: &LabeledSpan) -> Result<(), AllocError>
-    ensures { OnOk result (string_bytes out.new ≡ string_bytes out.old ++ label_start label.now.text) }
-{
-    out.push_str("{")?;
-    push_optional_before(out, "label", label.label())?;
-    push_name(out, "span")
+    json.begin_object()?;
+    json.optional_string_member("label", label.label())?;
+    json.key("span")?;
+    push_span(json, label.inner())?;
+    json.end_object()
 }
 
 /// `{"offset": 9,"length": 1}`
-pub(crate) fn push_span(out: &mut String, span: &SourceSpan) -> Result<(), AllocError>
-    ensures { OnOk result (string_bytes out.new ≡ string_bytes out.old ++ json_text (span_json span.now)) }
+pub(crate) fn push_span(json: &mut JsonWriter, span: &SourceSpan) -> Result<(), AllocError>
+    ensures { OnOk result (json.new ≡ with_value (span_json span.now) json.old) }
 {
-    push_first_key(out, "offset")?;
-    push_number(out, span.offset())?;
-    push_key(out, "length")?;
-    push_number(out, span.len())?;
-    out.push_str("}")
+    json.begin_object()?;
+    json.number_member("offset", span.offset())?;
+    json.number_member("length", span.len())?;
+    json.end_object()
 }

@@ -26,7 +26,7 @@ fn style_of(styles: &[Style], i: usize) -> Style
 }
 
 // Returns where a drawn label ends: at its own end, or at the end of its read's contents if that is earlier. No read
-// tells where the source ends, but the contents of a label's read reach the label's end or the source's end.
+// says where the source ends, but the contents of a label's read reach the label's end or the source's end.
 fn drawn_end(read: &ReadLabel<'_>) -> Result<usize, AllocError>
     ensures { IfOk result (λ end. end ≡ end_drawn read.now) }
 {

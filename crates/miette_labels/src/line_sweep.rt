@@ -1,13 +1,12 @@
 //! Sweeps over the labels of a snippet, line by line.
 
 ghost use Rattle.std.specs.Prelude.{◌≡◌, ◌+◌, ◌-◌, ◌<◌, ◌≤◌, ◌∷◌, ◌^◌, drop, length, OnOk};
-ghost use Rattle.std.specs.List.{filter};
-ghost use Rattle.miette_labels.specs.views.Sweeping.{IsAt, IsOn, AreSorted, is_one, line_of_bounds};
+ghost use Rattle.miette_labels.specs.views.Sweeping.{IsAt, AreSorted};
 ghost use Rattle.miette_lines.specs.rules.Lines.{lines_from};
 ghost use Rattle.miette_lines.specs.views.Walking.{line_of_text};
 
 use crate::placed::PlacedLabel;
-use crate::sweep::{LineBounds, Sweep};
+use crate::sweep::Sweep;
 use miette_lines::lines::{LineOfText, first_line};
 use std::alloc::AllocError;
 
@@ -26,28 +25,6 @@ pub fn line_at(bytes: &[u8], start: usize, at: usize) -> LineOfText
     first_line(&bytes[at..], start + at)
 }
 
-/// Advances the sweep to the labels of a line. Returns `AllocError` if allocation fails; the position of the sweep is
-/// then unspecified.
-pub fn enter_line<'a>(
-    labels: &[PlacedLabel<'a>],
-    line: &LineOfText,
-    sweep: &mut Sweep<'a>,
-) -> Result<(), AllocError>
-    requires sorted { AreSorted labels.now }
-    requires some { line.now.start < line.now.end }
-    requires at { IsAt labels.now line.now.start sweep.old.next sweep.old.running.items }
-    ensures alone { OnOk result (sweep.new.alone.items ≡ filter (is_one (line_of_text line.now)) labels.now) }
-    ensures on { OnOk result (IsOn labels.now
-        (line_of_bounds (record { start = line.now.start; after = line.now.end })) sweep.new.next
-        sweep.new.running.items) }
-{
-    let bounds = LineBounds {
-        start: line.start,
-        after: line.end,
-    };
-    sweep.enter(labels, &bounds)
-}
-
 /// Advances the sweep over lines whose labels aren't needed. Returns `AllocError` if allocation fails; the position of
 /// the sweep is then unspecified.
 pub fn skip_lines<'a>(
@@ -64,11 +41,12 @@ pub fn skip_lines<'a>(
     if to <= from {
         return Ok(());
     }
-    let bounds = LineBounds {
+    let skipped = LineOfText {
         start: from,
-        after: to,
+        text_end: to,
+        end: to,
     };
-    sweep.enter(labels, &bounds)?;
+    sweep.enter(labels, &skipped)?;
     sweep.leave(to);
     Ok(())
 }

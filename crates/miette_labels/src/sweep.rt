@@ -3,19 +3,11 @@
 ghost use Rattle.std.specs.Prelude.{◌≡◌, ◌<◌, [], OnOk, IfOk};
 ghost use Rattle.std.specs.List.{filter};
 ghost use Rattle.miette_labels.specs.views.Sweeping.{passes, is_one, IsAt, IsOn, AreSorted};
-ghost use Rattle.miette_labels.specs.views.Sweeping.{line_of_bounds};
+ghost use Rattle.miette_lines.specs.views.Walking.{line_of_text};
 
 use crate::placed::PlacedLabel;
+use miette_lines::lines::LineOfText;
 use std::alloc::{AllocError, Global};
-
-/// Where a line begins, and where it ends with its terminator.
-#[derive(Clone, Copy, Debug, PartialEq, Eq, Drop)]
-pub struct LineBounds {
-    /// The offset of its first byte in the source.
-    pub start: usize,
-    /// The offset after its last byte.
-    pub after: usize,
-}
 
 /// The state of a sweep between two lines.
 #[derive(Debug, Drop)]
@@ -75,18 +67,18 @@ impl<'a> Sweep<'a> {
 
     /// Advances to the next line. Afterwards `running` has the multi-line labels on it, and `alone` the labels that are
     /// on this line only. Returns `AllocError` if allocation fails; the position is then unspecified.
-    pub fn enter(&mut self, labels: &[PlacedLabel<'a>], line: &LineBounds) -> Result<(), AllocError>
+    pub fn enter(&mut self, labels: &[PlacedLabel<'a>], line: &LineOfText) -> Result<(), AllocError>
         requires sorted { AreSorted labels.now }
-        requires some { line.now.start < line.now.after }
+        requires some { line.now.start < line.now.end }
         requires at { IsAt labels.now line.now.start self.old.next self.old.running.items }
-        ensures alone { OnOk result (self.new.alone.items ≡ filter (is_one (line_of_bounds line.now)) labels.now) }
-        ensures on { OnOk result (IsOn labels.now (line_of_bounds line.now) self.new.next self.new.running.items) }
+        ensures alone { OnOk result (self.new.alone.items ≡ filter (is_one (line_of_text line.now)) labels.now) }
+        ensures on { OnOk result (IsOn labels.now (line_of_text line.now) self.new.next self.new.running.items) }
     {
         self.alone.clear();
         let mut next = self.next;
-        while next < labels.len() && labels[next].start < line.after {
+        while next < labels.len() && labels[next].start < line.end {
             let label = labels[next];
-            if goes_past(&label, line.after) {
+            if goes_past(&label, line.end) {
                 self.running.push(label)?;
             } else {
                 self.alone.push(label)?;

@@ -1,4 +1,4 @@
--- The definitions that users rely on, named as in docs/RULES.md.
+-- The definitions that users rely on, named as in crates/miette_language_server/CALLING.md.
 pub mod Actions
 pub mod Changes
 pub mod Diagnostics

@@ -21,7 +21,7 @@ use miette_positions::position::{Position, Region};
 use serde_json::{Map, Value, json, push};
 use std::alloc::{AllocError, Global};
 
-// Whether a position is another one or stands before it.
+// Returns whether a position is at or before another one.
 fn is_until(position: Position, other: Position) -> bool
     ensures { result ≡ is_until position other }
 {
@@ -50,7 +50,7 @@ fn list_of_one(alloc: Global, value: &Value) -> Result<Value, AllocError>
     json!(in alloc; [value])
 }
 
-// A fix of what a diagnostic tells.
+// A fix of a diagnostic.
 fn action_value(
     alloc: Global,
     uri: &str,
@@ -101,7 +101,7 @@ fn joint_value(
     object_with_text(alloc, it, "kind", "quickfix")
 }
 
-// These fixes of what a diagnostic tells.
+// These fixes of a diagnostic.
 fn fix_actions(
     alloc: Global,
     uri: &str,
@@ -165,7 +165,7 @@ fn own_actions(
     Ok(list)
 }
 
-// All fixes of a document whose lines may have so many columns.
+// All fixes of a document whose lines may have this many columns.
 fn joint_of(
     alloc: Global,
     uri: &str,
@@ -207,10 +207,10 @@ fn actions(
     with_last(own, joint)
 }
 
-/// The quick fixes at a part of a document that is open.
+/// Returns the quick fixes in a range of an open document.
 ///
 /// # Errors
-/// `AllocError` where memory is refused.
+/// `AllocError` if allocation fails.
 pub(crate) fn actions_in(
     alloc: Global,
     width: usize,

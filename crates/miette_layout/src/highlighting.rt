@@ -14,7 +14,7 @@ use miette_style::page::PLAIN;
 use miette_style::style::Style;
 use std::alloc::{AllocError, Global};
 
-/// Tells the highlighter that a new snippet begins.
+/// Restarts the highlighter, since a new snippet begins.
 pub(crate) fn restart<H: Highlighter>(
     highlighter: &mut Option<H>,
     contents: &MietteSpanContents<'_>,

@@ -5,7 +5,6 @@
 mod highlighting;
 pub mod laws;
 mod line;
-mod shown_line;
 mod snippet;
 pub mod snippets;
 mod source_end;

@@ -20,7 +20,6 @@ ghost use Rattle.miette_snippet_frames.specs.views.LineContexts.{settings, multi
 ghost use Rattle.miette_layout.specs.steps.ShownLines.{number_row, shown_cells, labels_alone};
 ghost use Rattle.miette_lines.specs.views.Walking.{line_of_text};
 
-use crate::shown_line::ShownLine;
 use miette_snippet_cuts::cutting::{cut_long_line, underlines_in_row};
 use miette_snippet_frames::connectors::{push_before_underlines, push_label_texts};
 use miette_snippet_frames::end_texts::push_end_texts;
@@ -42,17 +41,13 @@ use std::alloc::AllocError;
 pub(crate) type PushResult = Result<(), AllocError>;
 
 // Prints the number of a line: ` 12 │ `.
-fn push_number_start<O: Canvas>(
-    page: &mut RowPrinter<O>,
-    context: &LineContext,
-    number: usize,
-) -> PushResult
+fn push_number_start<O: Canvas>(page: &mut RowPrinter<O>, context: &LineContext) -> PushResult
     ensures { OnOk result (page.new ≡ page.old
-        ⊕ row_tokens (number_start (settings context.now) context.now.frame.number_width number)) }
+        ⊕ row_tokens (number_start (settings context.now) context.now.frame.number_width context.now.number)) }
 {
     page.push_blank(1)?;
     page.begin(context.frame.settings.theme.styles.linum)?;
-    page.push_right(number, context.frame.number_width)?;
+    page.push_right(context.number, context.frame.number_width)?;
     page.push_line(PLAIN, ' ', context.frame.settings.theme.characters.vbar, 1)?;
     page.push(' ')
 }
@@ -61,18 +56,23 @@ fn push_number_start<O: Canvas>(
 fn push_number_row<O: Canvas>(
     page: &mut RowPrinter<O>,
     context: &LineContext,
-    shown: &ShownLine,
     text: &LineText,
     cut: &LineCut,
 ) -> PushResult
     requires { text.now.start + length text.now.bytes.now < 2 ^ 64 }
-    ensures { OnOk result (page.new ≡ page.old ⊕ rows_tokens (number_row context.now shown.now
+    ensures { OnOk result (page.new ≡ page.old ⊕ rows_tokens (number_row context.now
         (made_runs (dots (settings context.now).theme) (option_map (λ made. made.items) cut.now)
-        (map highlight_of shown.now.pieces.now) (text_cells text.now)) ∷ [])) }
+        (map highlight_of context.now.pieces.now) (text_cells text.now)) ∷ [])) }
 {
-    push_number_start(page, context, shown.number)?;
+    push_number_start(page, context)?;
     push_gutter(page, context, context.gutter, GutterEnd::Arrow)?;
-    push_shown_text(page, text, shown.pieces, cut, context.frame.settings.theme)?;
+    push_shown_text(
+        page,
+        text,
+        context.pieces,
+        cut,
+        context.frame.settings.theme,
+    )?;
     page.end_row()
 }
 
@@ -97,29 +97,26 @@ fn push_underline_rows<O: Canvas>(
 }
 
 // Returns the underlines of the one-line labels, by the columns of the whole line.
-fn own_underlines<'a>(
-    context: &LineContext,
-    shown: &ShownLine<'a>,
-) -> Result<Vec<Underline<'a>>, AllocError>
-    requires { context.now.line.start + length shown.now.text.now < 2 ^ 64 }
+fn own_underlines<'a>(context: &LineContext<'a>) -> Result<Vec<Underline<'a>>, AllocError>
+    requires { context.now.line.start + length context.now.text.now < 2 ^ 64 }
     ensures anchored { IfOk result (λ alone. All HasOwnPointer alone.items) }
     ensures marks { IfOk result (λ alone. map underline_of alone.items
-        ≡ marks (text_of_cells (shown_cells context.now shown.now) context.now.line.text_end)
-        (labels_alone context.now shown.now)) }
+        ≡ marks (text_of_cells (shown_cells context.now) context.now.line.text_end)
+        (labels_alone context.now)) }
 {
-    if shown.one.is_empty() {
+    if context.one.is_empty() {
         return Ok(Vec::new(context.frame.settings.alloc));
     }
     underlines_on(
         context.frame.settings.alloc,
         &context.line,
-        shown.text,
+        context.text,
         context.frame.settings.layout.tab_width,
-        shown.one,
+        context.one,
     )
 }
 
-// How a line is cut around the ends of these marks and those of the labels of several lines that lie on it.
+// How a line is cut around the ends of these underlines and of the multi-line labels on it.
 fn cut_of(
     context: &LineContext,
     text: &LineText,
@@ -158,48 +155,45 @@ fn push_break_row<O: Canvas>(page: &mut RowPrinter<O>, context: &LineContext) ->
 }
 
 // Prints a break row, or nothing if the previous line is left out too.
-fn push_break<O: Canvas>(
-    page: &mut RowPrinter<O>,
-    context: &LineContext,
-    shown: &ShownLine,
-) -> PushResult
-    ensures { OnOk result (page.new ≡ page.old ⊕ rows_tokens (if shown.now.gap then []
+fn push_break<O: Canvas>(page: &mut RowPrinter<O>, context: &LineContext, gap: bool) -> PushResult
+    ensures { OnOk result (page.new ≡ page.old ⊕ rows_tokens (if gap then []
         else break_row (settings context.now) context.now.frame.number_width (multi_labels context.now) ∷ [])) }
 {
-    if shown.gap {
+    if gap {
         return Ok(());
     }
     push_break_row(page, context)
 }
 
-/// Prints the rows of the context's line: the number row, underlines and label texts, and the label texts of multi-line
-/// labels that end here. A line that is left out becomes a break row, or nothing after another such line. `AllocError`
-/// if allocation fails or a column exceeds `usize::MAX`.
+/// Prints the rows of a line: the number row, underlines and label texts, and the label texts of multi-line labels that
+/// end here. A line that is left out becomes a break row, or nothing if there is a `gap`: the previous line is left out
+/// too. `AllocError` if allocation fails or a column exceeds `usize::MAX`.
 pub(crate) fn push_line_or_break<O: Canvas>(
     page: &mut RowPrinter<O>,
     context: &LineContext,
-    shown: &ShownLine,
+    left_out: bool,
+    gap: bool,
 ) -> PushResult
-    requires { context.now.line.start + length shown.now.text.now < 2 ^ 64 }
+    requires { context.now.line.start + length context.now.text.now < 2 ^ 64 }
     ensures { OnOk result (page.new ≡ page.old
-        ⊕ rows_tokens (line_or_break_of shown.now.gap shown.now.left_out
+        ⊕ rows_tokens (line_or_break_of gap left_out
         (line_in (settings context.now) context.now.frame.number_width context.now.gutter
         (line_of_text context.now.line) (multi_labels context.now))
-        (line_shown shown.now.number (labels_alone context.now shown.now) (shown_cells context.now shown.now)
-        (map highlight_of shown.now.pieces.now)))) }
+        (line_shown context.now.number (labels_alone context.now) (shown_cells context.now)
+        (map highlight_of context.now.pieces.now)))) }
 {
-    if shown.left_out {
-        return push_break(page, context, shown);
+    if left_out {
+        return push_break(page, context, gap);
     }
     let settings = context.frame.settings;
-    let whole = own_underlines(context, shown)?;
+    let whole = own_underlines(context)?;
     let text = LineText {
         start: context.line.start,
-        bytes: shown.text,
+        bytes: context.text,
         tab: settings.layout.tab_width,
     };
     let cut = cut_of(context, &text, &whole)?;
-    push_number_row(page, context, shown, &text, &cut)?;
+    push_number_row(page, context, &text, &cut)?;
     let dots = dots_width(settings.theme);
     let marks = underlines_in_row(settings.alloc, &cut, whole, dots)?;
     push_underline_rows(page, context, &marks)?;

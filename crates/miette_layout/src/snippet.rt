@@ -21,7 +21,7 @@
 //!    label texts with their connectors, and the label texts of multi-line labels (`miette_snippet_frames`).
 //!    `miette_snippet_cuts` cuts a line that is too long and moves its underlines.
 
-ghost use Rattle.std.specs.Prelude.{◌≡◌, ◌∷◌, ◌+◌, ◌<◌, ◌^◌, List, map, length, decimal, false, IfOk, OnOk};
+ghost use Rattle.std.specs.Prelude.{◌≡◌, ◌∷◌, ◌+◌, ◌<◌, ◌^◌, List, map, length, false, IfOk, OnOk};
 ghost use Rattle.miette_highlight.specs.rules.HighlighterCalls.{restarted};
 ghost use Rattle.miette_snippet_folds.specs.views.Folding.{fold_in};
 ghost use Rattle.miette_snippet_folds.specs.views.ExtentIndex.{extent_view, AreNumbered};
@@ -37,10 +37,8 @@ ghost use Rattle.miette_snippet_rules.specs.rules.Highlighting.{AreCallsOn, leav
 
 use crate::highlighting::{may_pass, pieces_of, restart};
 use crate::line::{PushResult, push_line_or_break};
-use crate::shown_line::ShownLine;
-use itoa::Buffer;
 use miette_highlight::highlight::Highlighter;
-use miette_labels::line_sweep::{enter_line, line_at, skip_lines};
+use miette_labels::line_sweep::{line_at, skip_lines};
 use miette_labels::placed::PlacedLabel;
 use miette_labels::sweep::Sweep;
 use miette_lines::sums::sum;
@@ -49,9 +47,11 @@ use miette_snippet_folds::extent_index::ExtentIndex;
 use miette_snippet_folds::fold_index::{FoldIndex, index_folds};
 use miette_snippet_folds::folds::LabelExtent;
 use miette_snippet_folds::gaps::next_line_start;
-use miette_snippet_folds::left_out::{PlacedLine, leaves_out};
+use miette_snippet_folds::left_out::{FoldedLines, leaves_out};
 use miette_snippet_folds::snippet_size::size_of_snippet;
-use miette_snippet_frames::frame::{Frame, SnippetHeader, push_frame_bottom, push_frame_top};
+use miette_snippet_frames::frame::{
+    Frame, SnippetHeader, digits, push_frame_bottom, push_frame_top,
+};
 use miette_snippet_frames::line_context::LineContext;
 use miette_snippet_rules::options::SnippetSettings;
 use miette_style::canvas::Canvas;
@@ -98,14 +98,6 @@ struct Body<'a> {
     bytes: &'a [u8],
     label_extents: &'a [LabelExtent],
     folds: &'a FoldIndex,
-}
-
-// Returns the number of decimal digits.
-fn digits(number: usize) -> usize
-    ensures { result ≡ length (decimal number) }
-{
-    let mut buffer = Buffer::new();
-    buffer.format(number).len()
 }
 
 // Returns the one-based number of the line at `place` in the snippet. `before` lines come before the snippet.
@@ -183,35 +175,30 @@ fn push_lines<'a, H: Highlighter, O: Canvas>(
         sweep.new.running.items) }
 {
     let settings = body.frame.settings;
+    let lines = FoldedLines {
+        bytes: body.bytes,
+        start: body.start,
+        folds: body.folds,
+    };
     let (mut place, mut at, mut gap): (usize, usize, bool) = (0, 0, false);
     while at < body.bytes.len() {
         let number = number_of(body.before, place)?;
         let line = line_at(body.bytes, body.start, at);
-        enter_line(labels, &line, sweep)?;
+        sweep.enter(labels, &line)?;
+        let text = &body.bytes[line.start - body.start..line.text_end - body.start];
+        let pieces = pieces_of(settings.alloc, highlighter, text)?;
+        let left_out = leaves_out(settings.layout.label_lines, &lines, place, &line, gap);
         let context = LineContext {
             frame: body.frame,
             gutter: body.gutter,
-            line,
-            multi: &sweep.running,
-        };
-        let text = &body.bytes[line.start - body.start..line.text_end - body.start];
-        let pieces = pieces_of(settings.alloc, highlighter, text)?;
-        let here = PlacedLine {
-            bytes: body.bytes,
-            start: body.start,
-            place,
-            line,
-        };
-        let left_out = leaves_out(settings.layout.label_lines, body.folds, &here, gap);
-        let shown = ShownLine {
             number,
+            line,
             text,
+            multi: &sweep.running,
             one: &sweep.alone,
             pieces: &pieces,
-            left_out,
-            gap,
         };
-        push_line_or_break(page, &context, &shown)?;
+        push_line_or_break(page, &context, left_out, gap)?;
         sweep.leave(line.end);
         let next = next_line_start(body.folds, place, &line, may_pass(highlighter, left_out));
         skip_lines(labels, line.end, next.offset, sweep)?;

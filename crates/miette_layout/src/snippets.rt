@@ -40,7 +40,7 @@ fn reason_name(refusal: RefusalReason) -> &'static str
     }
 }
 
-// Returns the end of the source, if it is wanted and the reads of the labels tell it.
+// Returns the end of the source, if it is wanted and known from the reads of the labels.
 fn end_wanted(wanted: bool, reads: &[ReadLabel<'_>]) -> Result<Option<usize>, AllocError>
     ensures { IfOk result (λ end. end ≡ (if wanted then source_end_from_reads reads.now else None)) }
 {

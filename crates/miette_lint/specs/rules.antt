@@ -1,4 +1,4 @@
--- The definitions that users rely on, named as in docs/RULES.md.
+-- The definitions that users rely on, named as in crates/miette_lint_program/CALLING.md.
 pub mod FindingWithFixes
 pub mod Findings
 pub mod Fixes

@@ -22,7 +22,7 @@ fn resolved_text(alloc: Global, mended: usize, found: usize) -> Result<String, A
     Ok(text)
 }
 
-// A fix with copies of these edits after its own.
+// Appends copies of these edits to a fix.
 fn with_edits(fix: Fix, edits: &[Edit]) -> Result<Fix, AllocError>
     ensures { IfOk result (λ it. it ≡ record fix { edits = fix.edits ++ edits.now }) }
 {
@@ -33,7 +33,7 @@ fn with_edits(fix: Fix, edits: &[Edit]) -> Result<Fix, AllocError>
     Ok(joint)
 }
 
-// A fix with copies of the edits of all of these after its own.
+// Appends copies of the edits of these fixes to a fix.
 fn joined(fix: Fix, fixes: &[Fix]) -> Result<Fix, AllocError>
     ensures { IfOk result (λ it. it ≡ record fix { edits = fix.edits ++ flat_map (λ other. other.edits) fixes.now }) }
 {

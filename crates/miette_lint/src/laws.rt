@@ -9,7 +9,7 @@ ghost use Rattle.miette_lint.specs.rules.Fixes.{fixed_text, proposals_of, wide_l
 ghost use Rattle.miette_lint.specs.rules.Combined.{combined_proposal, mended_count};
 
 /// For every source, the fixed text has no findings except lines that are too wide, and no proposed fixes. Fixing it
-/// again changes nothing. It is the result of applying all proposed fixes, none of which is left out.
+/// again changes nothing. It is the result of applying all proposed fixes, and none is left out.
 pub fn lint_fixed_text_laws()
     ensures clean { (source : List ℕ) (width : ℕ) → findings_of (fixed_text source) width
         ≡ wide_lines (fixed_text source) width }

@@ -81,7 +81,7 @@ never_refused name input its ts e h refused =
     let no : true ≡ false =
     sym (ap (reports_pass accepts None) e ∙ trees_accepted name input its h) ∙ refused in cc
 
--- ---- what is told
+-- ---- what is said
 
 pub commands_told : (name input : List ℕ) (its : List FindingWithFixes) (ts : Trees) (old new : List ℕ)
     → ts ≡ finding_trees name input its → old ≡ [] → new ≡ old ++ commands_of ts

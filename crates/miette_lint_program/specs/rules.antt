@@ -1,3 +1,3 @@
--- The definitions that users rely on, named as in docs/RULES.md.
+-- The definitions that users rely on, named as in crates/miette_lint_program/CALLING.md.
 pub mod Words
 pub mod Logs

@@ -1,4 +1,4 @@
--- What the code's values stand for.
+-- What the values of the code represent.
 pub mod Requests
 pub mod LintReports
 pub mod Service

@@ -1,4 +1,4 @@
-//! The program `lint` over any reader and writers.
+//! The program `lint`, over any reader and writers.
 
 ghost use Rattle.std.specs.Prelude.{◌≡◌, ◌↔◌, ◌⊎◌, ◌<◌, false, true, IfOk, IfSome, IsNone, IsTrue, None, OnErr, OnOk};
 ghost use Rattle.std.specs.Prelude.{map, string_bytes};
@@ -22,25 +22,25 @@ use miette_lint::fixed::fixed;
 use std::alloc::Global;
 use std::io::{Read, Write};
 
-/// What was found in a source.
+/// What `lint` found in a source.
 #[derive(Debug, Drop)]
 pub enum Verdict {
     /// Nothing.
     Clean,
-    /// Something, of which the report was written.
+    /// Findings. Their report was written.
     Found,
-    /// Something in the fixed text that was written, with the report on that.
+    /// Findings in the fixed text that was written, with their report.
     RemainingFindings(String),
 }
 
-// What is written of an input, and what is found.
+// The output for an input, and what was found.
 #[derive(Drop)]
 struct Answer {
     text: Vec<u8>,
     verdict: Verdict,
 }
 
-// What is written of an input, and what is found: in the fixed text, where that is asked for.
+// Checks an input and renders the output for it. With `--fix` the findings are those of the fixed text.
 fn check_input(alloc: Global, check: &LintCheck<'_>, input: Vec<u8>) -> Result<Answer, ProgramError>
     ensures text { IfOk result (λ it. it.text.items ≡ text_of (check_of check.now) input.items) }
     ensures verdict { IfOk result (λ it. IsVerdict it.verdict (check_of check.now) input.items) }
@@ -74,12 +74,12 @@ fn check_input(alloc: Global, check: &LintCheck<'_>, input: Vec<u8>) -> Result<A
     }
 }
 
-/// Checks a source, where one is to be checked: reads all, and writes the text for it, and nothing else. What is found.
+/// Reads a source, checks it, and writes the output for it. Returns what was found.
 ///
 /// # Errors
-/// `Usage` exactly where none is: the words were wrong. `Read` exactly where a call of the reader failed. `Write`
-/// exactly where one of the writer failed, or took nothing: it has then taken a beginning of the text. `Memory` where
-/// memory is refused. After all but `Write` nothing was written.
+/// `Usage` exactly if the arguments were wrong, so that there is no check. `Read` exactly if a call of the reader
+/// failed. `Write` exactly if a call of the writer failed or took nothing; the writer then has a beginning of the text.
+/// `Memory` if allocation fails. Except after `Write`, nothing was written.
 pub fn run_lint<R: Read, W: Write>(
     alloc: Global,
     check: Option<LintCheck<'_>>,
@@ -90,7 +90,7 @@ pub fn run_lint<R: Read, W: Write>(
     requires writer_sound { writer.old.failed ≡ false }
     ensures usage { (result ≡ Err ProgramError.Usage) ↔ IsNone check.entry }
     ensures unread { (result ≡ Err ProgramError.Usage) → (reader.new ≡ reader.old) × (writer.new ≡ writer.old) }
-    // All that the reader had left is the source, and the writer took the text for it and nothing else.
+    // All remaining input is the source. The writer got the text for it, and nothing else.
     ensures ok { OnOk result (IfSome check.entry (λ it. IfSome (R.remaining reader.old.inner) (λ bytes.
         Appends (W.contents writer.old.inner) (W.contents writer.new.inner) (text_of (check_of it) bytes)))) }
     ensures verdict { IfOk result (λ verdict. IfSome check.entry (λ it. IfSome (R.remaining reader.old.inner) (λ bytes.
@@ -101,7 +101,7 @@ pub fn run_lint<R: Read, W: Write>(
     ensures others { OnErr result ((result ≡ Err ProgramError.Usage) ⊎ (result ≡ Err ProgramError.Memory)
         ⊎ (result ≡ Err ProgramError.Read)
         ⊎ (result ≡ Err ProgramError.Write)) }
-    // After a write fault a beginning of the text was taken.
+    // After a write error the writer has a beginning of the text.
     ensures beginning { (result ≡ Err ProgramError.Write) → IfSome check.entry (λ it. IfSome
         (R.remaining reader.old.inner)
         (λ bytes. TakesBeginning (W.contents writer.old.inner) (W.contents writer.new.inner)
@@ -118,8 +118,8 @@ pub fn run_lint<R: Read, W: Write>(
     Ok(answer.verdict)
 }
 
-/// `lint_with` over devices of one's own, of words that ask for no server. Beside the status, whether `faults` took the
-/// report on what is left in a fixed text, or the row that says why the status is 2.
+/// Like `lint_with` for a check, over readers and writers that the caller keeps. Also returns whether `faults` took the
+/// report of the remaining findings, or the error message.
 pub fn lint_on<R: Read, W: Write, F: Write>(
     alloc: Global,
     check: Option<LintCheck<'_>>,
@@ -130,18 +130,18 @@ pub fn lint_on<R: Read, W: Write, F: Write>(
     requires reader_sound { reader.old.failed ≡ false }
     requires writer_sound { writer.old.failed ≡ false }
     ensures status { result.status < 3 }
-    // 0 where nothing is found, 1 where something is: the writer took the text, and nothing else.
+    // 0 if nothing was found, 1 if there are findings. The writer got the text, and nothing else.
     ensures done { result.status < 2 → IfSome check.entry (λ it. IfSome (R.remaining reader.old.inner) (λ bytes.
         (result.status ≡ check_status (check_of it) bytes)
         × Appends (W.contents writer.old.inner) (W.contents writer.new.inner) (text_of (check_of it) bytes))) }
-    // `faults` is handed the report on what is left in a fixed text, and of other forms nothing.
+    // `faults` gets the report of findings that remain in a fixed text, and nothing in other forms.
     ensures quiet { result.status ≡ 0 → faults.new ≡ faults.old }
     ensures found { result.status ≡ 1 → IfSome check.entry (λ it. is_fix (output_of it.output) ≡ false
         → faults.new ≡ faults.old) }
     ensures left { result.status ≡ 1 → IfSome check.entry (λ it. is_fix (output_of it.output) ≡ true
         → IfSome (R.remaining reader.old.inner) (λ bytes. OnOk result.told (Appends (F.contents faults.old)
         (F.contents faults.new) (report_on (check_of it) (fixed_text bytes))))) }
-    // The status 2 comes only for a fault, and `faults` is handed its row.
+    // The exit code is 2 only after an error, and `faults` gets its message.
     ensures failed { result.status ≡ 2 → (fault : ProgramError)
         × IsFailure Program.Lint result (F.contents faults.old) (F.contents faults.new) fault
         × IsFound (IsNone check.entry) reader.new.failed writer.new.failed fault }
@@ -158,12 +158,12 @@ pub fn lint_on<R: Read, W: Write, F: Write>(
     }
 }
 
-/// The program `lint`: in go the words after its name, out comes the status. The words are checked first. Then an
-/// editor is served, or all input is read, and what is written of it is made, and then written.
+/// Runs `lint` with the arguments after the program's name, and returns the exit code. The arguments are checked first.
+/// Then it serves an editor, or it reads all input, checks it, and writes the output.
 ///
-/// The status of a check is 0 where nothing is found, and 1 where something is. That of a server is 0 where the editor
-/// ends it after `shutdown`, and 1 where it ends it before. The status is 2 where the words are wrong, or where memory,
-/// the reader or the writer failed. A fault's text and a line feed go to `faults`, whose own faults are ignored.
+/// The exit code of a check is 0 if nothing was found, and 1 if there are findings. That of a server is 0 if the editor
+/// ended it after `shutdown`, and 1 if it ended it before. The exit code is 2 for wrong arguments, and if allocation,
+/// the reader or the writer failed. An error's message goes to `faults`. Errors of `faults` itself are ignored.
 pub fn lint_with<R, W, F>(alloc: Global, words: &[String], reader: R, writer: W, faults: F) -> u8
 where
     R: Read + Drop,
@@ -185,12 +185,4 @@ where
     let mut writer = Device::new(writer);
     let mut faults = faults;
     lint_on(alloc, check, &mut reader, &mut writer, &mut faults).status
-}
-
-/// Ends the program `lint` where its words could not be had: prints the fault's text and a line feed, and gives the
-/// status.
-pub fn fail_lint_arguments<F: Write + Drop>(fault: ProgramError, faults: F) -> u8
-    ensures { result ≡ 2 }
-{
-    Program::Lint.end(fault, faults)
 }

@@ -1,4 +1,4 @@
-//! The reports of what `lint` finds in a source, in each form of output.
+//! The reports of findings in a source, in each output form.
 
 ghost use Rattle.std.specs.Prelude.{◌≡◌, ◌++◌, IfOk, OnErr, OnOk, None, false, map, string_bytes};
 ghost use Rattle.miette_lines.specs.rules.Lists.{is_nil};
@@ -20,7 +20,7 @@ ghost use Rattle.miette_lint_program.specs.views.Requests.{check_of, output_of};
 
 use crate::lint_request::{LintCheck, LintOutput};
 use itoa::Buffer;
-use miette_brief::form::Form;
+use miette_brief::form::BriefForm;
 use miette_brief::handler::BriefReportHandler;
 use miette_devices::fault::ProgramError;
 use miette_draw::drawing::{draw, draw_diagnostic, report};
@@ -36,7 +36,7 @@ use miette_protocol::source::SourceCode;
 use miette_tree::report::{OwnedSource, Report};
 use std::alloc::{AllocError, Global};
 
-// The report of a finding.
+// Builds the report of a finding.
 fn report_of<D: Diagnostic, S: SourceCode>(
     alloc: Global,
     finding: CodedFinding,
@@ -54,7 +54,7 @@ fn report_of<D: Diagnostic, S: SourceCode>(
     Report::built(diagnostic.with_labels(labels)).with_fixes(alloc, fixes)
 }
 
-// The reports of findings.
+// Builds the reports of findings.
 fn reports_of<D: Diagnostic, S: SourceCode>(
     alloc: Global,
     found: Vec<CodedFinding>,
@@ -70,8 +70,8 @@ fn reports_of<D: Diagnostic, S: SourceCode>(
     Ok(reports)
 }
 
-// The reports of findings in an input under its name: the first one has it, with an index of its lines, and the others
-// are related to that.
+// Builds the reports of findings in the named input. The first one has the source, with a line index, and the others
+// are related to it.
 fn reports_over<D: Diagnostic, S: SourceCode>(
     alloc: Global,
     name: &str,
@@ -92,7 +92,7 @@ fn reports_over<D: Diagnostic, S: SourceCode>(
     Ok(list)
 }
 
-// The commands of reports whose sources always read, one after the other.
+// Appends the GitHub commands of reports whose sources always read.
 fn push_commands<D: Diagnostic, S: SourceCode>(
     text: &mut String,
     reports: &[Report<D, S>],
@@ -103,14 +103,14 @@ fn push_commands<D: Diagnostic, S: SourceCode>(
     ensures refused { (result ≡ Err RenderError.Refused) → reports_pass accepts None
         (trees (map (tree_of D.meaning S.source) reports.now)) ≡ false }
 {
-    let handler = BriefReportHandler::new().with_form(Form::Github);
+    let handler = BriefReportHandler::new().with_form(BriefForm::Github);
     for report in reports {
         handler.render(report, text)?;
     }
     Ok(())
 }
 
-// A workflow command of GitHub for each of the findings in an input under its name.
+// Renders a GitHub workflow command for each finding in the named input.
 fn commands_over(
     alloc: Global,
     name: &str,
@@ -131,7 +131,7 @@ fn commands_over(
     Ok(text)
 }
 
-// The brief rows of a diagnostic over the input under its name.
+// Renders the brief report of a diagnostic over the named input.
 fn rows_over(
     alloc: Global,
     name: &str,
@@ -174,7 +174,7 @@ fn diagnostic(alloc: Global, found: Vec<LabeledSpan>) -> Result<MietteDiagnostic
     )
 }
 
-// A picture of all that is found in a source, whose lines are cut at the width.
+// Renders a graphical report of all findings, with source lines cut at the width.
 fn render_picture(
     alloc: Global,
     check: &LintCheck<'_>,
@@ -189,7 +189,7 @@ fn render_picture(
     draw_diagnostic(alloc, check.name, diagnostic, source, Some(check.width))
 }
 
-// Brief rows of all that is found in a source.
+// Renders a brief report of all findings.
 fn render_rows(
     alloc: Global,
     check: &LintCheck<'_>,
@@ -254,7 +254,7 @@ fn report_with_fix<D: Diagnostic, S: SourceCode>(
     report(alloc, check.name, diagnostic, source)?.with_fix(alloc, fix)
 }
 
-// A picture of all that is found in a source, with that fix.
+// Renders a graphical report of all findings, with this fix.
 fn render_diff(
     alloc: Global,
     check: &LintCheck<'_>,
@@ -270,14 +270,14 @@ fn render_diff(
     draw(alloc, &report, Some(check.width))
 }
 
-// Whether nothing is found.
+// Whether nothing was found.
 fn is_clean(found: &Vec<LabeledSpan>) -> bool
     ensures { result ≡ is_nil found.now.items }
 {
     found.as_slice().is_empty()
 }
 
-// The report of what is found in a source, in the form that is asked for. A further form has its text here.
+// Renders the findings in the requested form. To add a form, render its text here.
 fn render(
     alloc: Global,
     check: &LintCheck<'_>,
@@ -298,10 +298,10 @@ fn render(
     }
 }
 
-/// Whether nothing is found in a source, and the report of what is. No label of it is refused.
+/// Returns whether nothing was found in a source, and the report of the findings. All its labels are in bounds.
 ///
 /// # Errors
-/// `Memory` where no memory is found.
+/// `Memory` if allocation fails.
 pub(crate) fn report_on(
     alloc: Global,
     check: &LintCheck<'_>,

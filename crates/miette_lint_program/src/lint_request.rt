@@ -1,61 +1,61 @@
-//! What `lint` is asked for by the words after its name.
+//! The request of `lint`, parsed once from its arguments.
 
 ghost use Rattle.std.specs.Prelude.{◌≡◌, map, option_map, string_bytes};
 ghost use Rattle.miette_lint_program.specs.rules.Words.{checked, lint_request, output_for};
 ghost use Rattle.miette_lint_program.specs.views.Requests.{output_of, request_of};
 
-use miette_devices::output::Output;
+use miette_devices::output_form::OutputForm;
 use miette_devices::words::number;
 
-/// What `lint` writes of a source. A further form has a word in `LintOutput::named`, and its text in `render`.
+/// What `lint` writes for a source. To add a form, add its argument to `LintOutput::named` and its text to `render`.
 #[derive(Clone, Copy, Debug, PartialEq, Eq)]
 pub enum LintOutput<'w> {
-    /// A picture of all findings.
+    /// A graphical report of all findings.
     Graphical,
-    /// Brief rows of all findings, for editors and build logs.
+    /// A brief report of all findings, for editors and build logs.
     Brief,
     /// Workflow commands of GitHub, one for each finding.
     Github,
     /// A SARIF log of a tool of this name, with a result for each finding.
     Sarif(&'w str),
-    /// A picture of all findings, with one fix of all that is proposed.
+    /// A graphical report of all findings, with one fix of all proposed edits.
     Diff,
-    /// The source after all that is proposed. A picture of what is left in it goes to the stream of faults.
+    /// The source after all proposed edits. A graphical report of the remaining findings goes to standard error.
     Fixed,
 }
 
 /// A source to check.
 #[derive(Clone, Copy, Debug, PartialEq, Eq)]
 pub struct LintCheck<'w> {
-    /// What is written of it.
+    /// What is written.
     pub output: LintOutput<'w>,
     /// Its name.
     pub name: &'w str,
-    /// How many columns a line may have.
+    /// The maximum number of columns of a line.
     pub width: usize,
 }
 
-/// What `lint` is asked for.
+/// What `lint` is to do.
 #[derive(Clone, Copy, Debug, PartialEq, Eq)]
 pub enum LintRequest<'w> {
-    /// To check a source.
+    /// Check a source.
     Check(LintCheck<'w>),
-    /// To serve an editor, whose lines may have so many columns.
+    /// Serve an editor. Lines may have this many columns.
     Serve(usize),
 }
 
 impl<'w> LintOutput<'w> {
-    // What a word asks for, if it does.
+    // Returns the output that an argument selects.
     fn named(word: &str) -> Option<LintOutput<'w>>
         ensures { option_map output_of result ≡ output_for word.now }
     {
         match word {
             "--diff" => Some(LintOutput::Diff),
             "--fix" => Some(LintOutput::Fixed),
-            _ => match Output::named(word) {
-                Some(Output::Brief) => Some(LintOutput::Brief),
-                Some(Output::Github) => Some(LintOutput::Github),
-                Some(Output::Sarif) => Some(LintOutput::Sarif("lint")),
+            _ => match OutputForm::named(word) {
+                Some(OutputForm::Brief) => Some(LintOutput::Brief),
+                Some(OutputForm::Github) => Some(LintOutput::Github),
+                Some(OutputForm::Sarif) => Some(LintOutput::Sarif("lint")),
                 _ => None,
             },
         }
@@ -63,7 +63,7 @@ impl<'w> LintOutput<'w> {
 }
 
 impl<'w> LintRequest<'w> {
-    /// Reads the words after the program's name. Nothing where `lint` isn't called with such words.
+    /// Parses the arguments after the program's name. Returns `None` for wrong arguments.
     pub fn read(words: &'w [String]) -> Option<LintRequest<'w>>
         ensures { option_map request_of result ≡ lint_request (map string_bytes words.now) }
     {
@@ -87,7 +87,7 @@ impl<'w> LintRequest<'w> {
         }
     }
 
-    // To check the source of this name, with the width that this word writes. Nothing where it is no number.
+    // Returns a check of the source with this name and width. Returns `None` if the width isn't a number.
     fn source(output: LintOutput<'w>, name: &'w str, width: &str) -> Option<LintRequest<'w>>
         ensures { option_map request_of result ≡ checked (output_of output.entry) name.now width.now }
     {

@@ -1,4 +1,4 @@
-//! `lint --lsp`: what `lint` finds, told to an editor as it writes.
+//! `lint --lsp`: findings for an editor while the user types.
 
 ghost use Rattle.std.specs.Prelude.{◌≡◌, ◌⊎◌, ◌<◌, IfOk, IfSome, OnErr};
 ghost use Rattle.std.specs.Io.Buffered.{reader_remaining};
@@ -13,7 +13,7 @@ use miette_language_server::serve::serve;
 use std::alloc::Global;
 use std::io::{BufReader, Read, Write};
 
-// A buffer in front of a reader: nothing of it is read yet.
+// Puts a buffer in front of a reader. Nothing is read yet.
 fn buffered<R: Read + Drop>(alloc: Global, reader: R) -> Result<BufReader<R>, ProgramError>
     ensures whole { IfOk result (λ it. reader_remaining R.remaining it ≡ R.remaining reader) }
     ensures others { OnErr result (result ≡ Err ProgramError.Memory) }
@@ -24,9 +24,8 @@ fn buffered<R: Read + Drop>(alloc: Global, reader: R) -> Result<BufReader<R>, Pr
     }
 }
 
-/// `lint_serve_with` over a client and a stream of faults of one's own. Beside the status, whether `faults` took the
-/// row
-/// that says why the server failed.
+/// Like `lint_serve_with`, over a client and a `faults` that the caller keeps. Also returns whether `faults` took the
+/// error message.
 pub fn serve_on<R: Read, W: Write, F: Write>(
     alloc: Global,
     width: usize,
@@ -35,9 +34,9 @@ pub fn serve_on<R: Read, W: Write, F: Write>(
 ) -> ProgramExit
     requires { IsOpen client.old }
     ensures status { result.status < 3 }
-    // The client was sent what a language server writes for all that was read, and nothing else, neither stream failed,
-    // and `faults` took nothing. Or the reader, the writer or memory failed, which is told exactly: the client took a
-    // beginning of that, and `faults` is handed the row that says so.
+    // Either the client got what a language server writes for all that was read and nothing else, no stream failed, and
+    // `faults` got nothing. Or the reader, the writer or allocation failed: then the error says exactly which, the
+    // client got a beginning of that text, and `faults` gets the error message.
     ensures service { (IsService width (R.remaining client.old.reader.inner) (W.contents client.old.writer.inner)
         (W.contents client.new.writer.inner) result.status × IsOpen client.new × (faults.new ≡ faults.old))
         ⊎ ((fault : ProgramError) × IsFailure Program.Lint result (F.contents faults.old) (F.contents faults.new) fault
@@ -54,11 +53,11 @@ pub fn serve_on<R: Read, W: Write, F: Write>(
     }
 }
 
-/// The program `lint --lsp`: serves an editor over the Language Server Protocol, until it ends the server.
+/// Runs `lint --lsp`: serves an editor over the Language Server Protocol until the editor ends the server.
 ///
-/// The status is 0 where the editor ends the server after `shutdown`, and 1 where it ends it before; 2 where the frames
-/// end or one is broken, and where memory, the reader or the writer failed: then the fault's text and a line feed go to
-/// `faults`, whose own faults are ignored.
+/// The exit code is 0 if the editor ends the server after `shutdown`, and 1 if it ends it before. It is 2 if the frames
+/// end or one is broken, and if allocation, the reader or the writer failed. Then the error message goes to `faults`.
+/// Errors of `faults` itself are ignored.
 pub fn lint_serve_with<R, W, F>(alloc: Global, width: usize, reader: R, writer: W, faults: F) -> u8
 where
     R: Read + Drop,

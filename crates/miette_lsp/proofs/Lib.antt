@@ -1,4 +1,3 @@
-pub mod Filling
 pub mod Grouping
 pub mod Parts
 pub mod Putting

@@ -1,4 +1,4 @@
--- The definitions that users rely on, named as in docs/RULES.md.
+-- The definitions that users rely on, named as in crates/miette_lsp/CALLING.md.
 pub mod Diagnostics
 pub mod Documents
 pub mod LspText

@@ -1,28 +1,30 @@
 //! Diagnostics of the Language Server Protocol, one for each finding.
 
-ghost use Rattle.std.specs.Prelude.{◌≡◌, ◌++◌, ◌∷◌, [], IfOk, OnOk, map, string_bytes};
+ghost use Rattle.std.specs.Prelude.{◌≡◌, OnOk, codes, map};
+ghost use Rattle.std.specs.List.{list_any};
 ghost use Rattle.std.specs.Option.{option_copied, option_map};
+ghost use Rattle.miette_json.specs.rules.Writing.{with_items, with_value};
 ghost use Rattle.miette_lsp.specs.rules.Diagnostics.{code_pairs, data_pairs, diagnostic, diagnostic_head_pairs, href};
 ghost use Rattle.miette_lsp.specs.rules.Diagnostics.{href_pairs};
 ghost use Rattle.miette_lsp.specs.rules.Diagnostics.{related_text_at, related_at, related_values_of, related_value};
-ghost use Rattle.miette_lsp.specs.rules.Diagnostics.{severity};
+ghost use Rattle.miette_lsp.specs.rules.Diagnostics.{lsp_fix_values, severity};
 ghost use Rattle.miette_lsp.specs.rules.Diagnostics.{diagnostic_tail_pairs, message_pairs};
+ghost use Rattle.miette_lsp.specs.steps.Putting.{is_related};
 ghost use Rattle.miette_sarif.specs.rules.Artifacts.{uri_of};
+ghost use Rattle.miette_sarif.specs.rules.Objects.{array_of, items_of, listed};
+ghost use Rattle.miette_sarif.specs.steps.Members.{with_pairs};
 ghost use Rattle.miette_sarif.specs.views.Artifacts.{artifacts_view};
 ghost use Rattle.miette_sarif.specs.views.Findings.{area_of, finding_of, mark_of, source_name_of, place_of};
-ghost use Rattle.miette_sarif.specs.views.Values.{json_of, pairs_of, values_of};
+ghost use Rattle.miette_sarif.specs.views.Findings.{applicable_fix_of};
 
-use crate::edits::lsp_fix_values;
+use crate::edits::push_fixes;
 use crate::message::diagnostic_message_text;
-use crate::places::{area_range, location_value, primary_area};
+use crate::places::{primary_area, push_area_range, push_location};
+use miette_json::writer::JsonWriter;
 use miette_sarif::artifacts::Artifacts;
-use miette_sarif::finding::{Finding, PhysicalLocation, SarifLocation, SarifRegion};
+use miette_sarif::finding::{Finding, PhysicalLocation, Proposal, SarifLocation, SarifRegion};
 use miette_sarif::uri::{address_uri, is_absolute_uri};
-use miette_sarif::value::{
-    Members, Value, list_value, number_value, object_value, one_member_object, owned_value,
-    push_item, with_list, with_member, with_text,
-};
-use std::alloc::{AllocError, Global};
+use std::alloc::AllocError;
 
 // The protocol's severity of a level: 1 for errors, 2 for warnings, 3 for advice.
 fn severity(level: &str) -> usize
@@ -38,219 +40,224 @@ fn severity(level: &str) -> usize
 }
 
 // `"codeDescription": {"href": "https://x.org/bad"}`
-fn with_address(alloc: Global, members: Members, url: &str) -> Result<Members, AllocError>
-    ensures { IfOk result (λ all. pairs_of all.items ≡ pairs_of members.entry.items ++ href url.now) }
+fn push_address(json: &mut JsonWriter, url: &str) -> Result<(), AllocError>
+    ensures { OnOk result (json.new ≡ with_pairs (href url.now) json.old) }
 {
-    let uri = address_uri(alloc, url)?;
-    let address = one_member_object(alloc, "href", owned_value(uri))?;
-    with_member(members, "codeDescription", address)
+    let uri = address_uri(json.allocator(), url)?;
+    json.key("codeDescription")?;
+    json.begin_object()?;
+    json.string_member("href", uri.as_str())?;
+    json.end_object()
 }
 
-// Adds that member if the url is absolute.
-fn with_href(alloc: Global, members: Members, url: Option<&str>) -> Result<Members, AllocError>
-    ensures { IfOk result (λ all. pairs_of all.items
-        ≡ pairs_of members.entry.items ++ href_pairs (option_copied url.entry)) }
+// Writes that member if the url is absolute.
+fn push_href(json: &mut JsonWriter, url: Option<&str>) -> Result<(), AllocError>
+    ensures { OnOk result (json.new ≡ with_pairs (href_pairs (option_copied url.entry)) json.old) }
 {
     let Some(url) = url else {
-        return Ok(members);
+        return Ok(());
     };
     if !is_absolute_uri(url) {
-        return Ok(members);
+        return Ok(());
     }
-    with_address(alloc, members, url)
+    push_address(json, url)
 }
 
-// Adds a code and its address, unless the code is empty.
-fn with_code(
-    alloc: Global,
-    members: Members,
-    code: &str,
-    url: Option<&str>,
-) -> Result<Members, AllocError>
-    ensures { IfOk result (λ all. pairs_of all.items ≡ pairs_of members.entry.items
-        ++ code_pairs code.now (option_copied url.entry)) }
+// Writes a code and its address, unless the code is empty.
+fn push_code(json: &mut JsonWriter, code: &str, url: Option<&str>) -> Result<(), AllocError>
+    ensures { OnOk result (json.new ≡ with_pairs (code_pairs code.now (option_copied url.entry)) json.old) }
 {
     if code.is_empty() {
-        return Ok(members);
+        return Ok(());
     }
-    let members = with_text(alloc, members, "code", code)?;
-    with_href(alloc, members, url)
+    json.string_member("code", code)?;
+    push_href(json, url)
 }
 
 // `{"location": {..},"message": "defined here"}`
-fn related_value(
-    alloc: Global,
-    uri: String,
+fn push_related_value(
+    json: &mut JsonWriter,
+    uri: &str,
     area: Option<SarifRegion<'_>>,
     text: &str,
-) -> Result<Value, AllocError>
-    ensures { IfOk result (λ value. json_of value
-        ≡ related_value (string_bytes uri) (option_map area_of area.entry) text.now) }
+) -> Result<(), AllocError>
+    ensures { OnOk result (json.new
+        ≡ with_value (related_value uri.now (option_map area_of area.entry) text.now) json.old) }
 {
-    let location = location_value(alloc, uri, area)?;
-    let members = with_member(Vec::new(alloc), "location", location)?;
-    let members = with_text(alloc, members, "message", text)?;
-    Ok(object_value(members))
+    json.begin_object()?;
+    json.key("location")?;
+    push_location(json, uri, area)?;
+    json.string_member("message", text)?;
+    json.end_object()
 }
 
-// Appends a text at a location.
+// Writes a text at a location.
 fn push_at(
-    list: &mut Vec<Value>,
-    alloc: Global,
+    json: &mut JsonWriter,
     artifacts: &Artifacts,
     place: PhysicalLocation<'_>,
     text: &str,
 ) -> Result<(), AllocError>
-    ensures { OnOk result (values_of list.new.items ≡ values_of list.old.items
-        ++ related_value (uri_of (artifacts_view artifacts.now).untitled (source_name_of place.entry.source))
-        (option_map area_of place.entry.area) text.now ∷ []) }
+    ensures { OnOk result (json.new ≡ with_value
+        (related_value (uri_of (artifacts_view artifacts.now).untitled (source_name_of place.entry.source))
+        (option_map area_of place.entry.area) text.now) json.old) }
 {
-    let uri = artifacts.uri(alloc, place.source)?;
-    let value = related_value(alloc, uri, place.area, text)?;
-    push_item(list, value)
+    let uri = artifacts.uri(json.allocator(), place.source)?;
+    push_related_value(json, uri.as_str(), place.area, text)
 }
 
-// Appends a text at a location, if there is one.
+// Writes a text at a location, if there is one.
 fn push_placed(
-    list: &mut Vec<Value>,
-    alloc: Global,
+    json: &mut JsonWriter,
     artifacts: &Artifacts,
     mark: &SarifLocation<'_>,
 ) -> Result<(), AllocError>
-    ensures { OnOk result (values_of list.new.items ≡ values_of list.old.items
-        ++ related_text_at (artifacts_view artifacts.now).untitled (option_map place_of mark.now.place)
-        mark.now.text.now) }
+    ensures { OnOk result (json.new ≡ with_items (items_of (related_text_at (artifacts_view artifacts.now).untitled
+        (option_map place_of mark.now.place) mark.now.text.now)) json.old) }
 {
     match mark.place {
-        Some(place) => push_at(list, alloc, artifacts, place, mark.text),
+        Some(place) => push_at(json, artifacts, place, mark.text),
         None => Ok(()),
     }
 }
 
-// Appends a label, if it has a source and a text.
+// Writes a label, if it has a source and a text.
 fn push_related(
-    list: &mut Vec<Value>,
-    alloc: Global,
+    json: &mut JsonWriter,
     artifacts: &Artifacts,
     mark: &SarifLocation<'_>,
 ) -> Result<(), AllocError>
-    ensures { OnOk result (values_of list.new.items ≡ values_of list.old.items
-        ++ related_at (artifacts_view artifacts.now).untitled (mark_of mark.now)) }
+    ensures { OnOk result (json.new
+        ≡ with_items (items_of (related_at (artifacts_view artifacts.now).untitled (mark_of mark.now))) json.old) }
 {
     if mark.text.is_empty() {
         return Ok(());
     }
-    push_placed(list, alloc, artifacts, mark)
+    push_placed(json, artifacts, mark)
 }
 
-// Appends the labels that have a source and a text.
+// Writes the list of the labels that have a source and a text.
 fn push_all_related(
-    list: &mut Vec<Value>,
-    alloc: Global,
+    json: &mut JsonWriter,
     artifacts: &Artifacts,
     locations: &[SarifLocation<'_>],
 ) -> Result<(), AllocError>
-    ensures { OnOk result (values_of list.new.items ≡ values_of list.old.items
-        ++ related_values_of (artifacts_view artifacts.now).untitled (map mark_of locations.now)) }
+    ensures { OnOk result (json.new ≡ with_value
+        (array_of (related_values_of (artifacts_view artifacts.now).untitled (map mark_of locations.now))) json.old) }
 {
+    json.begin_list()?;
     for mark in locations {
-        push_related(list, alloc, artifacts, mark)?;
+        push_related(json, artifacts, mark)?;
     }
-    Ok(())
+    json.end_list()
 }
 
-// Returns the labels that have a source and a text.
-fn related_values(
-    alloc: Global,
+// Whether a label has a source and a text.
+fn is_related(label: &SarifLocation<'_>) -> bool
+    ensures { result ≡ is_related (mark_of label.now) }
+{
+    if label.text.is_empty() {
+        return false;
+    }
+    label.place.is_some()
+}
+
+// Whether one of the labels has a source and a text.
+fn has_related(locations: &[SarifLocation<'_>]) -> bool
+    ensures { result ≡ list_any is_related (map mark_of locations.now) }
+{
+    locations.iter().any(|mark| is_related(mark))
+}
+
+// `"relatedInformation": [..]`, or nothing without labels that have a source and a text.
+fn push_related_information(
+    json: &mut JsonWriter,
     artifacts: &Artifacts,
     locations: &[SarifLocation<'_>],
-) -> Result<Vec<Value>, AllocError>
-    ensures { IfOk result (λ list. values_of list.items
-        ≡ related_values_of (artifacts_view artifacts.now).untitled (map mark_of locations.now)) }
+) -> Result<(), AllocError>
+    ensures { OnOk result (json.new ≡ with_pairs (listed (codes "relatedInformation")
+        (related_values_of (artifacts_view artifacts.now).untitled (map mark_of locations.now))) json.old) }
 {
-    let mut list = Vec::new(alloc);
-    push_all_related(&mut list, alloc, artifacts, locations)?;
-    Ok(list)
+    if !has_related(locations) {
+        return Ok(());
+    }
+    json.key("relatedInformation")?;
+    push_all_related(json, artifacts, locations)
 }
 
 // `"data": {"fixes": [..]}`, or nothing without fixes.
-fn with_data(alloc: Global, members: Members, fixes: Vec<Value>) -> Result<Members, AllocError>
-    ensures { IfOk result (λ all. pairs_of all.items
-        ≡ pairs_of members.entry.items ++ data_pairs (values_of fixes.items)) }
+fn push_data(
+    json: &mut JsonWriter,
+    artifacts: &Artifacts,
+    fixes: &[Proposal<'_>],
+) -> Result<(), AllocError>
+    ensures { OnOk result (json.new ≡ with_pairs
+        (data_pairs (lsp_fix_values (artifacts_view artifacts.now).untitled (map applicable_fix_of fixes.now)))
+        json.old) }
 {
     if fixes.is_empty() {
-        return Ok(members);
+        return Ok(());
     }
-    with_member(
-        members,
-        "data",
-        one_member_object(alloc, "fixes", list_value(fixes))?,
-    )
+    json.key("data")?;
+    json.begin_object()?;
+    json.key("fixes")?;
+    push_fixes(json, artifacts, fixes)?;
+    json.end_object()
 }
 
 // The range, severity and code of a finding.
-fn head_members(alloc: Global, finding: &Finding<'_>) -> Result<Members, AllocError>
-    ensures { IfOk result (λ all. pairs_of all.items ≡ diagnostic_head_pairs (finding_of finding.now)) }
+fn push_head(json: &mut JsonWriter, finding: &Finding<'_>) -> Result<(), AllocError>
+    ensures { OnOk result (json.new ≡ with_pairs (diagnostic_head_pairs (finding_of finding.now)) json.old) }
 {
-    let range = area_range(alloc, primary_area(&finding.primary))?;
-    let members = with_member(Vec::new(alloc), "range", range)?;
-    let level = number_value(severity(finding.report_texts.level));
-    let members = with_member(members, "severity", level)?;
-    with_code(
-        alloc,
-        members,
-        finding.report_texts.code,
-        finding.report_texts.url,
-    )
+    json.key("range")?;
+    push_area_range(json, primary_area(&finding.primary))?;
+    json.number_member("severity", severity(finding.report_texts.level))?;
+    push_code(json, finding.report_texts.code, finding.report_texts.url)
 }
 
-// Adds the tool's name and the message.
-fn with_source_and_message(
-    alloc: Global,
+// Writes the tool's name and the message.
+fn push_source_and_message(
+    json: &mut JsonWriter,
     tool: &str,
-    members: Members,
     finding: &Finding<'_>,
-) -> Result<Members, AllocError>
-    ensures { IfOk result (λ all. pairs_of all.items
-        ≡ pairs_of members.entry.items ++ message_pairs tool.now (finding_of finding.now)) }
+) -> Result<(), AllocError>
+    ensures { OnOk result (json.new ≡ with_pairs (message_pairs tool.now (finding_of finding.now)) json.old) }
 {
-    let members = with_text(alloc, members, "source", tool)?;
-    let message = diagnostic_message_text(alloc, finding)?;
-    with_member(members, "message", owned_value(message))
+    let message = diagnostic_message_text(json.allocator(), finding)?;
+    json.string_member("source", tool)?;
+    json.string_member("message", message.as_str())
 }
 
-// Adds other labels and fixes.
-fn with_tail(
-    alloc: Global,
+// Writes other labels and fixes.
+fn push_tail(
+    json: &mut JsonWriter,
     artifacts: &Artifacts,
-    members: Members,
     finding: &Finding<'_>,
-) -> Result<Members, AllocError>
-    ensures { IfOk result (λ all. pairs_of all.items ≡ pairs_of members.entry.items
-        ++ diagnostic_tail_pairs (artifacts_view artifacts.now).untitled (finding_of finding.now)) }
+) -> Result<(), AllocError>
+    ensures { OnOk result (json.new ≡ with_pairs
+        (diagnostic_tail_pairs (artifacts_view artifacts.now).untitled (finding_of finding.now)) json.old) }
 {
-    let related = related_values(alloc, artifacts, &finding.locations)?;
-    let members = with_list(members, "relatedInformation", related)?;
-    let fixes = lsp_fix_values(alloc, artifacts, &finding.fixes)?;
-    with_data(alloc, members, fixes)
+    push_related_information(json, artifacts, &finding.locations)?;
+    push_data(json, artifacts, &finding.fixes)
 }
 
-/// Returns the diagnostic of a finding by a tool with this name. It has `range`, `severity`, `source` and `message`,
+/// Writes the diagnostic of a finding by a tool with this name. It has `range`, `severity`, `source` and `message`,
 /// and if there are any `code`, `codeDescription`, `relatedInformation` and `data`.
 ///
 /// # Errors
 /// `AllocError` if allocation fails.
-pub fn lsp_diagnostic_value(
-    alloc: Global,
+pub fn push_diagnostic(
+    json: &mut JsonWriter,
     tool: &str,
     artifacts: &Artifacts,
     finding: &Finding<'_>,
-) -> Result<Value, AllocError>
-    ensures { IfOk result (λ value. json_of value
-        ≡ diagnostic tool.now (artifacts_view artifacts.now).untitled (finding_of finding.now)) }
+) -> Result<(), AllocError>
+    ensures { OnOk result (json.new ≡ with_value
+        (diagnostic tool.now (artifacts_view artifacts.now).untitled (finding_of finding.now)) json.old) }
 {
-    let members = head_members(alloc, finding)?;
-    let members = with_source_and_message(alloc, tool, members, finding)?;
-    let members = with_tail(alloc, artifacts, members, finding)?;
-    Ok(object_value(members))
+    json.begin_object()?;
+    push_head(json, finding)?;
+    push_source_and_message(json, tool, finding)?;
+    push_tail(json, artifacts, finding)?;
+    json.end_object()
 }

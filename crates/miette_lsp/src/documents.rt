@@ -6,30 +6,30 @@ ghost use Rattle.std.specs.List.{list_any};
 ghost use Rattle.std.specs.Option.{option_map};
 ghost use Rattle.std.specs.Str.{bytes_eq};
 ghost use Rattle.indexmap.specs.IndexSet.{insert_key};
+ghost use Rattle.miette_json.specs.rules.Writing.{empty_prefix, with_value};
 ghost use Rattle.miette_lsp.specs.rules.Diagnostics.{diagnostic};
-ghost use Rattle.miette_lsp.specs.rules.Documents.{all_diagnostics, document, documents, documents_in, mark_source};
+ghost use Rattle.miette_lsp.specs.rules.Documents.{all_diagnostics, documents, documents_in, mark_source};
 ghost use Rattle.miette_lsp.specs.rules.Documents.{place_source};
-ghost use Rattle.miette_lsp.specs.steps.Putting.{AreLists, AreSomeLists, IsPut, documents_of};
+ghost use Rattle.miette_lsp.specs.steps.Putting.{AreLists, AreSomeLists, IsAt, with_document, with_documents};
 ghost use Rattle.miette_lsp.specs.views.DocumentLists.{document_lists_of};
 ghost use Rattle.miette_sarif.specs.rules.Findings.{Finding as Findings};
 ghost use Rattle.miette_sarif.specs.rules.Objects.{array_of};
 ghost use Rattle.miette_sarif.specs.views.Artifacts.{artifacts_view};
 ghost use Rattle.miette_sarif.specs.views.Findings.{finding_of, sarif_findings_of, mark_of, source_name_of, place_of};
 ghost use Rattle.miette_sarif.specs.views.Findings.{texts_of};
-ghost use Rattle.miette_sarif.specs.views.Values.{json_of, values_of};
 
-use crate::diagnostic::lsp_diagnostic_value;
+use crate::diagnostic::push_diagnostic;
 use indexmap::IndexSet;
+use miette_json::writer::JsonWriter;
 use miette_sarif::artifacts::{Artifacts, artifacts_in};
 use miette_sarif::finding::{Finding, PhysicalLocation, SarifLocation, SourceId};
-use miette_sarif::value::{Value, list_value, object_value, push_item, with_member, with_text};
 use std::alloc::{AllocError, Global};
 
-// The URIs of sources with findings, and the diagnostics of each.
+// The URIs of sources with findings, and the diagnostics of each, which are written as list items.
 #[derive(Drop)]
 struct DocumentLists {
     uris: IndexSet<String>,
-    lists: Vec<Vec<Value>>,
+    lists: Vec<JsonWriter>,
 }
 
 // The source of a location, if there is one.
@@ -66,25 +66,30 @@ fn place_of_uri(uris: &mut IndexSet<String>, uri: String) -> Result<(usize, bool
 }
 
 // Appends an empty list for a new URI.
-fn begin_list(lists: &mut Vec<Vec<Value>>, alloc: Global, is_new: bool) -> Result<(), AllocError>
-    ensures { OnOk result (map (λ list. values_of list.items) lists.new.items
-        ≡ (if is_new then map (λ list. values_of list.items) lists.old.items ++ [] ∷ []
-        else map (λ list. values_of list.items) lists.old.items)) }
+fn begin_list(lists: &mut Vec<JsonWriter>, alloc: Global, is_new: bool) -> Result<(), AllocError>
+    ensures { OnOk result (lists.new.items
+        ≡ (if is_new then lists.old.items ++ empty_prefix ∷ [] else lists.old.items)) }
 {
     if is_new {
-        lists.push(Vec::new(alloc))?;
+        lists.push(JsonWriter::new(alloc))?;
     }
     Ok(())
 }
 
-// Appends a value to the list at an index.
-fn push_to(lists: &mut Vec<Vec<Value>>, at: usize, value: Value) -> Result<(), AllocError>
+// Writes a diagnostic to the list at an index.
+fn push_to(
+    lists: &mut Vec<JsonWriter>,
+    at: usize,
+    tool: &str,
+    artifacts: &Artifacts,
+    finding: &Finding<'_>,
+) -> Result<(), AllocError>
     requires { at < length lists.old.items }
-    ensures { OnOk result (map (λ list. values_of list.items) lists.new.items
-        ≡ set (map (λ list. values_of list.items) lists.old.items) at
-        (get_or (map (λ list. values_of list.items) lists.old.items) at [] ++ json_of value ∷ [])) }
+    ensures { OnOk result (lists.new.items ≡ set lists.old.items at (with_value
+        (diagnostic tool.now (artifacts_view artifacts.now).untitled (finding_of finding.now))
+        (get_or lists.old.items at empty_prefix))) }
 {
-    push_item(&mut lists[at], value)
+    push_diagnostic(&mut lists[at], tool, artifacts, finding)
 }
 
 impl DocumentLists {
@@ -98,18 +103,18 @@ impl DocumentLists {
         }
     }
 
-    // Appends a diagnostic to the list of a URI.
-    fn put(&mut self, alloc: Global, uri: String, value: Value) -> Result<(), AllocError>
+    // Returns the index of the list of a URI. A new URI gets an empty list.
+    fn list_at(&mut self, alloc: Global, uri: String) -> Result<usize, AllocError>
         requires { length (document_lists_of self.old).lists ≡ length (document_lists_of self.old).uris }
-        ensures { OnOk result (IsPut (string_bytes uri) (json_of value) (document_lists_of self.old)
+        ensures { IfOk result (λ at. IsAt (string_bytes uri) at (document_lists_of self.old)
             (document_lists_of self.new)) }
     {
         let (at, is_new) = place_of_uri(&mut self.uris, uri)?;
         begin_list(&mut self.lists, alloc, is_new)?;
-        push_to(&mut self.lists, at, value)
+        Ok(at)
     }
 
-    // Appends the diagnostic of a finding, if it has a source.
+    // Writes the diagnostic of a finding to the list of its source, if it has one.
     fn put_finding(
         &mut self,
         alloc: Global,
@@ -125,8 +130,8 @@ impl DocumentLists {
         match mark_source(&finding.primary) {
             Some(source) => {
                 let uri = artifacts.uri(alloc, source)?;
-                let value = lsp_diagnostic_value(alloc, tool, artifacts, finding)?;
-                self.put(alloc, uri, value)
+                let at = self.list_at(alloc, uri)?;
+                push_to(&mut self.lists, at, tool, artifacts, finding)
             }
             None => Ok(()),
         }
@@ -152,105 +157,99 @@ fn lists_by_uri(
 }
 
 // `{"uri": "a.rs","diagnostics": [..]}`
-fn document(alloc: Global, uri: &str, diagnostics: Vec<Value>) -> Result<Value, AllocError>
-    ensures { IfOk result (λ value. json_of value ≡ document uri.now (values_of diagnostics.items)) }
+fn push_document(
+    json: &mut JsonWriter,
+    uri: &str,
+    diagnostics: &JsonWriter,
+) -> Result<(), AllocError>
+    ensures { OnOk result (json.new ≡ with_document uri.now diagnostics.now json.old) }
 {
-    let members = with_text(alloc, Vec::new(alloc), "uri", uri)?;
-    let members = with_member(members, "diagnostics", list_value(diagnostics))?;
-    Ok(object_value(members))
+    json.begin_object()?;
+    json.string_member("uri", uri)?;
+    json.key("diagnostics")?;
+    json.begin_list()?;
+    json.items(diagnostics)?;
+    json.end_list()?;
+    json.end_object()
 }
 
-// Returns a document for each URI with its list.
-fn documents_of(
-    alloc: Global,
-    uris: &[String],
-    lists: Vec<Vec<Value>>,
-) -> Result<Vec<Value>, AllocError>
-    ensures { IfOk result (λ list. values_of list.items
-        ≡ documents_of (texts_of uris.now) (map (λ it. values_of it.items) lists.items)) }
+// Writes a document for each URI with its list.
+fn push_each(json: &mut JsonWriter, uris: &[String], lists: &[JsonWriter]) -> Result<(), AllocError>
+    ensures { OnOk result (json.new ≡ with_documents (texts_of uris.now) lists.now json.old) }
 {
-    let mut documents = Vec::with_capacity(alloc, uris.len())?;
     let mut left = uris;
     for list in lists {
         let [uri, rest @ ..] = left else {
-            return Ok(documents);
+            return Ok(());
         };
-        let value = document(alloc, uri.as_str(), list)?;
-        push_item(&mut documents, value)?;
+        push_document(json, uri.as_str(), list)?;
         left = rest;
     }
-    Ok(documents)
+    Ok(())
 }
 
-// Returns the documents of all URIs.
-fn told(alloc: Global, grouped: DocumentLists) -> Result<Vec<Value>, AllocError>
-    ensures { IfOk result (λ list. values_of list.items
-        ≡ documents_of (document_lists_of grouped).uris (document_lists_of grouped).lists) }
-{
-    let DocumentLists { uris, lists } = grouped;
-    documents_of(alloc, uris.as_slice(), lists)
-}
-
-// Returns the documents of findings. The artifacts give sources without a name their numbers.
-fn documents_in(
-    alloc: Global,
+// Writes the list of the documents of findings. The artifacts give sources without a name their numbers.
+fn push_documents_in(
+    json: &mut JsonWriter,
     tool: &str,
     artifacts: &Artifacts,
     findings: &[Finding<'_>],
-) -> Result<Value, AllocError>
-    ensures { IfOk result (λ value. json_of value
-        ≡ array_of (documents_in tool.now (artifacts_view artifacts.now).untitled (sarif_findings_of findings.now))) }
+) -> Result<(), AllocError>
+    ensures { OnOk result (json.new ≡ with_value (array_of
+        (documents_in tool.now (artifacts_view artifacts.now).untitled (sarif_findings_of findings.now))) json.old) }
 {
-    let grouped = lists_by_uri(alloc, tool, artifacts, findings)?;
-    let documents = told(alloc, grouped)?;
-    Ok(list_value(documents))
+    let grouped = lists_by_uri(json.allocator(), tool, artifacts, findings)?;
+    json.begin_list()?;
+    push_each(json, grouped.uris.as_slice(), &grouped.lists)?;
+    json.end_list()
 }
 
-/// Returns the documents of findings by a tool with this name. Each source with a finding has a document with its `uri`
-/// and its `diagnostics`, in the order of the first finding.
+/// Writes the list of the documents of findings by a tool with this name. Each source with a finding has a document with
+/// its `uri` and its `diagnostics`, in the order of the first finding.
 ///
 /// # Errors
 /// `AllocError` if allocation fails.
-pub fn lsp_documents_value(
-    alloc: Global,
+pub fn push_documents(
+    json: &mut JsonWriter,
     tool: &str,
     findings: &[Finding<'_>],
-) -> Result<Value, AllocError>
-    ensures { IfOk result (λ value. json_of value ≡ documents tool.now (sarif_findings_of findings.now)) }
+) -> Result<(), AllocError>
+    ensures { OnOk result (json.new
+        ≡ with_value (documents tool.now (sarif_findings_of findings.now)) json.old) }
 {
-    let artifacts = artifacts_in(alloc, findings)?;
-    documents_in(alloc, tool, &artifacts, findings)
+    let artifacts = artifacts_in(json.allocator(), findings)?;
+    push_documents_in(json, tool, &artifacts, findings)
 }
 
-// Returns the diagnostics of findings. The artifacts give sources without a name their numbers.
-fn diagnostics_in(
-    alloc: Global,
+// Writes the list of the diagnostics of findings. The artifacts give sources without a name their numbers.
+fn push_diagnostics_in(
+    json: &mut JsonWriter,
     tool: &str,
     artifacts: &Artifacts,
     findings: &[Finding<'_>],
-) -> Result<Vec<Value>, AllocError>
-    ensures { IfOk result (λ list. values_of list.items
-        ≡ map (diagnostic tool.now (artifacts_view artifacts.now).untitled) (sarif_findings_of findings.now)) }
+) -> Result<(), AllocError>
+    ensures { OnOk result (json.new ≡ with_value (array_of
+        (map (diagnostic tool.now (artifacts_view artifacts.now).untitled) (sarif_findings_of findings.now))) json.old) }
 {
-    let mut list = Vec::with_capacity(alloc, findings.len())?;
+    json.begin_list()?;
     for finding in findings {
-        let value = lsp_diagnostic_value(alloc, tool, artifacts, finding)?;
-        push_item(&mut list, value)?;
+        push_diagnostic(json, tool, artifacts, finding)?;
     }
-    Ok(list)
+    json.end_list()
 }
 
-/// Returns the diagnostics of all findings in order, whichever source they are in.
+/// Writes the list of the diagnostics of all findings in order, whichever source they are in.
 ///
 /// # Errors
 /// `AllocError` if allocation fails.
-pub fn lsp_diagnostics_of(
-    alloc: Global,
+pub fn push_diagnostics(
+    json: &mut JsonWriter,
     tool: &str,
     findings: &[Finding<'_>],
-) -> Result<Vec<Value>, AllocError>
-    ensures { IfOk result (λ list. values_of list.items ≡ all_diagnostics tool.now (sarif_findings_of findings.now)) }
+) -> Result<(), AllocError>
+    ensures { OnOk result (json.new
+        ≡ with_value (array_of (all_diagnostics tool.now (sarif_findings_of findings.now))) json.old) }
 {
-    let artifacts = artifacts_in(alloc, findings)?;
-    diagnostics_in(alloc, tool, &artifacts, findings)
+    let artifacts = artifacts_in(json.allocator(), findings)?;
+    push_diagnostics_in(json, tool, &artifacts, findings)
 }

@@ -1,128 +1,107 @@
 //! Applicable fixes as text edits of the Language Server Protocol.
 
-ghost use Rattle.std.specs.Prelude.{◌≡◌, ◌++◌, IfOk, OnOk, map};
-ghost use Rattle.miette_lsp.specs.rules.Diagnostics.{fix_head, fix_tail, lsp_fix_value, lsp_fix_values, text_edit};
-ghost use Rattle.miette_sarif.specs.rules.Results.{first_values};
+ghost use Rattle.std.specs.Prelude.{◌≡◌, IfOk, OnOk, map, string_bytes};
+ghost use Rattle.std.specs.Str.{bytes_eq};
+ghost use Rattle.indexmap.specs.IndexSet.{insert_all};
+ghost use Rattle.miette_json.specs.rules.Json.{json_text};
+ghost use Rattle.miette_json.specs.rules.Writing.{with_value};
+ghost use Rattle.miette_lsp.specs.rules.Diagnostics.{lsp_fix_value, lsp_fix_values, text_edit};
+ghost use Rattle.miette_sarif.specs.rules.Objects.{array_of};
 ghost use Rattle.miette_sarif.specs.views.Artifacts.{artifacts_view};
 ghost use Rattle.miette_sarif.specs.views.Findings.{applicable_fix_of, replacement_value_of, texts_of};
-ghost use Rattle.miette_sarif.specs.views.Values.{json_of, pairs_of, values_of};
 
-use crate::places::stretch_range;
+use crate::places::push_stretch_range;
 use indexmap::IndexSet;
+use miette_json::writer::JsonWriter;
 use miette_sarif::artifacts::Artifacts;
 use miette_sarif::finding::{Proposal, Replacement};
-use miette_sarif::results::push_unique_value;
-use miette_sarif::value::{
-    Members, Value, list_value, object_value, owned_value, push_item, with_member, with_text,
-};
+use miette_sarif::texts::{insert_text, push_texts};
 use std::alloc::{AllocError, Global};
 
 // `{"range": {..},"newText": "1"}`
-fn text_edit(alloc: Global, item: &Replacement) -> Result<Value, AllocError>
-    ensures { IfOk result (λ value. json_of value ≡ text_edit (replacement_value_of item.now)) }
+fn push_edit(json: &mut JsonWriter, item: &Replacement) -> Result<(), AllocError>
+    ensures { OnOk result (json.new ≡ with_value (text_edit (replacement_value_of item.now)) json.old) }
 {
-    let range = stretch_range(alloc, &item.deleted)?;
-    let members = with_member(Vec::new(alloc), "range", range)?;
-    let members = with_text(alloc, members, "newText", item.text.as_str())?;
-    Ok(object_value(members))
+    json.begin_object()?;
+    json.key("range")?;
+    push_stretch_range(json, &item.deleted)?;
+    json.string_member("newText", item.text.as_str())?;
+    json.end_object()
 }
 
-// Appends the edits of a fix.
-fn push_edits(
-    values: &mut Vec<Value>,
-    alloc: Global,
-    list: &[Replacement],
-) -> Result<(), AllocError>
-    ensures { OnOk result (values_of values.new.items
-        ≡ values_of values.old.items ++ map text_edit (map replacement_value_of list.now)) }
-{
-    for item in list {
-        let value = text_edit(alloc, item)?;
-        push_item(values, value)?;
-    }
-    Ok(())
-}
-
-/// Returns replacements as `TextEdit`s of the protocol: each has a `range` and a `newText`.
+/// Writes the list of replacements as `TextEdit`s of the protocol: each has a `range` and a `newText`.
 ///
 /// # Errors
 /// `AllocError` if allocation fails.
-pub fn lsp_edit_values(alloc: Global, list: &[Replacement]) -> Result<Vec<Value>, AllocError>
-    ensures { IfOk result (λ values. values_of values.items ≡ map text_edit (map replacement_value_of list.now)) }
+pub fn push_edits(json: &mut JsonWriter, list: &[Replacement]) -> Result<(), AllocError>
+    ensures { OnOk result (json.new
+        ≡ with_value (array_of (map text_edit (map replacement_value_of list.now))) json.old) }
 {
-    let mut values = Vec::with_capacity(alloc, list.len())?;
-    push_edits(&mut values, alloc, list)?;
-    Ok(values)
-}
-
-// `"title": "a number","applicability": "maybe-incorrect"`
-fn head_members(alloc: Global, fix: &Proposal<'_>) -> Result<Members, AllocError>
-    ensures { IfOk result (λ all. pairs_of all.items ≡ fix_head (applicable_fix_of fix.now)) }
-{
-    let members = with_text(alloc, Vec::new(alloc), "title", fix.message)?;
-    with_text(alloc, members, "applicability", fix.applicability.name())
-}
-
-// `"uri": "a.rs","edits": [..]`
-fn with_edits(
-    alloc: Global,
-    artifacts: &Artifacts,
-    members: Members,
-    fix: &Proposal<'_>,
-) -> Result<Members, AllocError>
-    ensures { IfOk result (λ all. pairs_of all.items ≡ pairs_of members.entry.items
-        ++ fix_tail (artifacts_view artifacts.now).untitled (applicable_fix_of fix.now)) }
-{
-    let uri = artifacts.uri(alloc, fix.source)?;
-    let members = with_member(members, "uri", owned_value(uri))?;
-    let edits = lsp_edit_values(alloc, &fix.replacements)?;
-    with_member(members, "edits", list_value(edits))
+    json.begin_list()?;
+    for item in list {
+        push_edit(json, item)?;
+    }
+    json.end_list()
 }
 
 // `{"title": "a number","applicability": "maybe-incorrect","uri": "a.rs","edits": [..]}`
-fn lsp_fix_value(
-    alloc: Global,
+fn push_fix(
+    json: &mut JsonWriter,
     artifacts: &Artifacts,
     fix: &Proposal<'_>,
-) -> Result<Value, AllocError>
-    ensures { IfOk result (λ value. json_of value
-        ≡ lsp_fix_value (artifacts_view artifacts.now).untitled (applicable_fix_of fix.now)) }
+) -> Result<(), AllocError>
+    ensures { OnOk result (json.new
+        ≡ with_value (lsp_fix_value (artifacts_view artifacts.now).untitled (applicable_fix_of fix.now)) json.old) }
 {
-    let members = head_members(alloc, fix)?;
-    let members = with_edits(alloc, artifacts, members, fix)?;
-    Ok(object_value(members))
+    let uri = artifacts.uri(json.allocator(), fix.source)?;
+    json.begin_object()?;
+    json.string_member("title", fix.message)?;
+    json.string_member("applicability", fix.applicability.name())?;
+    json.string_member("uri", uri.as_str())?;
+    json.key("edits")?;
+    push_edits(json, &fix.replacements)?;
+    json.end_object()
 }
 
-// Appends fixes without duplicates.
-fn push_fixes(
-    list: &mut Vec<Value>,
-    spelled: &mut IndexSet<String>,
+// Returns a fix as JSON text.
+fn fix_text(alloc: Global, artifacts: &Artifacts, fix: &Proposal<'_>) -> Result<String, AllocError>
+    ensures { IfOk result (λ text. string_bytes text
+        ≡ json_text (lsp_fix_value (artifacts_view artifacts.now).untitled (applicable_fix_of fix.now))) }
+{
+    let mut json = JsonWriter::new(alloc);
+    push_fix(&mut json, artifacts, fix)?;
+    Ok(json.into_text())
+}
+
+// Adds the texts of fixes. Duplicates are skipped.
+fn insert_fixes(
+    texts: &mut IndexSet<String>,
     alloc: Global,
     artifacts: &Artifacts,
     fixes: &[Proposal<'_>],
 ) -> Result<(), AllocError>
-    ensures { OnOk result (values_of list.new.items ≡ values_of list.old.items
-        ++ first_values (texts_of spelled.old.keys) (map (lsp_fix_value (artifacts_view artifacts.now).untitled)
-        (map applicable_fix_of fixes.now))) }
+    ensures { OnOk result (texts_of texts.new.keys ≡ insert_all bytes_eq (texts_of texts.old.keys)
+        (map json_text (map (lsp_fix_value (artifacts_view artifacts.now).untitled)
+        (map applicable_fix_of fixes.now)))) }
 {
     for fix in fixes {
-        let value = lsp_fix_value(alloc, artifacts, fix)?;
-        push_unique_value(list, spelled, alloc, value)?;
+        let text = fix_text(alloc, artifacts, fix)?;
+        insert_text(texts, text)?;
     }
     Ok(())
 }
 
-/// Returns fixes without duplicates.
-pub(crate) fn lsp_fix_values(
-    alloc: Global,
+/// Writes the list of fixes without duplicates.
+pub(crate) fn push_fixes(
+    json: &mut JsonWriter,
     artifacts: &Artifacts,
     fixes: &[Proposal<'_>],
-) -> Result<Vec<Value>, AllocError>
-    ensures { IfOk result (λ list. values_of list.items
-        ≡ lsp_fix_values (artifacts_view artifacts.now).untitled (map applicable_fix_of fixes.now)) }
+) -> Result<(), AllocError>
+    ensures { OnOk result (json.new ≡ with_value
+        (array_of (lsp_fix_values (artifacts_view artifacts.now).untitled (map applicable_fix_of fixes.now))) json.old) }
 {
-    let mut list = Vec::new(alloc);
-    let mut spelled = IndexSet::new(alloc);
-    push_fixes(&mut list, &mut spelled, alloc, artifacts, fixes)?;
-    Ok(list)
+    let alloc = json.allocator();
+    let mut texts = IndexSet::new(alloc);
+    insert_fixes(&mut texts, alloc, artifacts, fixes)?;
+    push_texts(json, texts.as_slice())
 }

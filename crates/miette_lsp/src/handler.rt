@@ -10,14 +10,14 @@ ghost use Rattle.miette_tree.specs.rules.Tree.{Trees, trees};
 ghost use Rattle.miette_tree.specs.views.Handler.{AppendsOne};
 ghost use Rattle.miette_tree.specs.views.Report.{tree_of};
 
-use crate::documents::lsp_documents_value;
+use crate::documents::push_documents;
 use miette_json::laws;
+use miette_json::writer::JsonWriter;
 use miette_protocol::error::RenderError;
 use miette_protocol::protocol::Diagnostic;
 use miette_protocol::source::SourceCode;
 use miette_sarif::finding::Finding;
 use miette_sarif::gather::{sarif_findings_of, sarif_findings_of_one};
-use miette_sarif::write::text_of;
 use miette_tree::report::Report;
 use miette_tree::text_handler::TextHandler;
 use std::alloc::{AllocError, Global};
@@ -51,8 +51,9 @@ impl LspReportHandler {
     {
         laws::json_spelling_denotes_its_value();
         laws::json_text_denotes_one_value();
-        let value = lsp_documents_value(alloc, self.tool.as_str(), &findings)?;
-        text_of(alloc, &value)
+        let mut json = JsonWriter::new(alloc);
+        push_documents(&mut json, self.tool.as_str(), &findings)?;
+        Ok(json.into_text())
     }
 
     // Returns the documents of reports as text.
@@ -70,7 +71,7 @@ impl LspReportHandler {
 
     /// Appends the documents of a report. If allocation fails, `out` is unchanged.
     pub fn render_report(&self, report: &Report, out: &mut String) -> Result<(), RenderError>
-        // The text spells the documents, for some answers of the sources. It denotes that value and no other.
+        // The text spells the documents, for some answers of the sources. It represents that value and no other.
         ensures text { let tree = tree_of ⟦<Box<dyn Diagnostic> as Diagnostic>⟧.meaning
             ⟦<Box<dyn SourceCode> as SourceCode>⟧.source report.now in
             OnOk result (AppendsOne (IsLspOf (tool_in self.now) (trees (tree ∷ [])))
@@ -92,7 +93,7 @@ impl LspReportHandler {
         reports: &[Report<D, S>],
         out: &mut String,
     ) -> Result<(), RenderError>
-        // The text spells the documents, for some answers of the sources. It denotes that value and no other.
+        // The text spells the documents, for some answers of the sources. It represents that value and no other.
         ensures text { let tree = tree_of D.meaning S.source in
             OnOk result (AppendsOne (IsLspOf (tool_in self.now) (trees (map tree reports.now)))
             (string_bytes out.old) (string_bytes out.new)) }

@@ -1,4 +1,4 @@
-//! Diagnostics of the Language Server Protocol (3.17): their text, and the value that it denotes.
+//! Diagnostics of the Language Server Protocol (3.17): their text, and the value that it represents.
 #![tactic(auto)]
 
 pub mod diagnostic;

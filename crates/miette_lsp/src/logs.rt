@@ -1,4 +1,4 @@
-//! One log of all reports: the words that ask for it, and its text.
+//! One log of all reports: its arguments and its text.
 
 ghost use Rattle.std.specs.Prelude.{◌≡◌, IfOk, OnErr, map, string_bytes};
 ghost use Rattle.miette_lsp.specs.rules.LspText.{lsp_text};
@@ -10,7 +10,7 @@ ghost use Rattle.miette_lsp.specs.rules.LogWords.{log_form, logged_text, logging
 
 use crate::handler::LspReportHandler;
 use miette_devices::fault::ProgramError;
-use miette_devices::output::Output;
+use miette_devices::output_form::OutputForm;
 use miette_protocol::protocol::Diagnostic;
 use miette_protocol::source::SourceCode;
 use miette_sarif::handler::SarifReportHandler;
@@ -18,25 +18,25 @@ use miette_tree::report::Report;
 use std::alloc::Global;
 use std::marker::Model;
 
-/// Which log.
+/// The format of a log.
 #[derive(Clone, Copy)]
 pub enum LogForm {
     /// A SARIF log.
     Sarif,
-    /// The list of documents with their diagnostics that editors take.
+    /// A list of documents with their diagnostics, for editors.
     Lsp,
 }
 
-/// Which log is asked for.
+/// The log that the arguments ask for.
 #[derive(Drop)]
-pub struct Logging<'w> {
-    /// Its form.
+pub struct LogOptions<'w> {
+    /// Its format.
     pub form: LogForm,
-    /// The name of the tool whose log it is.
+    /// The name of the tool in the log.
     pub tool: &'w str,
 }
 
-impl<'w> Model for Logging<'w> {
+impl<'w> Model for LogOptions<'w> {
     ghost use Rattle.miette_lsp.specs.rules.LogWords as words;
 
     ghost Value = { words.LogRequest };
@@ -44,18 +44,18 @@ impl<'w> Model for Logging<'w> {
     ghost view = { λ it. record { form = it.form; tool = it.tool.now } };
 }
 
-/// The log that a form of output is; nothing where it isn't one.
-fn log_form(form: Output) -> Option<LogForm>
+/// Returns the log format of an output form. Returns `None` if it isn't a log.
+fn log_form(form: OutputForm) -> Option<LogForm>
     ensures { result ≡ log_form form }
 {
     match form {
-        Output::Sarif => Some(LogForm::Sarif),
-        Output::Lsp => Some(LogForm::Lsp),
+        OutputForm::Sarif => Some(LogForm::Sarif),
+        OutputForm::Lsp => Some(LogForm::Lsp),
         _ => None,
     }
 }
 
-/// The SARIF log of reports whose sources always read, as of a tool of this name.
+/// Renders a SARIF log of reports whose sources always read. The log names this tool.
 pub fn log_of<D: Diagnostic, S: SourceCode>(
     alloc: Global,
     tool: &str,
@@ -74,7 +74,7 @@ pub fn log_of<D: Diagnostic, S: SourceCode>(
     }
 }
 
-/// What editors take of reports whose sources always read, as of a tool of this name.
+/// Renders the diagnostics of reports whose sources always read, for editors. They name this tool.
 fn list_of<D: Diagnostic, S: SourceCode>(
     alloc: Global,
     tool: &str,
@@ -93,39 +93,39 @@ fn list_of<D: Diagnostic, S: SourceCode>(
     }
 }
 
-impl<'w> Logging<'w> {
-    /// The log that a word asks for, of a tool of this name.
+impl<'w> LogOptions<'w> {
+    /// Returns the log that an argument asks for. It names this tool.
     #[tactic(auto, unfolding(crate::specs::rules::LogWords::of_tool))]
-    fn of_tool(word: &str, tool: &'w str) -> Option<Logging<'w>>
+    fn of_tool(word: &str, tool: &'w str) -> Option<LogOptions<'w>>
         ensures { result ≡ of_tool word.now tool.now }
     {
-        Some(Logging {
-            form: log_form(Output::named(word)?)?,
+        Some(LogOptions {
+            form: log_form(OutputForm::named(word)?)?,
             tool,
         })
     }
 
-    /// The log that the words after a program's name ask for: `--sarif` or `--lsp`, of the program, or of the tool
-    /// after `--tool`, which stands before or after that word. Nothing where they are others.
-    pub fn asked(words: &'w [String], program: &'w str) -> Option<Logging<'w>>
+    /// Returns the log that the arguments after the program's name ask for: `--sarif` or `--lsp`, with the program as
+    /// its tool, or the tool after `--tool`, before or after that argument. Returns `None` for any other arguments.
+    pub fn asked(words: &'w [String], program: &'w str) -> Option<LogOptions<'w>>
         ensures { result ≡ logging_of program.now (map string_bytes words.now) }
     {
         match words {
-            [word] => Logging::of_tool(word.as_str(), program),
+            [word] => LogOptions::of_tool(word.as_str(), program),
             [key, tool, word] if key.as_str() == "--tool" => {
-                Logging::of_tool(word.as_str(), tool.as_str())
+                LogOptions::of_tool(word.as_str(), tool.as_str())
             }
             [word, key, tool] if key.as_str() == "--tool" => {
-                Logging::of_tool(word.as_str(), tool.as_str())
+                LogOptions::of_tool(word.as_str(), tool.as_str())
             }
             _ => None,
         }
     }
 
-    /// The log of reports whose sources always read.
+    /// Renders the log of reports whose sources always read.
     ///
     /// # Errors
-    /// `Memory`, where memory is refused.
+    /// `Memory` if allocation fails.
     pub fn text<D: Diagnostic, S: SourceCode>(
         self,
         alloc: Global,

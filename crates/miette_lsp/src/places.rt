@@ -1,44 +1,48 @@
 //! Positions and ranges of the protocol: lines and UTF-16 code units, both from 0.
 
-ghost use Rattle.std.specs.Prelude.{◌≡◌, IfOk, string_bytes};
+ghost use Rattle.std.specs.Prelude.{◌≡◌, OnOk};
 ghost use Rattle.std.specs.Option.{option_map};
+ghost use Rattle.miette_json.specs.rules.Writing.{with_value};
 ghost use Rattle.miette_lsp.specs.rules.Diagnostics.{area_range, location_value, origin, lsp_position_value};
 ghost use Rattle.miette_lsp.specs.rules.Diagnostics.{primary_area};
 ghost use Rattle.miette_lsp.specs.rules.Diagnostics.{place_area, lsp_range_value, stretch_range};
 ghost use Rattle.miette_sarif.specs.views.Findings.{area_of, mark_of, place_of};
-ghost use Rattle.miette_sarif.specs.views.Values.{json_of};
 
+use miette_json::writer::JsonWriter;
 use miette_positions::position::{Position, Stretch};
 use miette_sarif::finding::{PhysicalLocation, SarifLocation, SarifRegion};
-use miette_sarif::value::{Value, number_value, object_value, owned_value, with_member};
-use std::alloc::{AllocError, Global};
+use std::alloc::AllocError;
 
 // `{"line": 1,"character": 2}`
-fn lsp_position_value(alloc: Global, at: Position) -> Result<Value, AllocError>
-    ensures { IfOk result (λ value. json_of value ≡ lsp_position_value at) }
+fn push_position(json: &mut JsonWriter, at: Position) -> Result<(), AllocError>
+    ensures { OnOk result (json.new ≡ with_value (lsp_position_value at) json.old) }
 {
-    let members = with_member(Vec::new(alloc), "line", number_value(at.line))?;
-    let members = with_member(members, "character", number_value(at.column))?;
-    Ok(object_value(members))
+    json.begin_object()?;
+    json.number_member("line", at.line)?;
+    json.number_member("character", at.column)?;
+    json.end_object()
 }
 
-/// `{"start": {..},"end": {..}}`
+/// Writes `{"start": {..},"end": {..}}`.
 ///
 /// # Errors
 /// `AllocError` if allocation fails.
-pub fn lsp_range_value(alloc: Global, start: Position, end: Position) -> Result<Value, AllocError>
-    ensures { IfOk result (λ value. json_of value ≡ lsp_range_value start end) }
+pub fn push_range(json: &mut JsonWriter, start: Position, end: Position) -> Result<(), AllocError>
+    ensures { OnOk result (json.new ≡ with_value (lsp_range_value start end) json.old) }
 {
-    let members = with_member(Vec::new(alloc), "start", lsp_position_value(alloc, start)?)?;
-    let members = with_member(members, "end", lsp_position_value(alloc, end)?)?;
-    Ok(object_value(members))
+    json.begin_object()?;
+    json.key("start")?;
+    push_position(json, start)?;
+    json.key("end")?;
+    push_position(json, end)?;
+    json.end_object()
 }
 
-/// The range of a span in a source.
-pub(crate) fn stretch_range(alloc: Global, stretch: &Stretch) -> Result<Value, AllocError>
-    ensures { IfOk result (λ value. json_of value ≡ stretch_range stretch.now) }
+/// Writes the range of a span in a source.
+pub(crate) fn push_stretch_range(json: &mut JsonWriter, stretch: &Stretch) -> Result<(), AllocError>
+    ensures { OnOk result (json.new ≡ with_value (stretch_range stretch.now) json.old) }
 {
-    lsp_range_value(alloc, stretch.start.position, stretch.end.position)
+    push_range(json, stretch.start.position, stretch.end.position)
 }
 
 // The beginning of a source.
@@ -48,13 +52,16 @@ fn origin() -> Position
     Position { line: 0, column: 0 }
 }
 
-/// The range of a region. If the region is unknown, it is the empty range at the beginning.
-pub(crate) fn area_range(alloc: Global, area: Option<SarifRegion<'_>>) -> Result<Value, AllocError>
-    ensures { IfOk result (λ value. json_of value ≡ area_range (option_map area_of area.entry)) }
+/// Writes the range of a region. If the region is unknown, it is the empty range at the beginning.
+pub(crate) fn push_area_range(
+    json: &mut JsonWriter,
+    area: Option<SarifRegion<'_>>,
+) -> Result<(), AllocError>
+    ensures { OnOk result (json.new ≡ with_value (area_range (option_map area_of area.entry)) json.old) }
 {
     match area {
-        Some(area) => stretch_range(alloc, &area.stretch),
-        None => lsp_range_value(alloc, origin(), origin()),
+        Some(area) => push_stretch_range(json, &area.stretch),
+        None => push_range(json, origin(), origin()),
     }
 }
 
@@ -78,17 +85,18 @@ pub(crate) fn primary_area<'a>(primary: &Option<SarifLocation<'a>>) -> Option<Sa
     }
 }
 
-/// `{"uri": "b.rs","range": {..}}`
-pub(crate) fn location_value(
-    alloc: Global,
-    uri: String,
+/// Writes `{"uri": "b.rs","range": {..}}`.
+pub(crate) fn push_location(
+    json: &mut JsonWriter,
+    uri: &str,
     area: Option<SarifRegion<'_>>,
-) -> Result<Value, AllocError>
-    ensures { IfOk result (λ value. json_of value
-        ≡ location_value (string_bytes uri) (option_map area_of area.entry)) }
+) -> Result<(), AllocError>
+    ensures { OnOk result (json.new
+        ≡ with_value (location_value uri.now (option_map area_of area.entry)) json.old) }
 {
-    let range = area_range(alloc, area)?;
-    let members = with_member(Vec::new(alloc), "uri", owned_value(uri))?;
-    let members = with_member(members, "range", range)?;
-    Ok(object_value(members))
+    json.begin_object()?;
+    json.string_member("uri", uri)?;
+    json.key("range")?;
+    push_area_range(json, area)?;
+    json.end_object()
 }

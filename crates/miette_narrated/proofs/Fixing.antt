@@ -50,8 +50,8 @@ quoted_put out new before items slice text tokens eb et ei utf8 es e =
 
 -- ---- edits that can't be applied
 
-pub outside_told : (bytes given : List ℕ) (edits : List Replacement) (e : FixError) → given ≡ bytes
-    → (e ≢ Memory → edits_error (length given) edits ≡ Some e) → e ≡ OutOfRange
+pub outside_told : {edit : ℕ} (bytes given : List ℕ) (edits : List Replacement) (e : FixError) → given ≡ bytes
+    → (e ≢ Memory → edits_error (length given) edits ≡ Some e) → e ≡ OutOfRange edit
     → failure_row (codes "OutOfBounds") ≡ applied_rows bytes edits
 outside_told bytes given edits e same h is =
     sym (ap (λ o. option_map_or (λ x. failure_row (reason_text x)) o (edit_rows bytes (by_offset edits)))

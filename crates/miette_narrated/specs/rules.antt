@@ -1,4 +1,4 @@
--- The definitions that users rely on, named as in docs/RULES.md.
+-- The definitions that users rely on, named as in crates/miette_narrated/CALLING.md.
 pub mod Labels
 pub mod Lines
 pub mod Snippets

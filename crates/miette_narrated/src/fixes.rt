@@ -128,8 +128,8 @@ fn push_applied(
 {
     match check_edits(alloc, source.bytes().len(), edits) {
         Ok(list) => push_edits(out, alloc, source, &list),
-        Err(FixError::OutOfBounds) => push_failure(out, "OutOfBounds"),
-        Err(FixError::Overlap) => push_failure(out, "Overlap"),
+        Err(FixError::OutOfBounds { .. }) => push_failure(out, "OutOfBounds"),
+        Err(FixError::Overlap { .. }) => push_failure(out, "Overlap"),
         Err(FixError::Memory) => Err(AllocError),
     }
 }

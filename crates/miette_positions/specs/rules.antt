@@ -1,3 +1,3 @@
--- Definitions that contracts use. docs/RULES.md says them in words.
+-- Definitions that contracts use. crates/miette_positions/CALLING.md says them in words.
 pub mod Regions
 pub mod Stops

@@ -11,14 +11,14 @@ use Rattle.std.proofs.lemmas.Str.Parse.{tells_all_ascii_digits, tells_digits}
 use Rattle.miette_program.specs.rules.OptionWords.{JobRequest, read_number, with_answer, with_name, with_number}
 use Rattle.miette_program.specs.rules.OptionWords.{with_read, with_value, with_words, with_words_after}
 use Rattle.miette_devices.specs.rules.Words.{IsReadAs}
-use Rattle.miette_program.specs.steps.AskedWords.{AreGiven, IsGiven}
+use Rattle.miette_program.specs.steps.ParsedArguments.{AreGiven, IsGiven}
 use Rattle.miette_program.specs.declared.arguments.Arguments.{Arguments}
 use Rattle.miette_devices.specs.declared.fault.ProgramError.{ProgramError}
 use Rattle.miette_devices.specs.declared.fault.ProgramError.TheVariants.{Usage, Memory, Read, Write, Description}
 use Rattle.miette_devices.specs.declared.fault.ProgramError.TheVariants.{Refused}
 use Rattle.miette.specs.rules.Options.{Options}
 use Rattle.miette_style.specs.declared.theme.Terminal.{Terminal}
-use Rattle.miette_program.specs.rules.OptionWords.{asked_by, request_of, AreWanted}
+use Rattle.miette_program.specs.rules.OptionWords.{parsed_arguments, request_of, AreParsed}
 use Rattle.miette_program.specs.declared.language.LanguageHighlighter.{LanguageHighlighter}
 use Rattle.miette_program.specs.declared.arguments.Choice.{Choice}
 
@@ -126,5 +126,5 @@ same_fault f g given Refused h = h
 
 -- words that ask for something are not wrong
 pub not-wrong : (words : List (List ℕ)) (c : Choice) (o : Options LanguageHighlighter) (t : Terminal)
-    → AreWanted words c o t → asked_by words ≡ None → ⊥
+    → AreParsed words c o t → parsed_arguments words ≡ None → ⊥
 not-wrong words c o t are none = let no : None ≡ Some (request_of c o t) = sym none ∙ are in cc

@@ -1,4 +1,4 @@
--- The definitions that users rely on, named as in docs/RULES.md.
+-- The definitions that users rely on, named as in crates/miette_program/CALLING.md.
 pub mod LanguageRules
 pub mod OptionWords
 pub mod JobText

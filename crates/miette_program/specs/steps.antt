@@ -1,2 +1,2 @@
 -- The code's own steps, which no rule names.
-pub mod AskedWords
+pub mod ParsedArguments

@@ -1,22 +1,22 @@
-//! What a job is asked for.
+//! The arguments of `job`, parsed.
 
 ghost use Rattle.std.specs.Prelude.{◌≡◌, ◌⊎◌, IfOk, OnErr, Some, None, map, string_bytes, true};
 ghost use Rattle.miette_program.specs.rules.OptionWords as table;
-ghost use Rattle.miette_program.specs.rules.OptionWords.{AreWanted, asked_by, chosen_by, nothing_asked};
-ghost use Rattle.miette_program.specs.steps.AskedWords.{AreGiven, asked_of, with_asked, with_named};
+ghost use Rattle.miette_program.specs.rules.OptionWords.{AreParsed, parsed_arguments, handler_choice, no_arguments};
+ghost use Rattle.miette_program.specs.steps.ParsedArguments.{AreGiven, parsed_of, with_argument, with_named};
 
 use crate::language::LanguageHighlighter;
-use crate::option_words::{Asked, Named, first_asked, read_named};
-use miette::handlers::Form;
+use crate::option_words::{Argument, NamedValue, read_named, split_argument};
+use miette::handlers::BriefForm;
 use miette::options::{MietteHandlerOpts, SetLayout};
 use miette::theme::Terminal;
 use miette::wrap::WordSplitter;
 use miette_devices::fault::ProgramError;
-use miette_devices::output::Output;
+use miette_devices::output_form::OutputForm;
 use miette_devices::words::number;
 use std::alloc::Global;
 
-/// Which handler gives the text.
+/// The handler that renders the report.
 #[derive(Clone, Copy, Debug, PartialEq, Eq)]
 pub enum Choice {
     /// The one that the options build: graphical, narrated or brief.
@@ -27,21 +27,21 @@ pub enum Choice {
     Debug,
 }
 
-/// What a job is asked for.
+/// The arguments of `job`, parsed.
 #[derive(Drop)]
 pub struct Arguments {
-    /// Which handler gives the text.
+    /// The handler that renders the report.
     pub choice: Choice,
-    /// What the handler that is built is asked for.
+    /// The options of the built handler.
     pub options: MietteHandlerOpts<LanguageHighlighter>,
-    /// What the text goes to. It has nothing that wasn't given.
+    /// The terminal, as the arguments describe it.
     pub terminal: Terminal,
 }
 
-/// Options that ask for brief reports in a form.
+/// Sets brief reports in this form.
 fn brief_options(
     options: MietteHandlerOpts<LanguageHighlighter>,
-    form: Form,
+    form: BriefForm,
 ) -> MietteHandlerOpts<LanguageHighlighter>
     ensures { result ≡ record options { brief = true; brief_form = form } }
 {
@@ -49,24 +49,24 @@ fn brief_options(
 }
 
 impl Arguments {
-    /// The settings that a program's words ask for, without the program's name. Of words that ask for the same the
-    /// last one counts; what no word asks for is left to the handler.
+    /// Parses the arguments after the program's name. If two arguments set the same thing, the last one counts.
+    /// Whatever no argument sets is left to the handler.
     ///
     /// # Errors
-    /// `Usage` where a word is none of those that there are, where a value is missing or isn't one that its word
-    /// takes, and for tabs or lines of no columns; `Memory` where none is found for a text or a theme.
+    /// `Usage` for an unknown argument, for a missing or wrong value, and for a tab width or a number of lines or
+    /// columns of 0. `Memory` if allocation fails.
     pub fn read(alloc: Global, words: &[String]) -> Result<Arguments, ProgramError>
-        // What all words ask for by the table, and the usage fault exactly where the table has none.
-        ensures table { IfOk result (λ it. AreWanted (map string_bytes words.now) it.choice it.options it.terminal) }
-        ensures usage { (result ≡ Err ProgramError.Usage) → asked_by (map string_bytes words.now) ≡ None }
-        // The last of `--json` and `--debug` that is no value chooses the handler.
-        ensures choice { IfOk result (λ it. chosen_by (map string_bytes words.now) ≡ Some it.choice) }
+        // The result is that of the table. A usage error occurs exactly if the table has none.
+        ensures table { IfOk result (λ it. AreParsed (map string_bytes words.now) it.choice it.options it.terminal) }
+        ensures usage { (result ≡ Err ProgramError.Usage) → parsed_arguments (map string_bytes words.now) ≡ None }
+        // The last `--json` or `--debug` that isn't a value chooses the handler.
+        ensures choice { IfOk result (λ it. handler_choice (map string_bytes words.now) ≡ Some it.choice) }
         ensures others { OnErr result ((result ≡ Err ProgramError.Usage) ⊎ (result ≡ Err ProgramError.Memory)) }
     {
         let mut settings = Arguments::empty();
         let mut rest = words;
         while !rest.is_empty() {
-            let Some((asked, more)) = first_asked(rest) else {
+            let Some((asked, more)) = split_argument(rest) else {
                 return Err(ProgramError::Usage);
             };
             settings = settings.with(alloc, asked)?;
@@ -75,9 +75,9 @@ impl Arguments {
         Ok(settings)
     }
 
-    /// Nothing is asked for, and the terminal has nothing.
+    /// Without arguments, on a terminal without features.
     fn empty() -> Arguments
-        ensures { asked_of result ≡ nothing_asked }
+        ensures { parsed_of result ≡ no_arguments }
     {
         Arguments {
             choice: Choice::Build,
@@ -95,40 +95,40 @@ impl Arguments {
         }
     }
 
-    /// The settings with what one word asks for.
-    fn with(self, alloc: Global, asked: Asked<'_>) -> Result<Arguments, ProgramError>
-        ensures { AreGiven (with_asked asked.entry (asked_of self)) result }
+    /// Applies one argument.
+    fn with(self, alloc: Global, asked: Argument<'_>) -> Result<Arguments, ProgramError>
+        ensures { AreGiven (with_argument asked.entry (parsed_of self)) result }
     {
         match asked {
-            Asked::Form(form) => self.with_form(form),
-            Asked::Value(word, value) => self.with_value(alloc, word, value),
+            Argument::Form(form) => self.with_form(form),
+            Argument::Value(word, value) => self.with_value(alloc, word, value),
         }
     }
 
-    /// With another form of the report. A log is none.
-    fn with_form(mut self, form: Output) -> Result<Arguments, ProgramError>
-        ensures { AreGiven (table.with_form form (asked_of self)) result }
+    /// Applies a form of the report. Logs are refused.
+    fn with_form(mut self, form: OutputForm) -> Result<Arguments, ProgramError>
+        ensures { AreGiven (table.with_form form (parsed_of self)) result }
     {
         match form {
-            Output::Graphical => self.options = self.options.force_graphical(true),
-            Output::Narrated => self.options = self.options.force_narrated(true),
-            Output::Brief => self.options = brief_options(self.options, Form::Gcc),
-            Output::Github => self.options = brief_options(self.options, Form::Github),
-            Output::Json => self.choice = Choice::Json,
-            Output::Debug => self.choice = Choice::Debug,
-            Output::Sarif | Output::Lsp => return Err(ProgramError::Usage),
+            OutputForm::Graphical => self.options = self.options.force_graphical(true),
+            OutputForm::Narrated => self.options = self.options.force_narrated(true),
+            OutputForm::Brief => self.options = brief_options(self.options, BriefForm::Gcc),
+            OutputForm::Github => self.options = brief_options(self.options, BriefForm::Github),
+            OutputForm::Json => self.choice = Choice::Json,
+            OutputForm::Debug => self.choice = Choice::Debug,
+            OutputForm::Sarif | OutputForm::Lsp => return Err(ProgramError::Usage),
         }
         Ok(self)
     }
 
-    /// With a word and its value: of two words that is any text.
+    /// Applies an argument with a value. For two arguments the value is any text.
     fn with_value(
         mut self,
         alloc: Global,
         word: &str,
         value: &str,
     ) -> Result<Arguments, ProgramError>
-        ensures { AreGiven (table.with_value word.now value.now (asked_of self)) result }
+        ensures { AreGiven (table.with_value word.now value.now (parsed_of self)) result }
     {
         match word {
             "--footer" => {
@@ -141,9 +141,9 @@ impl Arguments {
         Ok(self)
     }
 
-    /// With a word whose value is a number, `yes`, `no` or a name.
+    /// Applies an argument whose value is a number, `yes`, `no` or a name.
     fn with_read(self, alloc: Global, word: &str, value: &str) -> Result<Arguments, ProgramError>
-        ensures { AreGiven (table.with_read word.now value.now (asked_of self)) result }
+        ensures { AreGiven (table.with_read word.now value.now (parsed_of self)) result }
     {
         if let Some(number) = number(value) {
             return self.with_number(word, number);
@@ -155,9 +155,9 @@ impl Arguments {
         }
     }
 
-    /// With a word whose value is a number.
+    /// Applies an argument whose value is a number.
     fn with_number(mut self, word: &str, number: usize) -> Result<Arguments, ProgramError>
-        ensures { AreGiven (table.with_number word.now number (asked_of self)) result }
+        ensures { AreGiven (table.with_number word.now number (parsed_of self)) result }
     {
         match word {
             "--width" => self.options = self.options.width(number),
@@ -168,9 +168,9 @@ impl Arguments {
         Ok(self)
     }
 
-    /// With a word whose value is a number from 1.
+    /// Applies an argument whose value is a positive number.
     fn with_count(mut self, word: &str, count: usize) -> Result<Arguments, ProgramError>
-        ensures { AreGiven (table.with_count word.now count (asked_of self)) result }
+        ensures { AreGiven (table.with_count word.now count (parsed_of self)) result }
     {
         if count == 0 {
             return Err(ProgramError::Usage);
@@ -184,9 +184,9 @@ impl Arguments {
         Ok(self)
     }
 
-    /// With a word whose value is `yes` or `no`.
+    /// Applies an argument whose value is `yes` or `no`.
     fn with_answer(mut self, word: &str, yes: bool) -> Result<Arguments, ProgramError>
-        ensures { AreGiven (table.with_answer word.now yes (asked_of self)) result }
+        ensures { AreGiven (table.with_answer word.now yes (parsed_of self)) result }
     {
         self.options = match word {
             "--unicode" => self.options.unicode(yes),
@@ -207,9 +207,9 @@ impl Arguments {
         Ok(self)
     }
 
-    /// With a word whose value is `yes` or `no`, and which speaks of the terminal.
+    /// Applies an argument about the terminal whose value is `yes` or `no`.
     fn with_terminal(mut self, word: &str, yes: bool) -> Result<Arguments, ProgramError>
-        ensures { AreGiven (table.with_terminal word.now yes (asked_of self)) result }
+        ensures { AreGiven (table.with_terminal word.now yes (parsed_of self)) result }
     {
         match word {
             "--term-unicode" => self.terminal.unicode = yes,
@@ -219,26 +219,28 @@ impl Arguments {
         Ok(self)
     }
 
-    /// With a word whose value is a name.
+    /// Applies an argument whose value is a name.
     fn with_name(self, alloc: Global, word: &str, name: &str) -> Result<Arguments, ProgramError>
-        ensures { AreGiven (table.with_name word.now name.now (asked_of self)) result }
+        ensures { AreGiven (table.with_name word.now name.now (parsed_of self)) result }
     {
         let named = read_named(alloc, word, name)?;
         Ok(self.with_named(named))
     }
 
-    /// With what such a word asks for.
-    fn with_named(mut self, named: Named) -> Arguments
-        ensures { asked_of result ≡ with_named named (asked_of self) }
+    /// Applies the meaning of the name.
+    fn with_named(mut self, named: NamedValue) -> Arguments
+        ensures { parsed_of result ≡ with_named named (parsed_of self) }
     {
         match named {
-            Named::Theme(theme) => self.options = self.options.graphical_theme(theme),
-            Named::Rgb(colors) => self.options = self.options.rgb_colors(colors),
-            Named::Separator(separator) => self.options = self.options.word_separator(separator),
-            Named::Highlighter(highlighter) => {
+            NamedValue::Theme(theme) => self.options = self.options.graphical_theme(theme),
+            NamedValue::Rgb(colors) => self.options = self.options.rgb_colors(colors),
+            NamedValue::Separator(separator) => self.options = self
+                .options
+                .word_separator(separator),
+            NamedValue::Highlighter(highlighter) => {
                 self.options = self.options.with_syntax_highlighting(highlighter)
             }
-            Named::Color(color) => self.terminal.color = color,
+            NamedValue::Color(color) => self.terminal.color = color,
         }
         self
     }

@@ -1,4 +1,4 @@
-//! The handler that a job is asked for.
+//! The handler that the arguments choose.
 
 ghost use Rattle.std.specs.Prelude.{◌≡◌, ◌⊎◌, IfOk, OnErr, OnOk, string_bytes};
 ghost use Rattle.miette_tree.specs.views.Report.{tree_of};
@@ -25,15 +25,15 @@ pub enum JobHandler<H> {
     Json,
     /// Reports are debug texts.
     Debug,
-    /// Reports are what the options and the terminal choose.
+    /// Reports are graphical, narrated or brief, by the options and the terminal.
     Built(MietteHandler<H>),
 }
 
 impl JobHandler<LanguageHighlighter> {
-    /// The handler that the settings ask for.
+    /// Builds the handler that the settings choose.
     ///
     /// # Errors
-    /// Where no memory is found for the theme.
+    /// `AllocError` if allocation for the theme fails.
     pub fn new(alloc: Global, settings: Arguments) -> Result<Self, AllocError>
         ensures { IfOk result (IsAsked settings.choice settings.options settings.terminal) }
     {
@@ -50,7 +50,7 @@ impl JobHandler<LanguageHighlighter> {
     }
 }
 
-/// The text that was rendered, or why there is none.
+/// Converts the result of rendering.
 fn text_or_fault(rendered: Result<(), RenderError>, text: String) -> Result<String, ProgramError>
     ensures ok { IfOk result (λ it. (it ≡ text) × OnErr rendered ⊥) }
     ensures refused { (result ≡ Err ProgramError.Refused) → rendered ≡ Err RenderError.Refused }
@@ -64,10 +64,10 @@ fn text_or_fault(rendered: Result<(), RenderError>, text: String) -> Result<Stri
 }
 
 impl<H: Highlighter> JobHandler<H> {
-    /// The text of a report whose sources always read.
+    /// Renders a report whose sources always read.
     ///
     /// # Errors
-    /// `Refused` only of a narrated or brief report, where a label that it tells isn't accepted. `Memory`.
+    /// `Refused` only for a narrated or brief report with a label out of bounds. `Memory` if allocation fails.
     pub fn render<D: Diagnostic, S: SourceCode>(
         &mut self,
         alloc: Global,
@@ -80,7 +80,7 @@ impl<H: Highlighter> JobHandler<H> {
             JobMayRefuse self.old (tree_of D.meaning S.source report.now) }
         ensures others { OnErr result ((result ≡ Err ProgramError.Refused) ⊎ (result ≡ Err ProgramError.Memory)) }
         ensures stays { JobHandlerStays H.is_blank self.old self.new }
-        // By its own calls its highlighter is where it is, once it gave a text.
+        // After a text was rendered, the calls of this handler led to its highlighter's state.
         ensures led { OnOk result (IsLed H.may_follow self.old self.new) }
     {
         let mut text = String::new(alloc);

@@ -1,61 +1,61 @@
-//! The words that a job may be called with.
+//! The arguments of `job`, one by one.
 
 ghost use Rattle.std.specs.Prelude.{◌≡◌, ◌<◌, length, IfSome, IsNone, map, string_bytes};
 ghost use Rattle.std.specs.Option.{option_and_then};
 ghost use Rattle.miette_style.specs.rules.Themes.{theme_of};
 ghost use Rattle.miette_program.specs.rules.OptionWords as table;
 ghost use Rattle.miette_program.specs.rules.OptionWords.{JobRequest, with_words, with_words_after};
-ghost use Rattle.miette_program.specs.steps.AskedWords.{IsGiven, with_asked, with_named};
+ghost use Rattle.miette_program.specs.steps.ParsedArguments.{IsGiven, with_argument, with_named};
 
 use crate::language::{Language, LanguageHighlighter};
 use miette::options::RgbColors;
 use miette::theme::GraphicalTheme;
 use miette::wrap::WordSeparator;
 use miette_devices::fault::ProgramError;
-use miette_devices::output::Output;
+use miette_devices::output_form::OutputForm;
 use std::alloc::Global;
 
-/// The first of the words, with what belongs to it.
+/// One argument, with its value if it takes one.
 #[derive(Clone, Copy)]
-pub(crate) enum Asked<'a> {
-    /// A word without a value: a form of the report.
-    Form(Output),
-    /// Any other word, and its value.
+pub(crate) enum Argument<'a> {
+    /// A form of the report, which takes no value.
+    Form(OutputForm),
+    /// Any other argument, and its value.
     Value(&'a str, &'a str),
 }
 
-/// The first of the words with what belongs to it, and the words after. Nothing where its value is missing.
-pub(crate) fn first_asked<'a>(words: &'a [String]) -> Option<(Asked<'a>, &'a [String])>
+/// Splits off the first argument and its value. Returns `None` if the value is missing.
+pub(crate) fn split_argument<'a>(words: &'a [String]) -> Option<(Argument<'a>, &'a [String])>
     ensures fewer { IfSome result (λ first. length first.1.now < length words.now) }
     ensures some { IfSome result (λ first. (r : JobRequest) → with_words (map string_bytes words.now) r
-        ≡ option_and_then (with_words (map string_bytes first.1.now)) (with_asked first.0 r)) }
+        ≡ option_and_then (with_words (map string_bytes first.1.now)) (with_argument first.0 r)) }
     ensures none { IsNone result → 0 < length words.now → (r : JobRequest) →
         with_words (map string_bytes words.now) r ≡ None }
 {
     let [word, rest @ ..] = words else {
         return None;
     };
-    if let Some(form) = Output::named(word.as_str()) {
-        return Some((Asked::Form(form), rest));
+    if let Some(form) = OutputForm::named(word.as_str()) {
+        return Some((Argument::Form(form), rest));
     }
-    value_asked(word.as_str(), rest)
+    take_value(word.as_str(), rest)
 }
 
-/// A word with the first of these as its value, and the words after. Nothing where there is none.
-fn value_asked<'a>(word: &'a str, words: &'a [String]) -> Option<(Asked<'a>, &'a [String])>
+/// Takes the next word as the value. Returns `None` if there is none.
+fn take_value<'a>(word: &'a str, words: &'a [String]) -> Option<(Argument<'a>, &'a [String])>
     ensures fewer { IfSome result (λ first. length first.1.now < length words.now) }
     ensures some { IfSome result (λ first. (r : JobRequest) → with_words_after word.now (map string_bytes words.now) r
-        ≡ option_and_then (with_words (map string_bytes first.1.now)) (with_asked first.0 r)) }
+        ≡ option_and_then (with_words (map string_bytes first.1.now)) (with_argument first.0 r)) }
     ensures none { IsNone result → (r : JobRequest) →
         with_words_after word.now (map string_bytes words.now) r ≡ None }
 {
     let (value, rest) = words.split_first()?;
-    Some((Asked::Value(word, value.as_str()), rest))
+    Some((Argument::Value(word, value.as_str()), rest))
 }
 
-/// What a word asks for whose value is a name.
+/// The meaning of an argument whose value is a name.
 #[derive(Drop)]
-pub(crate) enum Named {
+pub(crate) enum NamedValue {
     Theme(GraphicalTheme),
     Rgb(RgbColors),
     Separator(WordSeparator),
@@ -63,32 +63,33 @@ pub(crate) enum Named {
     Color(Option<bool>),
 }
 
-/// What a word asks for with a name as its value.
+/// Looks up the name after an argument.
 ///
 /// # Errors
-/// `Usage` where there is no such word or it takes no such name, and `Memory` where none is found for a theme or a
-/// highlighter.
-pub(crate) fn read_named(alloc: Global, word: &str, name: &str) -> Result<Named, ProgramError>
+/// `Usage` for an unknown argument or name. `Memory` if allocation for a theme or a highlighter fails.
+pub(crate) fn read_named(alloc: Global, word: &str, name: &str) -> Result<NamedValue, ProgramError>
     ensures { (r : JobRequest) →
         IsGiven (λ it. with_named it r) (table.with_name word.now name.now r) result }
 {
     match word {
-        "--theme" => Ok(Named::Theme(theme_named(alloc, name)?)),
-        "--rgb" => Ok(Named::Rgb(rgb_named(name).ok_or(ProgramError::Usage)?)),
-        "--separator" => Ok(Named::Separator(separator_named(name).ok_or(ProgramError::Usage)?)),
+        "--theme" => Ok(NamedValue::Theme(theme_named(alloc, name)?)),
+        "--rgb" => Ok(NamedValue::Rgb(rgb_named(name).ok_or(ProgramError::Usage)?)),
+        "--separator" => Ok(NamedValue::Separator(separator_named(name).ok_or(
+            ProgramError::Usage,
+        )?)),
         "--highlight" => {
             let language = language_named(name).ok_or(ProgramError::Usage)?;
-            Ok(Named::Highlighter(LanguageHighlighter::new(alloc, language)?))
+            Ok(NamedValue::Highlighter(LanguageHighlighter::new(alloc, language)?))
         }
-        "--term-color" => Ok(Named::Color(color_named(name).ok_or(ProgramError::Usage)?)),
+        "--term-color" => Ok(NamedValue::Color(color_named(name).ok_or(ProgramError::Usage)?)),
         _ => Err(ProgramError::Usage),
     }
 }
 
-/// The theme of a name.
+/// Returns the theme with this name.
 ///
 /// # Errors
-/// `Usage` where there is none, and `Memory` where none is found for it.
+/// `Usage` for an unknown name. `Memory` if allocation fails.
 pub(crate) fn theme_named(alloc: Global, name: &str) -> Result<GraphicalTheme, ProgramError>
     ensures { IsGiven theme_of (table.theme_named name.now) result }
 {
@@ -101,7 +102,7 @@ pub(crate) fn theme_named(alloc: Global, name: &str) -> Result<GraphicalTheme, P
     }
 }
 
-/// Which colours are taken, by their name.
+/// Returns when RGB colors are used.
 pub(crate) fn rgb_named(name: &str) -> Option<RgbColors>
     ensures { result ≡ table.rgb_named name.now }
 {
@@ -113,7 +114,7 @@ pub(crate) fn rgb_named(name: &str) -> Option<RgbColors>
     }
 }
 
-/// How the words of texts are told apart, by its name.
+/// Returns how texts are split into words.
 pub(crate) fn separator_named(name: &str) -> Option<WordSeparator>
     ensures { result ≡ table.separator_named name.now }
 {
@@ -124,7 +125,7 @@ pub(crate) fn separator_named(name: &str) -> Option<WordSeparator>
     }
 }
 
-/// The colours of a terminal by their name: whether it has 16 million, and nothing where it has none.
+/// Returns a terminal's colors: whether it has RGB colors, or `None` if it has no colors.
 pub(crate) fn color_named(name: &str) -> Option<Option<bool>>
     ensures { result ≡ table.color_named name.now }
 {
@@ -136,7 +137,7 @@ pub(crate) fn color_named(name: &str) -> Option<Option<bool>>
     }
 }
 
-/// The language of a name.
+/// Returns the language with this name.
 pub(crate) fn language_named(name: &str) -> Option<Language>
     ensures { result ≡ table.language_named name.now }
 {

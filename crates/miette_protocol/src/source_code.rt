@@ -1,4 +1,4 @@
-//! The trait of sources: bytes of which spans can be read.
+//! The trait of sources: bytes whose spans can be read.
 
 ghost use Rattle.std.specs.Prelude.{string_bytes};
 ghost use Rattle.miette_protocol.specs.rules.Reading.{Source, plain_source};

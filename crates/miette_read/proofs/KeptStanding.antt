@@ -40,7 +40,7 @@ module _ (text row : List ℕ) (h : IsPart text row) where
       inr (inr (any_each (IsPart row) (IsPart text) (λ whole. part_within text row whole h)
       (causes_of (cause_of t)) k))
 
--- ---- what is told
+-- ---- what is said
 
 -- a text is a part of a row that is told
 abbrev pub Says : List Annotation → List ℕ → Type 0

@@ -1,4 +1,4 @@
--- The definitions that users rely on, as in docs/RULES.md.
+-- The definitions that users rely on, as in crates/miette_read/CALLING.md.
 pub mod LineStarts
 pub mod Members
 pub mod Names

@@ -28,7 +28,7 @@ pub trait MessageFormat {
     // Whether a value looks like one of the format.
     ghost looks: { Data → Bool };
 
-    // The reports of a value over the files that are found by their names; nothing where it isn't of the format.
+    // The reports of a value, over files that are looked up by name. None if the value isn't in this format.
     ghost trees: { (List ℕ → Option Source) → Data → Option (List Tree) };
 
     /// Whether a value looks like one of the format. Callers ask it where nobody has named the format.
@@ -52,8 +52,8 @@ pub trait MessageFormat {
     fn reports_always_read()
         ensures { ReportsAlwaysRead trees };
 
-    /// The labels of the reports are accepted by their sources, where the files that are found always read: so narrated
-    /// and brief reports are never refused.
+    /// If the found files always read, all labels of the reports are in bounds. So narrated and brief reports are never
+    /// refused.
     fn labels_are_accepted()
         ensures { LabelsAreAccepted trees };
 }

@@ -60,7 +60,7 @@ pub fn member_object<'v>(value: &'v Value, key: &str) -> Option<&'v Value>
     if found.is_object() { Some(found) } else { None }
 }
 
-/// The items of a list; `None` of what is no list.
+/// Returns the items of a list. Returns `None` if the value isn't a list.
 pub fn list_in(value: &Value) -> Option<&[Value]>
     ensures { option_map (λ it. viewed it.now) result ≡ list_in (view value.now) }
 {
@@ -70,14 +70,14 @@ pub fn list_in(value: &Value) -> Option<&[Value]>
     }
 }
 
-/// Whether a text stands at a key.
+/// Returns whether the member is a text.
 pub fn has_text(value: &Value, key: &str) -> bool
     ensures { result ≡ has_text key.now (view value.now) }
 {
     member_text(value, key).is_some()
 }
 
-/// Whether a list stands at a key.
+/// Returns whether the member is a list.
 pub fn has_list(value: &Value, key: &str) -> bool
     ensures { result ≡ has_list key.now (view value.now) }
 {
@@ -87,7 +87,7 @@ pub fn has_list(value: &Value, key: &str) -> bool
     }
 }
 
-/// The items of a list; what is no list has none.
+/// Returns the items of a list. Any other value has none.
 fn array_items(value: &Value) -> &[Value]
     ensures { viewed result.now ≡ array_items (as_array (view value.now)) }
 {

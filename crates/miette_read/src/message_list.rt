@@ -1,4 +1,4 @@
-//! Formats whose values list messages: a report is made of each.
+//! Formats whose values list messages: each becomes a report.
 
 ghost use Rattle.std.specs.Prelude.{◌≡◌, ◌++◌, Err, IfOk, None, OnOk, Some, map};
 ghost use Rattle.std.specs.List.{list_all};
@@ -17,7 +17,7 @@ use miette_tree::report::Report;
 use serde_json::Value;
 use std::alloc::{AllocError, Global};
 
-/// A format whose values list messages, each of which has a text `message`.
+/// A format whose values are lists of messages. Each message has a text `message`.
 pub trait MessageList {
     ghost use Rattle.std.specs.Prelude.{◌≡◌, ℕ, IfOk, List, Option, option_map};
     ghost use Rattle.serde_json.specs.Data.{Data};
@@ -27,7 +27,7 @@ pub trait MessageList {
     ghost use Rattle.miette_tree.specs.views.Report.{tree_of};
     ghost use Rattle.miette_read.specs.views.Values.{viewed};
 
-    // The messages of a value; nothing where it isn't of the format.
+    // Returns the messages of a value. Returns `None` if it isn't in this format.
     ghost listed: { Data → Option (List Data) };
 
     // The report of a message over the files that are found by their names.
@@ -37,10 +37,10 @@ pub trait MessageList {
     fn messages(value: &Value) -> Option<&[Value]>
         ensures { option_map (λ it. viewed it.now) result ≡ listed (view value.now) };
 
-    /// The report of a message, over files that are looked up by the names in the message.
+    /// Builds the report of a message, over files that are looked up by the names in it.
     ///
     /// # Errors
-    /// `AllocError` where memory is refused.
+    /// `AllocError` if allocation fails.
     fn report<'f, D: Diagnostic, F: Files>(
         alloc: Global,
         files: &'f F,
@@ -57,7 +57,7 @@ fn has_message(message: &Value) -> bool
     member_text(message, "message").is_some()
 }
 
-/// Whether each of these has its text.
+/// Returns whether each message has its text.
 fn all_have_messages(messages: &[Value]) -> bool
     ensures { result ≡ list_all has_message (viewed messages.now) }
 {

@@ -1,4 +1,4 @@
--- The definitions that users rely on, as in docs/RULES.md.
+-- The definitions that users rely on, as in crates/miette_read_gcc/CALLING.md.
 pub mod Lines
 pub mod Gcc
 pub mod GccReport

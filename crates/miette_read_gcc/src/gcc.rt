@@ -37,14 +37,14 @@ fn is_gcc_item(item: &Value) -> bool
     has_text(item, "kind") && has_list(item, "locations")
 }
 
-/// Whether each of these is a diagnostic of GCC.
+/// Returns whether each of these is a diagnostic of GCC.
 fn are_gcc_items(items: &[Value]) -> bool
     ensures { result ≡ list_all is_gcc_item (viewed items.now) }
 {
     items.iter().all(|it| is_gcc_item(it))
 }
 
-/// Whether it is an array of diagnostics of GCC alone.
+/// Returns whether the value is an array of only GCC diagnostics.
 fn is_gcc_array(value: &Value) -> bool
     ensures { result ≡ is_gcc_array (view value.now) }
 {
@@ -120,11 +120,11 @@ impl MessageFormat for Gcc {
     }
 }
 
-/// The reports of what GCC writes (`-fdiagnostics-format=json`): one of each diagnostic of the array, over files that
-/// are looked up by the names that it gives them.
+/// Builds the reports of GCC's output (`-fdiagnostics-format=json`): one for each diagnostic in the array, over files
+/// that are looked up by the names in it.
 ///
 /// # Errors
-/// `NoMessage` of what is no array, or has an item without a message, and `Memory`.
+/// `NoMessage` if the value isn't an array, or if an item has no message. `Memory` if allocation fails.
 pub fn gcc_reports<'f, D: Diagnostic, F: Files>(
     alloc: Global,
     files: &'f F,

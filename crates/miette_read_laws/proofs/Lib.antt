@@ -29,3 +29,6 @@ pub mod Whole
 pub mod Spelled
 pub mod Shallow
 pub mod Written
+pub mod Boundaries
+pub mod Indexed
+pub mod SameFixes

@@ -13,3 +13,6 @@ pub mod Files
 pub mod Reading
 pub mod Sources
 pub mod Worked
+pub mod Boundaries
+pub mod Indexed
+pub mod SameFixes

@@ -3,3 +3,4 @@
 
 pub mod laws;
 pub mod log_laws;
+pub mod position_laws;

@@ -32,6 +32,7 @@
 
 ghost use Rattle.std.specs.Prelude.{◌≡◌, ℕ, List, [], ◌∷◌, Option, Some, false, map, unwrap_or};
 ghost use Rattle.std.specs.List.{AllByRecursion};
+ghost use Rattle.miette_fixes.specs.rules.Edits.{Replacement};
 ghost use Rattle.miette_json.specs.rules.Denotes.{Denotes};
 ghost use Rattle.miette_json.specs.rules.Json.{Json};
 ghost use Rattle.miette_positions.specs.declared.position.PositionEncoding.TheVariants.{Utf16};
@@ -41,10 +42,11 @@ ghost use Rattle.miette_protocol.specs.declared.protocol.Severity.{Severity};
 ghost use Rattle.miette_protocol.specs.declared.protocol.Severity.TheVariants.{Error};
 ghost use Rattle.miette_protocol.specs.rules.Reading.{Source, Span};
 ghost use Rattle.miette_sarif.specs.rules.Artifacts.{all_named, artifacts_in};
-ghost use Rattle.miette_sarif.specs.rules.Findings.{Finding};
+ghost use Rattle.miette_sarif.specs.rules.Findings.{Finding, ReplacementValue, SourceName};
 ghost use Rattle.miette_sarif.specs.rules.FindingList.{level, read_findings};
 ghost use Rattle.miette_sarif.specs.rules.Log.{ToolName, log};
 ghost use Rattle.miette_sarif.specs.rules.LogText.{IsLogOf};
+ghost use Rattle.miette_sarif.specs.rules.Proposals.{applicable};
 ghost use Rattle.miette_sarif.specs.rules.Uris.{name_uri};
 ghost use Rattle.miette_read_sarif.specs.rules.Logs.{sarif_trees};
 ghost use Rattle.miette_read_sarif.specs.rules.Proposals.{suggestion_drafts};
@@ -54,12 +56,14 @@ ghost use Rattle.miette_read_sarif.specs.rules.Wholes.{result_file_annotations};
 ghost use Rattle.miette_tree.specs.rules.Tree.{Trees, trees};
 ghost use Rattle.miette_read_laws.specs.laws.Data.{NumbersFit, data_of};
 ghost use Rattle.miette_read_laws.specs.laws.Files.{AreFindingsOver};
+ghost use Rattle.miette_read_laws.specs.laws.Indexed.{IsIndexed};
 ghost use Rattle.miette_read_laws.specs.laws.Kept.{fixes_kept, report_kept, parts_kept, annotations_kept};
 ghost use Rattle.miette_read_laws.specs.laws.LinkEnds.{has_link_end};
 ghost use Rattle.miette_read_laws.specs.laws.Links.{without_links};
 ghost use Rattle.miette_read_laws.specs.laws.NamesBack.{IsPlainAddress, IsPlainName};
 ghost use Rattle.miette_read_laws.specs.laws.Reading.{ReadsBack, result_data, result_log_context};
 ghost use Rattle.miette_read_laws.specs.laws.RegionsBack.{lines_back, offsets_of};
+ghost use Rattle.miette_read_laws.specs.laws.SameFixes.{DoTheSame};
 ghost use Rattle.miette_read_laws.specs.laws.Sources.{AreFilesOf};
 ghost use Rattle.miette_read_laws.specs.laws.Worked.{found, given, kept};
 
@@ -127,4 +131,16 @@ pub fn regions_read_back()
 pub fn names_read_back()
     ensures names { (name : List ℕ) → IsPlainName name → uri_file_name (name_uri name) ≡ name }
     ensures addresses { (name : List ℕ) → IsPlainAddress name → uri_file_name (name_uri name) ≡ name }
+{}
+
+/// Every source that a log names is listed once among its artifacts, and is named with the index of its artifact.
+pub fn artifacts_are_indexed()
+    ensures { (names : List SourceName) → AllByRecursion (IsIndexed (artifacts_in names)) names }
+{}
+
+/// The replacements of a log, and of a fix of an editor, change a source as the fix's edits do. They can be applied in
+/// any order: none overlaps another or begins at the same offset, and each ends in the source.
+pub fn fixes_do_the_same()
+    ensures { (bytes : List ℕ) (edits : List Replacement) (rs : List ReplacementValue) →
+        applicable bytes edits ≡ Some rs → DoTheSame bytes edits rs }
 {}

@@ -1,4 +1,4 @@
--- The definitions that users rely on, as in docs/RULES.md.
+-- The definitions that users rely on, as in crates/miette_read_sarif/CALLING.md.
 pub mod Messages
 pub mod Uris
 pub mod Bases

@@ -36,7 +36,7 @@ use std::alloc::{AllocError, Global};
 /// A SARIF 2.1.0 log.
 pub struct Sarif;
 
-/// The version of the logs that are read; a further number stands after it.
+/// The version of the logs that are read. Another number follows it.
 const VERSION: &str = "2.1";
 
 /// Returns whether a log has this version, or none.

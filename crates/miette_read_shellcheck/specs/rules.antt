@@ -1,3 +1,3 @@
--- The definitions that users rely on, as in docs/RULES.md.
+-- The definitions that users rely on, as in crates/miette_read_shellcheck/CALLING.md.
 pub mod Columns
 pub mod Comments

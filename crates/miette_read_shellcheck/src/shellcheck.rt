@@ -42,7 +42,7 @@ pub fn has_shellcheck_comments(value: &Value) -> bool
     comments_of(value).is_some()
 }
 
-/// What a comment tells: its place, without words.
+/// The annotation of a comment: its location, without a text.
 fn comment_annotations<'v, F: Files>(
     alloc: Global,
     files: &F,

@@ -10,7 +10,7 @@ use Rattle.miette_report.specs.rules.Job.{IsDescription, IsNoDescription, IsRefu
 use Rattle.miette_program.specs.rules.JobText.{IsTelling}
 use Rattle.miette_report.specs.rules.JobCalls.{AreBenchWords, CallMeasures, CallWrites, IsJobEnd, IsJobStatus}
 use Rattle.miette_report.specs.rules.JobCalls.{IsNoBenchCall, Measures}
-use Rattle.miette_program.specs.rules.OptionWords.{AreWanted}
+use Rattle.miette_program.specs.rules.OptionWords.{AreParsed}
 use Rattle.miette_devices.specs.declared.fault.ProgramError.{ProgramError}
 use Rattle.miette_devices.specs.declared.fault.ProgramError.TheVariants.{Usage, Memory, Description, Refused}
 use Rattle.miette_program.specs.declared.language.LanguageHighlighter.{LanguageHighlighter}
@@ -97,7 +97,7 @@ early-end wrong options told r s f is same usage others = record {
 
 pub asked-writes : (is_blank : LanguageHighlighter → Bool) (words : List (List ℕ)) (c : Choice)
     (o : Options LanguageHighlighter) (t : Terminal) (told : Option (List ℕ)) (P : List ℕ → Type 0)
-    → AreWanted words c o t → IfSome told (λ bs. Writes is_blank c o t bs P)
+    → AreParsed words c o t → IfSome told (λ bs. Writes is_blank c o t bs P)
     → IfSome told (λ bs. CallWrites is_blank words bs P)
 asked-writes is_blank words c o t None P are h = tt
 asked-writes is_blank words c o t (Some bs) P are h = (c, o, t, are, h)
@@ -115,7 +115,7 @@ pub writes-described : {T : Type 0} (is_blank : LanguageHighlighter → Bool) (c
 writes-described is_blank c o t told P r = on_ok_weaker r (described is_blank c o t told P)
 
 pub settings-end : {T : Type 0} (wrong : Type 0) (words : List (List ℕ)) (c : Choice) (o : Options LanguageHighlighter)
-    (t : Terminal) (told : Option (List ℕ)) (r : Result T ProgramError) → AreWanted words c o t → (wrong → ⊥)
+    (t : Terminal) (told : Option (List ℕ)) (r : Result T ProgramError) → AreParsed words c o t → (wrong → ⊥)
     → OnOk r (IfSome told IsDescription) → (r ≡ Err Description → IfSome told IsNoDescription)
     → (r ≡ Err Refused → IsTelling c o t × IfSome told IsRefused) → (r ≡ Err Usage → ⊥) → IsJobEnd wrong words told r
 settings-end wrong words c o t told r are right done bad refused called = record {
@@ -131,7 +131,7 @@ settings-end wrong words c o t told r are right done bad refused called = record
 
 pub asked-measures : (is_blank : LanguageHighlighter → Bool) (words options : List (List ℕ)) (times : ℕ) (c : Choice)
     (o : Options LanguageHighlighter) (t : Terminal) (told : Option (List ℕ)) (P : List ℕ → Type 0)
-    → AreBenchWords words times options → AreWanted options c o t
+    → AreBenchWords words times options → AreParsed options c o t
     → IfSome told (λ bs. Measures times (Writes is_blank c o t bs) P)
     → IfSome told (λ bs. CallMeasures is_blank words bs P)
 asked-measures is_blank words options times c o t None P are wanted h = tt
@@ -139,7 +139,7 @@ asked-measures is_blank words options times c o t (Some bs) P are wanted h =
     (times, options, are, (h.0, h.1, (λ some. (c, o, t, wanted, h.2 some)), h.3))
 
 pub not-wrong-bench : (words options : List (List ℕ)) (times : ℕ) (c : Choice) (o : Options LanguageHighlighter)
-    (t : Terminal) → AreBenchWords words times options → AreWanted options c o t → IsNoBenchCall words → ⊥
+    (t : Terminal) → AreBenchWords words times options → AreParsed options c o t → IsNoBenchCall words → ⊥
 not-wrong-bench words options times c o t are wanted none = not-wrong options c o t wanted (none times options are)
 
 -- what was read, where the reader tells its bytes

@@ -29,7 +29,7 @@ use Rattle.miette_snippet_rules.specs.rules.Highlighting.{follows}
 use Rattle.miette_program.specs.rules.JobText.{IsBuiltText, IsJobText}
 use Rattle.miette_report.specs.rules.JobCalls.{CallWrites}
 use Rattle.miette_program.specs.rules.LanguageRules.{Highlighting, TokensFollow, highlighting_of}
-use Rattle.miette_program.specs.rules.OptionWords.{TerminalFacts, JobRequest, chosen_by, terminal_facts_of, request_of}
+use Rattle.miette_program.specs.rules.OptionWords.{TerminalFacts, JobRequest, handler_choice, terminal_facts_of, request_of}
 use Rattle.miette_program.specs.declared.language.LanguageHighlighter.{LanguageHighlighter}
 use Rattle.miette_program.specs.declared.arguments.Choice.{Choice}
 use Rattle.miette_program.specs.declared.arguments.Choice.TheVariants.{Build, Json, Debug}
@@ -180,7 +180,7 @@ reads_always : (bytes : List ℕ) (t : Tree) → tree_of_bytes bytes ≡ Some t 
 reads_always bytes t e = option_and_then_some described_tree (read bytes) t e (λ d found described.
     described_reads d t described)
 
-pub one-text : (words : List (List ℕ)) (bytes x y : List ℕ) → (chosen_by words ≡ Some Debug → ⊥)
+pub one-text : (words : List (List ℕ)) (bytes x y : List ℕ) → (handler_choice words ≡ Some Debug → ⊥)
     → CallWrites never_blank words bytes (λ text. text ≡ x) → CallWrites never_blank words bytes (λ text. text ≡ y)
     → x ≡ y
 one-text words bytes x y not_debug h k =

@@ -12,8 +12,8 @@ use Rattle.miette_lsp.specs.rules.LogWords.{LogRequest, logging_of}
 use Rattle.miette_program.specs.declared.arguments.Arguments.{Arguments}
 use Rattle.miette_program.specs.declared.language.LanguageHighlighter.{LanguageHighlighter}
 use Rattle.miette_program.specs.rules.JobText.{IsTelling}
-use Rattle.miette_program.specs.rules.OptionWords.{JobRequest, asked_by}
-use Rattle.miette_program.specs.steps.AskedWords.{IsGiven, asked_of}
+use Rattle.miette_program.specs.rules.OptionWords.{JobRequest, parsed_arguments}
+use Rattle.miette_program.specs.steps.ParsedArguments.{IsGiven, parsed_of}
 use Rattle.miette_report.specs.rules.AppliedFixes.{IsFixStatus, fixing_of}
 use Rattle.miette_report.specs.rules.Job.{IsNoDescription, IsRefused, Writes}
 use Rattle.miette_report.specs.rules.Logs.{IsLogStatus}
@@ -39,14 +39,14 @@ as_asked words asked told n e h = subst (λ it. IsStatusFor words it told n) (sy
 
 pub report-status : (is_blank : LanguageHighlighter → Bool) (words : List (List ℕ)) (it : Arguments)
     (told : Option (List ℕ)) (P : List ℕ → Type 0) (r : Result Unit ProgramError) (n : ℕ)
-    → requested_by words ≡ Some (report (asked_of it))
+    → requested_by words ≡ Some (report (parsed_of it))
     → OnOk r (IfSome told (λ bs. Writes is_blank it.choice it.options it.terminal bs P))
     → (r ≡ Err Description → IfSome told IsNoDescription)
     → (r ≡ Err Refused → IsTelling it.choice it.options it.terminal × IfSome told IsRefused)
     → (r ≡ Err Usage → ⊥) → n ≡ end_status (status_of Job) r → IsProgramStatus words told n
 report-status is_blank words it told P r n asked ok bad refused called same =
-    let are = wanted (fixing_of words) (logging_of (codes "job") words) (asked_by words) (asked_of it) asked in
-    as_asked words (Some (report (asked_of it))) told n asked
+    let are = wanted (fixing_of words) (logging_of (codes "job") words) (parsed_arguments words) (parsed_of it) asked in
+    as_asked words (Some (report (parsed_of it))) told n asked
     (job-status (status_of Job) (λ f. refl) ⊥ words told r n
     (settings-end ⊥ words it.choice it.options it.terminal told r are (λ w. w)
     (writes-described is_blank it.choice it.options it.terminal told P r ok) bad refused called) same)

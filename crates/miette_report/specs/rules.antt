@@ -1,4 +1,4 @@
--- The definitions that users rely on, named as in docs/RULES.md.
+-- The definitions that users rely on, named as in crates/miette_report/CALLING.md.
 pub mod Job
 pub mod Logs
 pub mod JobCalls

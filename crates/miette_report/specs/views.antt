@@ -1,2 +1,2 @@
--- What the code's values stand for.
+-- What the values of the code represent.
 pub mod Requests

@@ -4,12 +4,11 @@ ghost use Rattle.std.specs.Prelude.{◌≡◌, ◌↔◌, ◌⊎◌, ◌++◌, f
 ghost use Rattle.std.specs.Prelude.{codes, decimal, drop, map, string_bytes};
 ghost use Rattle.std.specs.Io.KnownBytes.{Appends};
 ghost use Rattle.miette_devices.specs.views.Device.{TakesBeginning};
-ghost use Rattle.miette_program.specs.rules.OptionWords.{asked_by, AreWanted};
+ghost use Rattle.miette_program.specs.rules.OptionWords.{parsed_arguments, AreParsed};
 ghost use Rattle.miette_report.specs.rules.Job.{IsDescription, IsNoDescription, IsRefused, Writes};
 ghost use Rattle.miette_program.specs.rules.JobText.{IsTelling};
 ghost use Rattle.miette_report.specs.rules.JobCalls.{AreBenchWords, CallMeasures, IsNoBenchCall, IsJobEnd, IsJobStatus};
 ghost use Rattle.miette_report.specs.rules.JobCalls.{Measures};
-ghost use Rattle.miette_devices.specs.rules.Faults.{status_of};
 
 use crate::pipeline::rendered_length;
 use miette_devices::device::Device;
@@ -36,22 +35,15 @@ where
 {
     let mut reader = Device::new(reader);
     let mut writer = Device::new(writer);
-    let work = run_from_arguments(alloc, words, &mut reader, &mut writer);
+    let work = run_bench(alloc, words, &mut reader, &mut writer);
     Program::Bench.finish(work, faults)
-}
-
-/// Ends the program if its arguments could not be read: prints the reason and returns the exit code.
-pub fn fail_bench_arguments<F: Write + Drop>(fault: ProgramError, faults: F) -> u8
-    ensures { result ≡ status_of Program.Bench fault }
-{
-    Program::Bench.end(fault, faults)
 }
 
 /// Checks the arguments before anything is read, then measures.
 ///
 /// # Errors
 /// `Usage` if the first argument is no number or the others are not those of `job`. Otherwise those of `job::run`.
-pub fn run_from_arguments<R: Read, W: Write>(
+pub fn run_bench<R: Read, W: Write>(
     alloc: Global,
     words: &[String],
     reader: &mut Device<R>,
@@ -84,7 +76,7 @@ pub fn run_from_arguments<R: Read, W: Write>(
 fn read_words(alloc: Global, words: &[String]) -> Result<(usize, Arguments), ProgramError>
     ensures times { IfOk result (λ it. AreBenchWords (map string_bytes words.now) it.0
         (drop 1 (map string_bytes words.now))) }
-    ensures table { IfOk result (λ it. AreWanted (drop 1 (map string_bytes words.now)) it.1.choice it.1.options
+    ensures table { IfOk result (λ it. AreParsed (drop 1 (map string_bytes words.now)) it.1.choice it.1.options
         it.1.terminal) }
     ensures usage { (result ≡ Err ProgramError.Usage) → IsNoBenchCall (map string_bytes words.now) }
     ensures others { OnErr result ((result ≡ Err ProgramError.Usage) ⊎ (result ≡ Err ProgramError.Memory)) }

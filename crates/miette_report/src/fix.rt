@@ -14,12 +14,12 @@ use miette_devices::whole::{read_whole, write_whole};
 use std::alloc::Global;
 use std::io::{Read, Write};
 
-/// Reads all, and writes the text of the source after fixes and nothing else. Whether a fix wasn't taken.
+/// Reads a description and writes its source after fixes. Returns whether a fix was left out.
 ///
 /// # Errors
-/// `Read` exactly where a call of the reader failed. `Write` exactly where one of the writer failed, or took nothing:
-/// it has then taken a beginning of the text. `Description` where what was read describes no report. `Memory` where
-/// memory is refused. After all but `Write` nothing was written.
+/// `Read` exactly if a call of the reader failed. `Write` exactly if a call of the writer failed or took nothing; the
+/// writer then has a beginning of the text. `Description` if the input describes no report. `Memory` if allocation
+/// fails. Except after `Write`, nothing was written.
 pub fn write_job_fixes<R: Read, W: Write>(
     alloc: Global,
     all: bool,
@@ -28,7 +28,7 @@ pub fn write_job_fixes<R: Read, W: Write>(
 ) -> Result<bool, ProgramError>
     requires reader_sound { reader.old.failed ≡ false }
     requires writer_sound { writer.old.failed ≡ false }
-    // All that the reader had left is a description, and the writer took its fixed text and nothing else.
+    // All remaining input is a description. The writer got its fixed text, and nothing else.
     ensures ok { IfOk result (λ some. IfSome (R.remaining reader.old.inner) (λ bytes.
         Fixes all bytes (λ text left. (some ≡ left)
         × Appends (W.contents writer.old.inner) (W.contents writer.new.inner) text))) }
@@ -36,7 +36,7 @@ pub fn write_job_fixes<R: Read, W: Write>(
         IfSome (R.remaining reader.old.inner) IsNoDescription }
     ensures read_failed { IsTrue reader.new.failed ↔ (result ≡ Err ProgramError.Read) }
     ensures write_failed { IsTrue writer.new.failed ↔ (result ≡ Err ProgramError.Write) }
-    // After a write fault a beginning of the text was taken.
+    // After a write error the writer has a beginning of the text.
     ensures beginning { (result ≡ Err ProgramError.Write) → IfSome (R.remaining reader.old.inner) (λ bytes.
         Fixes all bytes (λ text left. TakesBeginning (W.contents writer.old.inner)
         (W.contents writer.new.inner) text)) }
@@ -54,7 +54,7 @@ pub fn write_job_fixes<R: Read, W: Write>(
     }
 }
 
-// What fixes make of a description's source.
+// Returns the source of the description after fixes.
 fn fixed_of(alloc: Global, bytes: &[u8], all: bool) -> Result<FixedText, ProgramError>
     ensures ok { IfOk result (λ it.
         Fixes all bytes.now (λ text left. (it.text.items ≡ text) × (it.some_left ≡ left))) }

@@ -1,4 +1,4 @@
-//! A job: read all, build, render, write all.
+//! From a description to its report: read all input, build the report, render it, write the text.
 
 ghost use Rattle.std.specs.Prelude.{◌≡◌, ◌<◌, ◌↔◌, length, ◌⊎◌, false, string_bytes, IsTrue, IsUtf8, IfOk, OnOk, OnErr};
 ghost use Rattle.std.specs.Prelude.{IfSome, Some};
@@ -24,7 +24,7 @@ use miette_tree::report::Report;
 use std::alloc::Global;
 use std::io::{Read, Write};
 
-/// The report that the bytes describe.
+/// Builds the report that the input describes.
 pub(crate) fn report_from_json(alloc: Global, bytes: &[u8]) -> Result<Report, ProgramError>
     ensures ok { IfOk result (λ r. IsUtf8 bytes.now
         × (tree_of_bytes bytes.now ≡ Some (tree_of ⟦<Box<dyn Diagnostic> as Diagnostic>⟧.meaning
@@ -41,7 +41,7 @@ pub(crate) fn report_from_json(alloc: Global, bytes: &[u8]) -> Result<Report, Pr
     }
 }
 
-/// The report that the bytes describe, and the handler that the settings ask for.
+/// Builds the report that the input describes, and the handler that the settings choose.
 fn report_and_handler(
     alloc: Global,
     bytes: &[u8],
@@ -60,7 +60,7 @@ fn report_and_handler(
     Ok((report, JobHandler::new(alloc, settings)?))
 }
 
-/// The text for a description.
+/// Renders the report that the input describes.
 fn text_of(alloc: Global, bytes: &[u8], settings: Arguments) -> Result<String, ProgramError>
     ensures ok { IfOk result (λ text. Writes ⟦<LanguageHighlighter as Highlighter>⟧.is_blank settings.choice
         settings.options settings.terminal bytes.now (λ given. string_bytes text ≡ given)) }
@@ -74,7 +74,7 @@ fn text_of(alloc: Global, bytes: &[u8], settings: Arguments) -> Result<String, P
     handler.render(alloc, &report)
 }
 
-/// The last of `times` texts of a report, or of one where that is 0.
+/// Renders a report `times` times, at least once, and returns the last text.
 fn render_times<H: Highlighter>(
     handler: &mut JobHandler<H>,
     alloc: Global,
@@ -97,8 +97,8 @@ fn render_times<H: Highlighter>(
     handler.render(alloc, report)
 }
 
-/// The number of bytes of the text for a description, which is rendered `times` times; 0 where it isn't rendered at
-/// all.
+/// Renders the report of a description `times` times, and returns the number of bytes of its text. Returns 0 if `times`
+/// is 0.
 pub(crate) fn rendered_length(
     alloc: Global,
     bytes: &[u8],
@@ -124,13 +124,13 @@ pub(crate) fn rendered_length(
     Ok(last.len())
 }
 
-/// Reads all, and writes the text that the settings ask for and nothing else.
+/// Reads a description and writes its report as the settings say.
 ///
 /// # Errors
-/// `Read` exactly where a call of the reader failed. `Write` exactly where one of the writer failed, or took nothing:
-/// it has then taken a beginning of the text. `Description` where what was read describes no report. `Refused` only
-/// of a narrated or brief report, where a label that it tells isn't accepted. `Memory` where memory is refused. After
-/// all but `Write` nothing was written.
+/// `Read` exactly if a call of the reader failed. `Write` exactly if a call of the writer failed or took nothing; the
+/// writer then has a beginning of the text. `Description` if the input describes no report. `Refused` only for a
+/// narrated or brief report with a label out of bounds. `Memory` if allocation fails. Except after `Write`, nothing was
+/// written.
 pub fn run<R: Read, W: Write>(
     alloc: Global,
     reader: &mut Device<R>,
@@ -139,7 +139,7 @@ pub fn run<R: Read, W: Write>(
 ) -> Result<(), ProgramError>
     requires reader_sound { reader.old.failed ≡ false }
     requires writer_sound { writer.old.failed ≡ false }
-    // All that the reader had left is a description, and the writer took its text and nothing else.
+    // All remaining input is a description. The writer got its text, and nothing else.
     ensures ok { OnOk result (IfSome (R.remaining reader.old.inner) (λ bytes.
         Writes ⟦<LanguageHighlighter as Highlighter>⟧.is_blank settings.choice settings.options settings.terminal bytes
         (Appends (W.contents writer.old.inner) (W.contents writer.new.inner)))) }
@@ -147,11 +147,11 @@ pub fn run<R: Read, W: Write>(
         IfSome (R.remaining reader.old.inner) IsNoDescription }
     ensures read_failed { IsTrue reader.new.failed ↔ (result ≡ Err ProgramError.Read) }
     ensures write_failed { IsTrue writer.new.failed ↔ (result ≡ Err ProgramError.Write) }
-    // Only a narrated or brief report is refused, and only where a label that it tells isn't accepted.
+    // Only a narrated or brief report is refused, because of a label out of bounds.
     ensures refused { (result ≡ Err ProgramError.Refused) →
         IsTelling settings.choice settings.options settings.terminal
         × IfSome (R.remaining reader.old.inner) IsRefused }
-    // After a write fault a beginning of the text was taken.
+    // After a write error the writer has a beginning of the text.
     ensures beginning { (result ≡ Err ProgramError.Write) → IfSome (R.remaining reader.old.inner) (λ bytes.
         Writes ⟦<LanguageHighlighter as Highlighter>⟧.is_blank settings.choice settings.options settings.terminal bytes
         (TakesBeginning (W.contents writer.old.inner) (W.contents writer.new.inner))) }

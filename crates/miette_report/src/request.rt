@@ -1,31 +1,31 @@
-//! What `job` is asked for, read once from its words.
+//! The request of `job`, parsed once from its arguments.
 
 ghost use Rattle.std.specs.Prelude.{◌≡◌, map, string_bytes};
-ghost use Rattle.miette_program.specs.steps.AskedWords.{IsGiven};
+ghost use Rattle.miette_program.specs.steps.ParsedArguments.{IsGiven};
 ghost use Rattle.miette_report.specs.rules.AppliedFixes.{fixing_of};
 ghost use Rattle.miette_report.specs.rules.Requests.{requested_by};
 ghost use Rattle.miette_report.specs.views.Requests.{request_in};
 
 use miette_devices::fault::ProgramError;
-use miette_lsp::logs::Logging;
+use miette_lsp::logs::LogOptions;
 use miette_program::arguments::Arguments;
 use std::alloc::Global;
 
-/// What `job` is asked for.
+/// What `job` is to do.
 #[derive(Drop)]
 pub enum Request<'w> {
-    /// The report, as these settings say.
+    /// Print the report with these settings.
     Report(Arguments),
-    /// One log of the report: `--sarif` or `--lsp`.
-    Log(Logging<'w>),
-    /// The source after fixes: all of them (`--fix=all`), or those that may be applied without a look (`--fix`).
+    /// Print one log of the report: `--sarif` or `--lsp`.
+    Log(LogOptions<'w>),
+    /// Print the source after fixes: all of them (`--fix=all`), or only the machine-applicable ones (`--fix`).
     Fix {
         /// Whether all fixes are applied.
         all: bool,
     },
 }
 
-/// Which fixes the words ask for: whether it is all of them. Nothing where they are other words.
+/// Returns whether all fixes are applied. Returns `None` if the arguments ask for something else.
 fn fixing(words: &[String]) -> Option<bool>
     ensures { result ≡ fixing_of (map string_bytes words.now) }
 {
@@ -37,17 +37,17 @@ fn fixing(words: &[String]) -> Option<bool>
 }
 
 impl<'w> Request<'w> {
-    /// Reads the words after the program's name.
+    /// Parses the arguments after the program's name.
     ///
     /// # Errors
-    /// `Usage` where they ask for nothing that there is; `Memory` where memory is refused.
+    /// `Usage` for wrong arguments. `Memory` if allocation fails.
     pub fn read(alloc: Global, words: &'w [String]) -> Result<Request<'w>, ProgramError>
         ensures { IsGiven request_in (requested_by (map string_bytes words.now)) result }
     {
         if let Some(all) = fixing(words) {
             return Ok(Request::Fix { all });
         }
-        if let Some(log) = Logging::asked(words, "job") {
+        if let Some(log) = LogOptions::asked(words, "job") {
             return Ok(Request::Log(log));
         }
         let settings = Arguments::read(alloc, words)?;

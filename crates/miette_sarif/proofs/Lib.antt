@@ -6,7 +6,6 @@ pub mod Finishing
 pub mod Gathers
 pub mod Growing
 pub mod Keys
-pub mod Made
 pub mod Noted
 pub mod Picks
 pub mod Pieces

@@ -1,4 +1,4 @@
--- The definitions that users rely on, named as in docs/RULES.md.
+-- The definitions that users rely on, named as in crates/miette_sarif/CALLING.md.
 pub mod Artifacts
 pub mod Codes
 pub mod Findings

@@ -8,4 +8,3 @@ pub mod Handled
 pub mod Rules
 pub mod Sources
 pub mod Tool
-pub mod Values

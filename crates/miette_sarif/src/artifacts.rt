@@ -8,20 +8,20 @@ ghost use Rattle.miette_sarif.specs.rules.Artifacts.{all_named, artifact, artifa
 ghost use Rattle.miette_sarif.specs.rules.Artifacts.{artifact_location};
 ghost use Rattle.miette_sarif.specs.rules.Artifacts.{named_in, named_in_fixes, named_in_marks};
 ghost use Rattle.miette_sarif.specs.rules.Artifacts.{named_in_place, named_in_primary, untitled_after, uri_of};
-ghost use Rattle.miette_json.specs.rules.Json.{items_text, json_text, number, string};
-ghost use Rattle.miette_sarif.specs.rules.Objects.{items_of, listed, object_of, pair};
-ghost use Rattle.miette_sarif.specs.steps.Members.{further};
+ghost use Rattle.miette_json.specs.rules.Json.{number, string};
+ghost use Rattle.miette_json.specs.rules.Writing.{with_value};
+ghost use Rattle.miette_sarif.specs.rules.Objects.{array_of, listed, object_of, pair};
+ghost use Rattle.miette_sarif.specs.steps.Members.{with_pairs};
 ghost use Rattle.miette_sarif.specs.views.Findings.{finding_of, sarif_findings_of, mark_of, source_name_of};
 ghost use Rattle.miette_sarif.specs.views.Findings.{source_names_of, place_of};
 ghost use Rattle.miette_sarif.specs.views.Findings.{applicable_fix_of, texts_of};
 ghost use Rattle.miette_sarif.specs.views.Artifacts.{artifacts_view};
 
 use crate::finding::{Finding, PhysicalLocation, Proposal, SarifLocation, SourceId};
-use crate::members::{push_count, push_plain, push_string};
 use crate::texts::insert_text;
 use crate::uri::name_uri;
-use crate::write::push_comma;
 use indexmap::IndexSet;
+use miette_json::writer::JsonWriter;
 use miette_lines::numbers::push_number;
 use miette_lines::sums::sum;
 use std::alloc::{AllocError, Global};
@@ -193,35 +193,41 @@ pub fn artifacts_in(alloc: Global, findings: &[Finding<'_>]) -> Result<Artifacts
 }
 
 // `{"location": {"uri": "a.rs"}}`
-fn push_artifact(out: &mut String, uri: &str) -> Result<(), AllocError>
-    ensures { OnOk result (string_bytes out.new ≡ string_bytes out.old ++ json_text (artifact uri.now)) }
+fn push_artifact(json: &mut JsonWriter, uri: &str) -> Result<(), AllocError>
+    ensures { OnOk result (json.new ≡ with_value (artifact uri.now) json.old) }
 {
-    push_string(out, "{\"location\": {\"uri\": ", uri)?;
-    push_plain(out, "}}")
+    json.begin_object()?;
+    json.key("location")?;
+    json.begin_object()?;
+    json.string_member("uri", uri)?;
+    json.end_object()?;
+    json.end_object()
 }
 
-// Appends an artifact for each URI, then the closing bracket.
-fn push_artifacts(out: &mut String, uris: &[String]) -> Result<(), AllocError>
-    ensures { OnOk result (string_bytes out.new
-        ≡ string_bytes out.old ++ items_text (items_of (map artifact (texts_of uris.now)))) }
+// Writes the list of artifacts, one for each URI.
+fn push_artifacts(json: &mut JsonWriter, uris: &[String]) -> Result<(), AllocError>
+    ensures { OnOk result (json.new ≡ with_value (array_of (map artifact (texts_of uris.now))) json.old) }
 {
-    let mut first = true;
+    json.begin_list()?;
     for uri in uris {
-        push_comma(out, first)?;
-        push_artifact(out, uri.as_str())?;
-        first = false;
+        push_artifact(json, uri.as_str())?;
     }
-    push_plain(out, "]")
+    json.end_list()
 }
 
 // `{"uri": "a.rs","index": 0}`
-fn push_artifact_location_at(out: &mut String, uri: &str, index: usize) -> Result<(), AllocError>
-    ensures { OnOk result (string_bytes out.new ≡ string_bytes out.old
-        ++ json_text (object_of (pair (codes "uri") (string uri.now) ++ pair (codes "index") (number index)))) }
+fn push_artifact_location_at(
+    json: &mut JsonWriter,
+    uri: &str,
+    index: usize,
+) -> Result<(), AllocError>
+    ensures { OnOk result (json.new ≡ with_value
+        (object_of (pair (codes "uri") (string uri.now) ++ pair (codes "index") (number index))) json.old) }
 {
-    push_string(out, "{\"uri\": ", uri)?;
-    push_count(out, ",\"index\": ", index)?;
-    push_plain(out, "}")
+    json.begin_object()?;
+    json.string_member("uri", uri)?;
+    json.number_member("index", index)?;
+    json.end_object()
 }
 
 impl Artifacts {
@@ -233,31 +239,31 @@ impl Artifacts {
         uri_of(alloc, &self.untitled, &source)
     }
 
-    /// Appends `{"uri": "a.rs","index": 0}`: the URI of a source, and the index of its artifact.
+    /// Writes `{"uri": "a.rs","index": 0}`: the URI of a source, and the index of its artifact.
     pub(crate) fn push_artifact_location(
         &self,
-        out: &mut String,
+        json: &mut JsonWriter,
         source: SourceId<'_>,
     ) -> Result<(), AllocError>
-        ensures { OnOk result (string_bytes out.new ≡ string_bytes out.old
-            ++ json_text (artifact_location (artifacts_view self.now) (source_name_of source.entry))) }
+        ensures { OnOk result (json.new
+            ≡ with_value (artifact_location (artifacts_view self.now) (source_name_of source.entry)) json.old) }
     {
-        let uri = uri_of(*out.allocator(), &self.untitled, &source)?;
+        let uri = uri_of(json.allocator(), &self.untitled, &source)?;
         let text = uri.as_str();
         let index = self.uris.get_index_of(text).unwrap_or(0);
-        push_artifact_location_at(out, text, index)
+        push_artifact_location_at(json, text, index)
     }
 
-    /// Appends `,"artifacts": [{"location": {"uri": "a.rs"}}]`, or nothing without artifacts.
-    pub(crate) fn push_all(&self, out: &mut String) -> Result<(), AllocError>
-        ensures { OnOk result (string_bytes out.new ≡ string_bytes out.old
-            ++ further (listed (codes "artifacts") (artifact_values (artifacts_view self.now)))) }
+    /// Writes `"artifacts": [{"location": {"uri": "a.rs"}}]`, or nothing without artifacts.
+    pub(crate) fn push_all(&self, json: &mut JsonWriter) -> Result<(), AllocError>
+        ensures { OnOk result (json.new
+            ≡ with_pairs (listed (codes "artifacts") (artifact_values (artifacts_view self.now))) json.old) }
     {
         let uris = self.uris.as_slice();
         if uris.is_empty() {
             return Ok(());
         }
-        push_plain(out, ",\"artifacts\": [")?;
-        push_artifacts(out, uris)
+        json.key("artifacts")?;
+        push_artifacts(json, uris)
     }
 }

@@ -211,8 +211,8 @@ fn applicable(
     match check_edits(alloc, text.bytes().len(), edits) {
         Ok(list) => replacements(alloc, text.bytes(), drafts(alloc, text, &list)?),
         Err(FixError::Memory) => Err(AllocError),
-        Err(FixError::OutOfBounds) => Ok(None),
-        Err(FixError::Overlap) => Ok(None),
+        Err(FixError::OutOfBounds { .. }) => Ok(None),
+        Err(FixError::Overlap { .. }) => Ok(None),
     }
 }
 

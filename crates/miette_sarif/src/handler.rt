@@ -86,7 +86,7 @@ impl SarifReportHandler {
 
     /// Appends the log of a report. If allocation fails, `out` is unchanged.
     pub fn render_report(&self, report: &Report, out: &mut String) -> Result<(), RenderError>
-        // The text spells the log, for some answers of the sources. It denotes that value and no other.
+        // The text spells the log, for some answers of the sources. It represents that value and no other.
         ensures text { let tree = tree_of ⟦<Box<dyn Diagnostic> as Diagnostic>⟧.meaning
             ⟦<Box<dyn SourceCode> as SourceCode>⟧.source report.now in
             OnOk result (AppendsOne (IsLogOf (tool_in self.now) (trees (tree ∷ [])))
@@ -108,7 +108,7 @@ impl SarifReportHandler {
         reports: &[Report<D, S>],
         out: &mut String,
     ) -> Result<(), RenderError>
-        // The text spells the log, for some answers of the sources. It denotes that value and no other.
+        // The text spells the log, for some answers of the sources. It represents that value and no other.
         ensures text { let tree = tree_of D.meaning S.source in
             OnOk result (AppendsOne (IsLogOf (tool_in self.now) (trees (map tree reports.now)))
             (string_bytes out.old) (string_bytes out.new)) }

@@ -1,5 +1,5 @@
 //! The SARIF report: a log of static analysis results (OASIS, version 2.1.0), its text, and the value that the text
-//! denotes.
+//! represents.
 #![tactic(auto)]
 
 pub mod artifacts;
@@ -11,15 +11,12 @@ pub mod handler;
 mod labels;
 pub mod laws;
 mod log;
-mod members;
 mod message;
 mod places;
 mod report_texts;
-pub mod results;
+mod results;
 mod rules;
 mod snapshots;
-mod texts;
+pub mod texts;
 pub mod uri;
-pub mod value;
 mod whole;
-pub mod write;

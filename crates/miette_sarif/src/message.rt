@@ -2,7 +2,7 @@
 
 ghost use Rattle.std.specs.Prelude.{◌≡◌, ◌++◌, true, map, OnOk, string_bytes, position};
 ghost use Rattle.std.specs.Option.{option_copied};
-ghost use Rattle.miette_json.specs.rules.Json.{json_text};
+ghost use Rattle.miette_json.specs.rules.Writing.{with_value};
 ghost use Rattle.miette_sarif.specs.rules.Messages.{is_brace, double_byte, doubled, maybe_row, row, rows};
 ghost use Rattle.miette_sarif.specs.rules.Objects.{message_of};
 ghost use Rattle.miette_sarif.specs.rules.Results.{result_message_text, see_row};
@@ -10,8 +10,8 @@ ghost use Rattle.miette_sarif.specs.views.Findings.{finding_of};
 ghost use Rattle.miette_sarif.specs.views.Rules.{rules_view};
 
 use crate::finding::Finding;
-use crate::members::{push_plain, push_string};
 use crate::rules::Rules;
+use miette_json::writer::JsonWriter;
 use std::alloc::{AllocError, Global};
 
 // Whether a byte is a brace.
@@ -88,22 +88,22 @@ pub(crate) fn push_optional_row(
     }
 }
 
-/// Appends a message whose text is used unchanged: `{"text": "1"}`
-pub(crate) fn push_plain_message(out: &mut String, text: &str) -> Result<(), AllocError>
-    ensures { OnOk result (string_bytes out.new ≡ string_bytes out.old ++ json_text (message_of text.now)) }
+/// Writes a message whose text is used unchanged: `{"text": "1"}`
+pub(crate) fn push_plain_message(json: &mut JsonWriter, text: &str) -> Result<(), AllocError>
+    ensures { OnOk result (json.new ≡ with_value (message_of text.now) json.old) }
 {
-    push_string(out, "{\"text\": ", text)?;
-    push_plain(out, "}")
+    json.begin_object()?;
+    json.string_member("text", text)?;
+    json.end_object()
 }
 
-/// Appends a message, with braces doubled.
-pub(crate) fn push_doubled_message(out: &mut String, text: &str) -> Result<(), AllocError>
-    ensures { OnOk result (string_bytes out.new
-        ≡ string_bytes out.old ++ json_text (message_of (doubled text.now))) }
+/// Writes a message, with braces doubled.
+pub(crate) fn push_doubled_message(json: &mut JsonWriter, text: &str) -> Result<(), AllocError>
+    ensures { OnOk result (json.new ≡ with_value (message_of (doubled text.now)) json.old) }
 {
-    let mut doubled = String::new(*out.allocator());
+    let mut doubled = String::new(json.allocator());
     push_doubled(&mut doubled, text)?;
-    push_plain_message(out, doubled.as_str())
+    push_plain_message(json, doubled.as_str())
 }
 
 // Appends the url, unless it is the rule's help address.
@@ -142,17 +142,17 @@ fn push_message<'a>(
     push_see(out, alloc, rules, finding)
 }
 
-/// Appends the message of a result: `{"text": "oops"}`
+/// Writes the message of a result: `{"text": "oops"}`
 pub(crate) fn push_result_message<'a>(
-    out: &mut String,
+    json: &mut JsonWriter,
     rules: &Rules<'a>,
     finding: &Finding<'a>,
 ) -> Result<(), AllocError>
-    ensures { OnOk result (string_bytes out.new ≡ string_bytes out.old
-        ++ json_text (message_of (result_message_text (rules_view rules.now) (finding_of finding.now)))) }
+    ensures { OnOk result (json.new
+        ≡ with_value (message_of (result_message_text (rules_view rules.now) (finding_of finding.now))) json.old) }
 {
-    let alloc = *out.allocator();
+    let alloc = json.allocator();
     let mut text = String::new(alloc);
     push_message(&mut text, alloc, rules, finding)?;
-    push_plain_message(out, text.as_str())
+    push_plain_message(json, text.as_str())
 }

@@ -1,24 +1,24 @@
 //! The rules of a log: one for each code, in the order of the first result with that code.
 
-ghost use Rattle.std.specs.Prelude.{◌≡◌, ◌++◌, ℕ, List, IfOk, OnOk, codes, if◌then◌else◌, string_bytes};
+ghost use Rattle.std.specs.Prelude.{◌≡◌, ◌++◌, ℕ, List, IfOk, OnOk, codes, if◌then◌else◌};
 ghost use Rattle.std.specs.Option.{option_copied};
 ghost use Rattle.std.specs.Str.{bytes_eq};
 ghost use Rattle.indexmap.specs.IndexSet.{insert_key};
 ghost use Rattle.miette_lines.specs.rules.Lists.{is_nil};
-ghost use Rattle.miette_json.specs.rules.Json.{items_text, json_text, string};
+ghost use Rattle.miette_json.specs.rules.Json.{string};
+ghost use Rattle.miette_json.specs.rules.Writing.{with_value};
 ghost use Rattle.miette_sarif.specs.rules.Codes.{absolute_uri, codes_after, first_or, has_code, help_uri};
 ghost use Rattle.miette_sarif.specs.rules.Codes.{is_uri_of_rule, rule_pairs};
-ghost use Rattle.miette_sarif.specs.rules.Objects.{items_of, listed, optional_text_pairs, pair};
-ghost use Rattle.miette_sarif.specs.steps.Members.{further, open_object};
+ghost use Rattle.miette_sarif.specs.rules.Objects.{array_of, listed, optional_text_pairs, pair};
+ghost use Rattle.miette_sarif.specs.steps.Members.{with_pairs};
 ghost use Rattle.miette_sarif.specs.rules.Codes.{rule_value, rule_values, rule_values_of, rules_in};
 ghost use Rattle.miette_sarif.specs.views.Findings.{finding_of, sarif_findings_of};
 ghost use Rattle.miette_sarif.specs.views.Rules.{codes_seen, option_text, rules_view, uri_at};
 
 use crate::finding::Finding;
-use crate::members::{push_count, push_plain, push_string};
 use crate::uri::{address_uri, is_absolute_uri};
-use crate::write::push_comma;
 use indexmap::{IndexMap, IndexSet};
+use miette_json::writer::JsonWriter;
 use std::alloc::{AllocError, Global};
 
 /// The codes, and the help address of each as a URI. The address is the first absolute url of a result with that code.
@@ -119,63 +119,63 @@ pub(crate) fn rules_in<'a>(alloc: Global, findings: &[Finding<'a>]) -> Result<Ru
     Ok(Rules { codes, uris })
 }
 
-// `,"helpUri": "https://x.org/oops"`, or nothing without an address.
-fn push_uri(out: &mut String, uri: Option<&String>) -> Result<(), AllocError>
-    ensures { OnOk result (string_bytes out.new ≡ string_bytes out.old
-        ++ further (optional_text_pairs (codes "helpUri") (option_text (option_copied uri.entry)))) }
+// `"helpUri": "https://x.org/oops"`, or nothing without an address.
+fn push_uri(json: &mut JsonWriter, uri: Option<&String>) -> Result<(), AllocError>
+    ensures { OnOk result (json.new
+        ≡ with_pairs (optional_text_pairs (codes "helpUri") (option_text (option_copied uri.entry))) json.old) }
 {
     match uri {
-        Some(uri) => push_string(out, ",\"helpUri\": ", uri.as_str()),
+        Some(uri) => json.string_member("helpUri", uri.as_str()),
         None => Ok(()),
     }
 }
 
 // `{"id": "oops","helpUri": "https://x.org/oops"}`
-fn push_rule(out: &mut String, code: &str, uri: Option<&String>) -> Result<(), AllocError>
-    ensures { OnOk result (string_bytes out.new ≡ string_bytes out.old
-        ++ json_text (rule_value code.now (option_text (option_copied uri.entry)))) }
+fn push_rule(json: &mut JsonWriter, code: &str, uri: Option<&String>) -> Result<(), AllocError>
+    ensures { OnOk result (json.new
+        ≡ with_value (rule_value code.now (option_text (option_copied uri.entry))) json.old) }
 {
-    push_string(out, "{\"id\": ", code)?;
-    push_uri(out, uri)?;
-    push_plain(out, "}")
+    json.begin_object()?;
+    json.string_member("id", code)?;
+    push_uri(json, uri)?;
+    json.end_object()
 }
 
-// Appends a rule for each code, then the closing bracket.
+// Writes the list of rules, one for each code.
 fn push_rules(
-    out: &mut String,
+    json: &mut JsonWriter,
     codes: &[&str],
     uris: &IndexMap<&str, String>,
 ) -> Result<(), AllocError>
-    ensures { OnOk result (string_bytes out.new ≡ string_bytes out.old
-        ++ items_text (items_of (rule_values_of (codes_seen codes.now) (uri_at uris.now)))) }
+    ensures { OnOk result (json.new
+        ≡ with_value (array_of (rule_values_of (codes_seen codes.now) (uri_at uris.now))) json.old) }
 {
-    let mut first = true;
+    json.begin_list()?;
     for code in codes {
-        push_comma(out, first)?;
-        push_rule(out, code, uris.get(*code))?;
-        first = false;
+        push_rule(json, code, uris.get(*code))?;
     }
-    push_plain(out, "]")
+    json.end_list()
 }
 
 impl<'a> Rules<'a> {
-    /// Starts a result: `{"ruleId": "oops","ruleIndex": 0,"level": "error"`. Without a code it has only the level.
+    /// Writes rule and level of a result: `"ruleId": "oops","ruleIndex": 0,"level": "error"`. Without a code there is
+    /// only the level.
     pub(crate) fn push_result_start(
         &self,
-        out: &mut String,
+        json: &mut JsonWriter,
         code: &str,
         level: &str,
     ) -> Result<(), AllocError>
-        ensures { OnOk result (string_bytes out.new ≡ string_bytes out.old
-            ++ open_object (rule_pairs (rules_view self.now) code.now ++ pair (codes "level") (string level.now))) }
+        ensures { OnOk result (json.new ≡ with_pairs
+            (rule_pairs (rules_view self.now) code.now ++ pair (codes "level") (string level.now)) json.old) }
     {
         if code.is_empty() {
-            return push_string(out, "{\"level\": ", level);
+            return json.string_member("level", level);
         }
         let index = self.codes.get_index_of(code).unwrap_or(0);
-        push_string(out, "{\"ruleId\": ", code)?;
-        push_count(out, ",\"ruleIndex\": ", index)?;
-        push_string(out, ",\"level\": ", level)
+        json.string_member("ruleId", code)?;
+        json.number_member("ruleIndex", index)?;
+        json.string_member("level", level)
     }
 
     /// Whether a url is the help address of a code's rule.
@@ -188,16 +188,16 @@ impl<'a> Rules<'a> {
         Ok(is_absolute_uri(url) && address_uri(alloc, url)? == *uri)
     }
 
-    /// Appends `,"rules": [{"id": "oops","helpUri": "https://x.org/oops"}]`, or nothing without rules.
-    pub(crate) fn push_all(&self, out: &mut String) -> Result<(), AllocError>
-        ensures { OnOk result (string_bytes out.new ≡ string_bytes out.old
-            ++ further (listed (codes "rules") (rule_values (rules_view self.now)))) }
+    /// Writes `"rules": [{"id": "oops","helpUri": "https://x.org/oops"}]`, or nothing without rules.
+    pub(crate) fn push_all(&self, json: &mut JsonWriter) -> Result<(), AllocError>
+        ensures { OnOk result (json.new
+            ≡ with_pairs (listed (codes "rules") (rule_values (rules_view self.now))) json.old) }
     {
         let codes = self.codes.as_slice();
         if codes.is_empty() {
             return Ok(());
         }
-        push_plain(out, ",\"rules\": [")?;
-        push_rules(out, codes, &self.uris)
+        json.key("rules")?;
+        push_rules(json, codes, &self.uris)
     }
 }

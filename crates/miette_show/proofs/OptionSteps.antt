@@ -4,12 +4,12 @@ use Rattle.std.proofs.Common.{◌==◌, None, IfSome, codes, bytes_eq, refl, sym
 use Rattle.std.specs.Prelude.{decimal, is_some, option_map}
 use Rattle.std.specs.Option.{option_and_then, option_map_or}
 use Rattle.std.proofs.lemmas.Fmt.{decimal_is_IsNumeral}
-use Rattle.miette_devices.specs.declared.output.Output.{Output}
-use Rattle.miette_devices.specs.declared.output.Output.TheVariants.{Graphical, Narrated, Brief, Github, Json, Debug}
-use Rattle.miette_devices.specs.declared.output.Output.TheVariants.{Sarif, Lsp}
-use Rattle.miette_devices.specs.rules.Outputs.{output_named}
+use Rattle.miette_devices.specs.declared.output_form.OutputForm.{OutputForm}
+use Rattle.miette_devices.specs.declared.output_form.OutputForm.TheVariants.{Graphical, Narrated, Brief, Github, Json, Debug}
+use Rattle.miette_devices.specs.declared.output_form.OutputForm.TheVariants.{Sarif, Lsp}
+use Rattle.miette_devices.specs.rules.OutputForms.{form_named}
 use Rattle.miette_program.proofs.OptionWordSteps.{number_read}
-use Rattle.miette_program.specs.rules.OptionWords.{JobRequest, asked_by, color_named, language_named, nothing_asked}
+use Rattle.miette_program.specs.rules.OptionWords.{JobRequest, parsed_arguments, color_named, language_named, no_arguments}
 use Rattle.miette_program.specs.rules.OptionWords.{read_number, rgb_named, separator_named, theme_named, with_answer}
 use Rattle.miette_program.specs.rules.OptionWords.{with_count, with_form, with_name, with_number, with_read}
 use Rattle.miette_program.specs.rules.OptionWords.{with_terminal, with_value, with_words, with_words_after}
@@ -62,7 +62,7 @@ either_way None f g x y h k = k
 either_way (Some a) f g x y h k = h a
 
 module _ (r s : JobRequest) where
-  form_alike : (form : Output) → Alike (with_form form r) (with_form form s)
+  form_alike : (form : OutputForm) → Alike (with_form form r) (with_form form s)
   form_alike Graphical = given _ _
   form_alike Narrated = given _ _
   form_alike Brief = given _ _
@@ -126,10 +126,10 @@ module _ (r s : JobRequest) where
 words_alike : (ws : List (List ℕ)) (r s : JobRequest) → Alike (with_words ws r) (with_words ws s)
 words_alike [] r s = given r s
 words_alike (w ∷ []) r s =
-    either_way (output_named w) _ _ _ _
+    either_way (form_named w) _ _ _ _
     (λ form. after _ _ (with_words []) (λ a b. given a b) (form_alike r s form)) nothing
 words_alike (w ∷ (v ∷ ws)) r s =
-    either_way (output_named w) _ _ _ _
+    either_way (form_named w) _ _ _ _
     (λ form. after _ _ (with_words (v ∷ ws)) (λ a b. words_alike (v ∷ ws) a b) (form_alike r s form))
     (after _ _ (with_words ws) (λ a b. words_alike ws a b) (value_alike r s w v))
 
@@ -138,9 +138,9 @@ words_alike (w ∷ (v ∷ ws)) r s =
 record Wrong (ws : List (List ℕ)) : Type 0 where
   all : (r : JobRequest) → with_words ws r ≡ None
 
-all_wrong : (ws : List (List ℕ)) → asked_by ws ≡ None → Wrong ws
+all_wrong : (ws : List (List ℕ)) → parsed_arguments ws ≡ None → Wrong ws
 all_wrong ws none =
-    record { all = λ r. none_of (asked_by ws) (with_words ws r) none (words_alike ws nothing_asked r) }
+    record { all = λ r. none_of (parsed_arguments ws) (with_words ws r) none (words_alike ws no_arguments r) }
 
 no_more : (o : Option JobRequest) (f : JobRequest → Option JobRequest) → ((r : JobRequest) → f r ≡ None)
     → option_and_then f o ≡ None
@@ -148,29 +148,29 @@ no_more None f h = refl
 no_more (Some r) f h = h r
 
 -- what an option and its value ask for, where the option is no form of output
-pair : (w v : List ℕ) (ws : List (List ℕ)) (r : JobRequest) → output_named w ≡ None
+pair : (w v : List ℕ) (ws : List (List ℕ)) (r : JobRequest) → form_named w ≡ None
     → with_words (w ∷ (v ∷ ws)) r ≡ option_and_then (with_words ws) (with_value w v r)
 pair w v ws r none =
-    ap (λ (o : Option Output). option_map_or (λ form. option_and_then (with_words (v ∷ ws)) (with_form form r)) o
+    ap (λ (o : Option OutputForm). option_map_or (λ form. option_and_then (with_words (v ∷ ws)) (with_form form r)) o
     (with_words_after w (v ∷ ws) r)) none
 
-wrong_after : (w v : List ℕ) (ws : List (List ℕ)) → output_named w ≡ None → Wrong ws → Wrong (w ∷ (v ∷ ws))
+wrong_after : (w v : List ℕ) (ws : List (List ℕ)) → form_named w ≡ None → Wrong ws → Wrong (w ∷ (v ∷ ws))
 wrong_after w v ws none h =
     record { all = λ r. pair w v ws r none ∙ no_more (with_value w v r) (with_words ws) h.all }
 
-no_width : output_named (codes "--term-width") ≡ None
+no_width : form_named (codes "--term-width") ≡ None
 no_width = refl
 
-no_color : output_named (codes "--term-color") ≡ None
+no_color : form_named (codes "--term-color") ≡ None
 no_color = refl
 
-no_unicode : output_named (codes "--term-unicode") ≡ None
+no_unicode : form_named (codes "--term-unicode") ≡ None
 no_unicode = refl
 
-no_links : output_named (codes "--term-links") ≡ None
+no_links : form_named (codes "--term-links") ≡ None
 no_links = refl
 
-no_graphics : output_named (codes "--no-graphics") ≡ None
+no_graphics : form_named (codes "--no-graphics") ≡ None
 no_graphics = refl
 
 -- the options of a terminal by the values that they have
@@ -192,13 +192,13 @@ module _ (ws : List (List ℕ)) (h : Wrong ws) (color unicode links : List ℕ) 
   front_wrong None graphics = rest_wrong graphics
   front_wrong (Some n) graphics = wrong_after _ (decimal n) _ no_width (rest_wrong graphics)
 
-pub wrong_there : (t : Terminal) (ws : List (List ℕ)) → asked_by ws ≡ None → asked_by (terminal_words t ++ ws) ≡ None
+pub wrong_there : (t : Terminal) (ws : List (List ℕ)) → parsed_arguments ws ≡ None → parsed_arguments (terminal_words t ++ ws) ≡ None
 wrong_there t ws none =
     let there : Wrong (terminal_words t ++ ws) =
     front_wrong ws (all_wrong ws none) (color_name t.color) (yes_or_no t.unicode) (yes_or_no t.hyperlinks) t.width
     (option_map string_bytes t.no_graphics)
     in
-    there.all nothing_asked
+    there.all no_arguments
 
 -- ---- right options are right after those of a terminal
 
@@ -208,7 +208,7 @@ record Right (ws : List (List ℕ)) : Type 0 where
 record Given (w v : List ℕ) : Type 0 where
   all : (r : JobRequest) → (s : JobRequest) × (with_value w v r ≡ Some s)
 
-right_after : (w v : List ℕ) (ws : List (List ℕ)) → output_named w ≡ None → Given w v → Right ws
+right_after : (w v : List ℕ) (ws : List (List ℕ)) → form_named w ≡ None → Given w v → Right ws
     → Right (w ∷ (v ∷ ws))
 right_after w v ws none it h =
     record {
@@ -267,20 +267,20 @@ module _ (ws : List (List ℕ)) (h : Right ws) (color : Option Bool) (unicode li
   front_right (Some n) graphics low = right_after _ _ _ no_width (given_width n low) (rest_right graphics)
 
 module _ (t : Terminal) (low : IfSome t.width (λ n. n < 2 ^ 64)) (ws : List (List ℕ))
-    (none : asked_by (terminal_words t ++ ws) ≡ None) where
-  left : (o : Option JobRequest) → asked_by ws ≡ o → o ≡ None
+    (none : parsed_arguments (terminal_words t ++ ws) ≡ None) where
+  left : (o : Option JobRequest) → parsed_arguments ws ≡ o → o ≡ None
   left None e = refl
   left (Some a) e =
       let right : Right ws = record {
-        all = λ r. some_of (asked_by ws) (with_words ws r) a e (words_alike ws nothing_asked r);
+        all = λ r. some_of (parsed_arguments ws) (with_words ws r) a e (words_alike ws no_arguments r);
       }
       in
       let all : Right (terminal_words t ++ ws) =
       front_right ws right t.color t.unicode t.hyperlinks t.width (option_map string_bytes t.no_graphics) low
       in
-      let there = all.all nothing_asked in
+      let there = all.all no_arguments in
       let no : None ≡ Some there.0 = sym none ∙ there.1 in
       absurd (cc)
 
-  pub wrong_alone : asked_by ws ≡ None
-  wrong_alone = left (asked_by ws) refl
+  pub wrong_alone : parsed_arguments ws ≡ None
+  wrong_alone = left (parsed_arguments ws) refl

@@ -8,7 +8,7 @@ use Rattle.miette.specs.declared.terminal.Variables.{Variables}
 use Rattle.miette.specs.rules.Detection.{IsDetected}
 use Rattle.miette_lsp.specs.rules.LogWords.{LogRequest, logging_of}
 use Rattle.miette_program.specs.declared.arguments.Arguments.{Arguments}
-use Rattle.miette_program.specs.rules.OptionWords.{AreWanted, asked_by}
+use Rattle.miette_program.specs.rules.OptionWords.{AreParsed, parsed_arguments}
 use Rattle.miette_program.specs.rules.OptionWords as table
 use Rattle.miette_style.specs.declared.theme.Terminal.{Terminal}
 use Rattle.miette_show.specs.rules.ShowWords.{FrontWords, ShowRequest, IsWrong, asked_for, draw, fix, folder_in, log}
@@ -47,23 +47,23 @@ AreInTerminal told options words = (v : Variables) × (t : Terminal) × told v �
 
 pub drawn : (told : Variables → Type 0) (front : FrontWords) (words read : List (List ℕ)) (it : Arguments)
     → request_of front ≡ draw front.from front.options → AreInTerminal told front.options words → read ≡ words
-    → AreWanted read it.choice it.options it.terminal
+    → AreParsed read it.choice it.options it.terminal
     → IsRequest told (Some (request_of front)) (Draw front.from it)
 drawn told front words read it asked (v, t, tells, detected, low, are) same wanted =
-    (front.options, ap Some asked, (v, t, tells, detected, ap asked_by (sym (same ∙ are)) ∙ wanted))
+    (front.options, ap Some asked, (v, t, tells, detected, ap parsed_arguments (sym (same ∙ are)) ∙ wanted))
 
 pub not-drawn : (told : Variables → Type 0) (front : FrontWords) (words read : List (List ℕ))
     → request_of front ≡ draw front.from front.options → AreInTerminal told front.options words → read ≡ words
-    → asked_by read ≡ None → IsWrong (Some (request_of front))
+    → parsed_arguments read ≡ None → IsWrong (Some (request_of front))
 not-drawn told front words read asked (v, t, tells, detected, low, are) same none =
     subst (λ it. IsWrong (Some it)) (sym asked)
-    (wrong_alone t low front.options (ap asked_by (sym (same ∙ are)) ∙ none))
+    (wrong_alone t low front.options (ap parsed_arguments (sym (same ∙ are)) ∙ none))
 
 -- a request is not one of wrong arguments
 pub not-wrong : (told : Variables → Type 0) (asked : Option ShowRequest) (it : code.ShowRequest)
     → IsRequest told asked it → IsWrong asked → ⊥
 not-wrong told asked (Draw from it) (options, is, (v, t, tells, detected, wanted)) wrong =
-    let none : asked_by options ≡ None = subst IsWrong is wrong in
+    let none : parsed_arguments options ≡ None = subst IsWrong is wrong in
     let no : None ≡ Some (table.request_of it.choice it.options it.terminal) =
     sym (wrong_there t options none) ∙ wanted
     in

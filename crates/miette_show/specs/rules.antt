@@ -1,4 +1,4 @@
--- The definitions that users rely on, as in docs/RULES.md.
+-- The definitions that users rely on, as in crates/miette_show/CALLING.md.
 pub mod ValueKinds
 pub mod ShownRow
 pub mod Logging

@@ -17,7 +17,7 @@ use crate::show::ShowStreams;
 use crate::words::Format;
 use miette_devices::fault::{Program, ProgramError};
 use miette_devices::whole::write_whole;
-use miette_lsp::logs::{LogForm, Logging};
+use miette_lsp::logs::{LogForm, LogOptions};
 use miette_show_rows::loader::FileLoader;
 use miette_show_rows::verdict::Verdict;
 use std::alloc::Global;
@@ -33,23 +33,24 @@ fn needs_places(form: LogForm) -> bool
     }
 }
 
-/// Reads all rows that are left, and writes one log of all their messages, in order, after what is passed on. A SARIF
-/// log has those alone that have a place, and the others are said beside it.
+/// Reads all remaining lines, and writes one log of all their messages, in order, after the lines that are passed on. A
+/// SARIF log has only the messages with a location; the others are reported beside it.
 ///
 /// # Errors
-/// `Read` exactly where a call of the reader failed, `Write` exactly where one of the writers failed. `Memory`.
+/// `Read` exactly if a call of the reader failed. `Write` exactly if a call of one of the writers failed. `Memory` if
+/// allocation fails.
 pub fn log_on<F: FileLoader, R: Read, W: Write, E: Write>(
     alloc: Global,
     from: Format,
-    log: Logging<'_>,
+    log: LogOptions<'_>,
     files: &mut F,
     streams: &mut ShowStreams<R, W, E>,
 ) -> Result<Verdict, ProgramError>
     requires rows_sound { streams.old.rows.failed ≡ false }
     requires writer_sound { streams.old.writer.failed ≡ false }
     requires faults_sound { streams.old.faults.failed ≡ false }
-    // The writer took the log of all reports in their order, of a SARIF log of those that have a place, and the other
-    // one each row that has no message, and what is said of the others.
+    // The writer got the log of all reports in order; a SARIF log has only those with a location. The error stream got
+    // each line that has no message, and what is said about the other reports.
     ensures ok { IfOk result (λ verdict. IfSome (left_of R.remaining streams.old.rows) (λ bytes.
         Logs from (needs_places log.entry.form) (IsFoundBy F.found F.knows files.old) bytes (λ ts notes.
         Appends (W.contents streams.old.writer.inner) (W.contents streams.new.writer.inner)
@@ -63,7 +64,7 @@ pub fn log_on<F: FileLoader, R: Read, W: Write, E: Write>(
         (logged_text log.entry (trees ts))
         × Appends (E.contents streams.old.faults.inner) (E.contents streams.new.faults.inner) notes))) }
     ensures untouched { OnErr result ((result ≡ Err ProgramError.Write) ⊎ (streams.new.writer ≡ streams.old.writer)) }
-    // The other one took a beginning of what is passed on.
+    // The error stream has a beginning of what is passed on.
     ensures noted { OnErr result (IfSome (left_of R.remaining streams.old.rows) (λ bytes.
         LogsFirst from (needs_places log.entry.form) (IsFoundBy F.found F.knows files.old) bytes
         (TakesBeginning (E.contents streams.old.faults.inner) (E.contents streams.new.faults.inner)))) }
@@ -86,12 +87,12 @@ pub fn log_on<F: FileLoader, R: Read, W: Write, E: Write>(
     Ok(verdict)
 }
 
-/// Writes one log of all messages of a reader, and gives the status: that of the verdict; 2 for every fault, of which a
-/// row goes to `faults`.
+/// Writes one log of all messages of a reader, and returns the exit code: that of the verdict, or 2 after an error,
+/// whose message goes to `faults`.
 pub fn log_with<F, R, W, E>(
     alloc: Global,
     from: Format,
-    log: Logging<'_>,
+    log: LogOptions<'_>,
     files: &mut F,
     streams: ShowStreams<R, W, E>,
 ) -> u8

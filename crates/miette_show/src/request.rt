@@ -22,7 +22,7 @@ use crate::words::{Format, FrontWords};
 use miette::terminal::{Lookup, Streams as Terminals};
 use miette_devices::fault::ProgramError;
 use miette_highlight::highlight::Highlighter;
-use miette_lsp::logs::Logging;
+use miette_lsp::logs::LogOptions;
 use miette_program::arguments::Arguments;
 use miette_program::language::LanguageHighlighter;
 use miette_read::files::Files;
@@ -50,7 +50,7 @@ pub enum ShowRequest<'w> {
         /// The input format.
         from: Format,
         /// The form of the log, and the name of the tool.
-        log: Logging<'w>,
+        log: LogOptions<'w>,
     },
     /// Fixes files: `--fix`.
     Fix {
@@ -88,7 +88,7 @@ fn read_request<'w, R: Lookup + AllocGlobal + Terminals>(
             broken: front.broken,
         });
     }
-    if let Some(log) = Logging::asked(front.options, "show") {
+    if let Some(log) = LogOptions::asked(front.options, "show") {
         return Ok(ShowRequest::Log { from, log });
     }
     let options = options_in_terminal(rt, front.options)?;

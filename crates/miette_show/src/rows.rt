@@ -42,7 +42,7 @@ pub fn either(one: bool, other: bool) -> bool
     one || other
 }
 
-/// What failed, in words.
+/// Says what failed.
 fn failure_words(what: Failure) -> &'static str
     ensures { result.now ≡ failure_words what }
 {
@@ -52,7 +52,7 @@ fn failure_words(what: Failure) -> &'static str
     }
 }
 
-/// What is said of a row that says what failed.
+/// What is said about a line that says what failed.
 fn failure_note(alloc: Global, number: u64, what: Failure) -> Result<String, AllocError>
     ensures { IfOk result (λ text. string_bytes text ≡ failure_note number what) }
 {
@@ -80,7 +80,8 @@ fn say_failure<E: Write>(
     write_whole(faults, text.as_bytes())
 }
 
-/// Passes on a row that isn't shown, after a note where it can't be read; of one that says what failed, a note alone.
+/// Passes on a line that isn't shown, after a note if it can't be read. If the line says what failed, only a note is
+/// printed.
 pub fn pass_on<E: Write>(
     alloc: Global,
     faults: &mut Device<E>,

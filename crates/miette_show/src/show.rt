@@ -27,7 +27,7 @@ use miette_show_rows::verdict::{RowKind, Verdict};
 use std::alloc::Global;
 use std::io::{Read, Write};
 
-/// Writes what is shown of a row; what the row is.
+/// Prints what is shown of a line, and returns what the line is.
 fn show_row<H: Highlighter, F: FileLoader, W: Write>(
     alloc: Global,
     handler: &mut JobHandler<H>,
@@ -40,7 +40,7 @@ fn show_row<H: Highlighter, F: FileLoader, W: Write>(
         × IsShown row.entry.from (IsGiven H.is_blank H.may_follow handler.old) (IsFoundBy F.found F.knows files.old)
         (record { row = row.entry.bytes.now; kind = kind; text = text })
         × Appends (W.contents writer.old.inner) (W.contents writer.new.inner) text) }
-    // After a write fault a beginning of what is shown was taken, after other errors nothing.
+    // After a write error the writer has a beginning of what is shown, after other errors nothing.
     ensures beginning { (result ≡ Err ProgramError.Write) → (kind : RowKind) × (text : List ℕ)
         × IsShown row.entry.from (IsGiven H.is_blank H.may_follow handler.old) (IsFoundBy F.found F.knows files.old)
         (record { row = row.entry.bytes.now; kind = kind; text = text })
@@ -106,11 +106,11 @@ fn show_rows<H: Highlighter, F: FileLoader, R: Read, W: Write, E: Write>(
     Err(ProgramError::Memory)
 }
 
-/// Shows all rows that are left as the settings say.
+/// Shows all remaining lines as the settings say.
 ///
 /// # Errors
-/// `Read` exactly where a call of the reader failed, `Write` exactly where one of the writers failed. `Memory`. No
-/// report is refused.
+/// `Read` exactly if a call of the reader failed. `Write` exactly if a call of one of the writers failed. `Memory` if
+/// allocation fails. No report is refused.
 pub fn show_on<F: FileLoader, R: Read, W: Write, E: Write>(
     alloc: Global,
     from: Format,
@@ -144,8 +144,8 @@ pub fn show_on<F: FileLoader, R: Read, W: Write, E: Write>(
     show_rows(alloc, from, &mut handler, files, streams)
 }
 
-/// Shows all rows of a reader as the settings say, and gives the status: that of the verdict; 2 for every fault, of
-/// which a row goes to `faults`.
+/// Shows all lines of a reader as the settings say, and returns the exit code: that of the verdict, or 2 after an
+/// error, whose message goes to `faults`.
 pub fn show_with<F, R, W, E>(
     alloc: Global,
     from: Format,
@@ -161,7 +161,7 @@ where
     requires rows_sound { streams.rows.failed ≡ false }
     requires writer_sound { streams.writer.failed ≡ false }
     requires faults_sound { streams.faults.failed ≡ false }
-    // 2 for a fault; else by all rows, each of which is shown as the settings say.
+    // 2 after an error. Otherwise by all lines. Each is shown as the settings say.
     ensures status { (result ≡ 2) ⊎ IfSome (left_of R.remaining streams.rows) (λ bytes. (verdict : Verdict)
         × (result ≡ status_of verdict)
         × Shows from (IsJobText ⟦<LanguageHighlighter as Highlighter>⟧.is_blank settings.choice settings.options
@@ -177,7 +177,7 @@ where
     }
 }
 
-/// Ends the program where its words are wrong, or could not be had: prints why, and gives the status, 2.
+/// Ends the program if its arguments are wrong or couldn't be read: prints the reason and returns 2.
 pub fn refuse_words<E: Write + Drop>(fault: ProgramError, faults: E) -> u8
     ensures { result ≡ 2 }
 {

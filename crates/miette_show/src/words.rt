@@ -1,4 +1,4 @@
-//! The words that the program is called with.
+//! The arguments of `show`.
 
 ghost use Rattle.std.specs.Prelude.{◌≡◌};
 ghost use Rattle.std.specs.Option.{option_copied, option_map};
@@ -6,23 +6,23 @@ ghost use Rattle.miette_show.specs.rules.ShowWords.{asked_for, asked_in_front, f
 ghost use Rattle.miette_show.specs.rules.ShowWords.{is_alone};
 ghost use Rattle.miette_show.specs.views.Asked.{front_of, words_of};
 
-/// What is read.
+/// The format that is read.
 #[derive(Clone, Copy, Debug, PartialEq, Eq)]
 pub enum Format {
-    /// Each of the others, told apart by the row.
+    /// Any of the others, by the content of a line.
     Auto,
-    /// What rustc and cargo write.
+    /// Messages of rustc and cargo.
     Rustc,
-    /// What GCC writes.
+    /// GCC's diagnostics.
     Gcc,
-    /// A SARIF log.
+    /// SARIF logs.
     Sarif,
-    /// What ShellCheck writes.
+    /// ShellCheck's comments.
     ShellCheck,
 }
 
 impl Format {
-    /// The format of this name; nothing where there is none.
+    /// Returns the format with this name.
     fn named(name: &str) -> Option<Format>
         ensures { result ≡ format_named name.now }
     {
@@ -37,30 +37,30 @@ impl Format {
     }
 }
 
-/// A folder by its name, which isn't empty.
+/// Returns a folder's name, unless it is empty.
 fn folder_named(name: &str) -> Option<&str>
     ensures { option_copied result ≡ folder_named name.now }
 {
     if name.is_empty() { None } else { Some(name) }
 }
 
-/// The words in front, and those of `job` after them.
+/// The arguments of `show`, followed by those of `job`.
 #[derive(Clone, Copy)]
 pub(crate) struct FrontWords<'w> {
-    /// The folder that names of files are taken from; the one that the program runs in where none is given.
+    /// The folder that file names are relative to. `None` is the current folder.
     pub(crate) root: Option<&'w str>,
-    /// What is read.
+    /// The format that is read.
     pub(crate) from: Format,
-    /// Whether files are fixed; then there are no words of `job`.
+    /// Whether files are fixed. Then there are no arguments of `job`.
     pub(crate) fix: bool,
-    /// Whether those of a package that has errors are fixed too.
+    /// Whether files of packages with errors are fixed too.
     pub(crate) broken: bool,
-    /// The words of `job`.
+    /// The arguments of `job`.
     pub(crate) options: &'w [String],
 }
 
 impl<'w> FrontWords<'w> {
-    /// What the words in front ask for; nothing where these are wrong.
+    /// Parses the arguments of `show`. Returns `None` if they are wrong.
     fn front(words: &'w [String]) -> Option<FrontWords<'w>>
         ensures { option_map front_of result ≡ asked_in_front (words_of words.entry) }
     {
@@ -101,7 +101,7 @@ impl<'w> FrontWords<'w> {
         })
     }
 
-    /// Whether no word of `job` stands after `--fix`, and `--broken-code` nowhere without it.
+    /// Returns whether no argument of `job` follows `--fix`, and `--broken-code` has its `--fix`.
     fn is_alone(&self) -> bool
         ensures { result ≡ is_alone (front_of self.now) }
     {
@@ -112,8 +112,8 @@ impl<'w> FrontWords<'w> {
         }
     }
 
-    /// The words in front; nothing where they are wrong, as a folder without a name is, where others stand after
-    /// `--fix`, and where `--broken-code` stands without it.
+    /// Parses the arguments of `show`. Returns `None` if they are wrong: for an empty folder name, for arguments of
+    /// `job` after `--fix`, and for `--broken-code` without `--fix`.
     pub(crate) fn read(words: &'w [String]) -> Option<FrontWords<'w>>
         ensures { option_map front_of result ≡ asked_for (words_of words.entry) }
     {

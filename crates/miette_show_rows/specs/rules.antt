@@ -1,4 +1,4 @@
--- The definitions that users rely on, as in docs/RULES.md.
+-- The definitions that users rely on, as in crates/miette_show_rows/CALLING.md.
 pub mod CurrentSpans
 pub mod OutdatedFiles
 pub mod ApplicableFixes

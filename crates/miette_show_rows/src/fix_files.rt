@@ -138,8 +138,8 @@ pub fn fix_files_on<F: FileLoader, S: FileStore, R: Read, W: Write, E: Write>(
     ensures write_failed { (IsTrue streams.new.writer.failed ⊎ IsTrue streams.new.faults.failed)
         ↔ (result ≡ Err ProgramError.Write) }
     ensures unwritten { (result ≡ Err ProgramError.Read) → store.new ≡ store.old }
-    // After an error, the first files were written and reported. The last line may be incomplete. Or no file was
-    // written, and the notes on the first lines were written.
+    // After an error, the first files were written, and some first part of their lines. Or no file was written, and the
+    // notes on the first lines were written.
     ensures first { OnErr result (((store.new ≡ store.old) × (streams.new.writer ≡ streams.old.writer)
         × IfSome (left_of R.remaining streams.old.rows) (λ bytes.
         FirstLinesGiveFixes (IsFoundBy F.found F.knows files.old) bytes

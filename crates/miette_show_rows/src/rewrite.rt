@@ -175,7 +175,7 @@ fn write_fixed_files<F: Files, S: FileStore, R, W: Write, E: Write>(
         (flat_map change_row changes)
         × Appends (E.contents streams.old.faults.inner) (E.contents streams.new.faults.inner)
         (flat_map change_fault changes))) }
-    // After an error, the first files were written and reported. The last line may be incomplete.
+    // After an error, the first files were written, and some first part of their lines.
     ensures first { OnErr result (ChangesFirst (F.found files.now) S.refuses (fixes_at gathered.now.fixes)
         (map string_bytes gathered.now.names.items) (λ changes.
         Writes (S.written store.old) (S.written store.new) (flat_map written_by_change changes)
@@ -217,7 +217,7 @@ pub(crate) fn write_selected<F: Files, S: FileStore, R, W: Write, E: Write>(
         (flat_map change_row changes)
         × Appends (E.contents streams.old.faults.inner) (E.contents streams.new.faults.inner)
         (change_faults changes (skipped_in counted.now)))) }
-    // After an error, the first files were written and reported. The last line may be incomplete.
+    // After an error, the first files were written, and some first part of their lines.
     ensures first { OnErr result (ChangesFirst (F.found files.now) S.refuses (fixes_at counted.now.fixes.fixes)
         (map string_bytes counted.now.fixes.names.items) (λ changes.
         Writes (S.written store.old) (S.written store.new) (flat_map written_by_change changes)

@@ -10,7 +10,7 @@ pub trait FileStore {
     ghost use Rattle.std.specs.Prelude.{◌≡◌, ℕ, List, [], Option, IfOk, Ok, OnErr, false};
     ghost use Rattle.miette_show_rows.specs.views.Writing.{IsWritten, Writes};
 
-    /// The names and texts that were written, in order, if the store tells.
+    /// The names and texts that were written, in order, if the store says so.
     ghost written: { Self → Option (List (List ℕ × List ℕ)) };
 
     /// The store may refuse to write a file with this name.

@@ -25,7 +25,7 @@ pub struct ShowStreams<R, W, E> {
 }
 
 impl<R, W, E> ShowStreams<R, W, E> {
-    /// Wraps streams of which no call has failed.
+    /// Wraps streams. No call has failed yet.
     pub fn new(alloc: Global, reader: R, writer: W, faults: E) -> ShowStreams<R, W, E>
         ensures rows { result.rows ≡ record { inner = reader; failed = false; pending = [] } }
         ensures writer { result.writer ≡ record { inner = writer; failed = false } }

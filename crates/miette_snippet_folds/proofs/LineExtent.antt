@@ -8,11 +8,10 @@ use Rattle.miette_lines.specs.rules.Lines as P
 use Rattle.miette_lines.specs.rules.Lines.{Line, IsCut}
 use Rattle.miette_lines.specs.declared.lines.LineOfText.{LineOfText}
 use Rattle.miette_lines.specs.views.Walking.{line_of_text}
-use Rattle.miette_labels.specs.declared.sweep.LineBounds.{LineBounds}
 use Rattle.miette_labels.specs.declared.placed.PlacedLabel.{PlacedLabel}
 use Rattle.miette_labels.specs.rules.Labels.{reach}
 use Rattle.miette_labels.specs.views.LabelCounts.{most_multi}
-use Rattle.miette_labels.specs.views.Sweeping.{line_of_bounds, passes, is_multi, start_at, AreSorted}
+use Rattle.miette_labels.specs.views.Sweeping.{passes, is_multi, start_at, AreSorted}
 use Rattle.miette_labels.specs.views.ProgramLabels.{no_label}
 use Rattle.miette_labels.specs.views.Sweeping.{IsAt, IsOn}
 use Rattle.miette_lines.proofs.Cuts.{cut_le}
@@ -33,8 +32,7 @@ past_first : (line later : Line) (p : PlacedLabel) → line.end ≤ later.start 
     < line.end → is_multi later p ≡ true → passes line.end p ≡ true
 past_first line later p after some before on =
     let r : ℕ = reach (drawn_of p) in
-    let b : LineBounds = record { start = later.start; after = later.end } in
-    let past : passes later.start p ≡ true = sym (earlier_multi b p some (omega (arith, before, after))) ∙ on in
+    let past : passes later.start p ≡ true = sym (earlier_multi later p some (omega (arith, before, after))) ∙ on in
     let over : later.start < r = ltb-true later.start r past in
     lt-ltb line.end r (omega (arith, after, over))
 
@@ -43,20 +41,18 @@ on_first : (line later : Line) (p : PlacedLabel) → p.start ≤ p.after → lin
     → later.start < later.end → p.start < line.end → is_multi later p ≡ true → is_multi line p ≡ true
 on_first line later p ok own after some before on =
     let r : ℕ = reach (drawn_of p) in
-    let b : LineBounds = record { start = line.start; after = line.end } in
     let past : passes line.end p ≡ true = past_first line later p after some before on in
     ⊎_elim {C = is_multi line p ≡ true}
-    (λ lt. let over : line.end < r = ltb-true line.end r past in earlier_multi b p own lt
+    (λ lt. let over : line.end < r = ltb-true line.end r past in earlier_multi line p own lt
     ∙ lt-ltb line.start r (omega (arith, own, over)))
-    (λ ge. (inside_past b p ok ge before past).1)
+    (λ ge. (inside_past line p ok ge before past).1)
     (cases_lt p.start line.start)
 
 -- a label that begins at a line's end or after it doesn't
 not_later : (later : Line) (p : PlacedLabel) → p.start ≤ p.after → later.start < later.end → later.end ≤ p.start
     → is_multi later p ≡ true → ⊥
 not_later later p ok some ge on =
-    let b : LineBounds = record { start = later.start; after = later.end } in
-    let off : is_multi later p ≡ false = (later_none b p ok some ge).1 in
+    let off : is_multi later p ≡ false = (later_none later p ok some ge).1 in
     absurd (cc)
 
 fewer_step : (a b : Bool) (x : PlacedLabel) (xs ys : List PlacedLabel) → (a ≡ true → b ≡ true) → length xs ≤ length ys
@@ -179,7 +175,7 @@ counted_more_to : (labels : List PlacedLabel) (start : ℕ) (bytes : List ℕ) (
     AreCounted labels start bytes at place most next running → P.lines_from (start + at) (drop at bytes)
     ≡ line_of_text line ∷ P.lines_from line.end (drop (line.end - start) bytes) → start ≤ line.end → line.start
     < line.end →
-    line.end ≤ start + length bytes → IsOn labels (line_of_bounds (record { start = line.start; after = line.end }))
+    line.end ≤ start + length bytes → IsOn labels (line_of_text line)
     first on → most' ≡ max (length on) most →
     (jumps ≡ false → far ≡ next_line place (line_of_text line))
     → (jumps ≡ true → (k : ℕ) → first ≤ k → k < length labels → far.offset ≤ start_at labels k)
@@ -227,7 +223,7 @@ pub counted_more : (labels : List PlacedLabel) (start : ℕ) (bytes : List ℕ) 
     P.lines_from (start + at) (drop at bytes) ≡ line_of_text line
     ∷ P.lines_from line.end (drop (line.end - start) bytes) → start ≤ line.end → line.start < line.end → line.end
     ≤ start + length bytes →
-    IsOn labels (line_of_bounds (record { start = line.start; after = line.end })) first on → most'
+    IsOn labels (line_of_text line) first on → most'
     ≡ max (length on) most →
     far ≡ next_counted labels first inside folds place (line_of_text line) →
     IsAt labels far.offset next' running' → AreCounted labels start bytes (far.offset - start) far.place most' next'
@@ -261,7 +257,7 @@ pub counted_rest : (labels : List PlacedLabel) (start : ℕ) (bytes : List ℕ) 
     P.lines_from (start + at) (drop at bytes) ≡ line_of_text line
     ∷ P.lines_from line.end (drop (line.end - start) bytes) → start ≤ line.end → line.start < line.end → line.end
     ≤ start + length bytes →
-    IsOn labels (line_of_bounds (record { start = line.start; after = line.end })) first on → most'
+    IsOn labels (line_of_text line) first on → most'
     ≡ max (length on) most → begins_before labels first (start + length bytes) ≡ false →
     far.offset ≡ start + length bytes → far.place ≡ place + 1
     + length (P.lines_from line.end (drop (line.end - start) bytes)) →

@@ -16,17 +16,15 @@ use crate::folds::{Fold, LabelExtent, is_around};
 use miette_labels::line_sweep::line_at;
 use miette_lines::lines::LineOfText;
 
-/// A line of a snippet.
+/// The lines of a snippet, and the labels that may be folded among them.
 #[derive(Clone, Copy)]
-pub struct PlacedLine<'a> {
+pub struct FoldedLines<'a> {
     /// The bytes of the snippet.
     pub bytes: &'a [u8],
     /// The offset of the first byte in the source.
     pub start: usize,
-    /// The number of the line, counted from 0 in the snippet.
-    pub place: usize,
-    /// Where the line begins and ends.
-    pub line: LineOfText,
+    /// The labels that may be folded.
+    pub folds: &'a FoldIndex,
 }
 
 // Returns whether a label that is folded to `limit` lines hides the line.
@@ -84,65 +82,81 @@ fn is_hidden(limit: usize, folds: &FoldIndex, place: usize, line: &LineOfText) -
     some_around(near.folds, line)
 }
 
-// Returns whether the next line is hidden.
-fn is_next_hidden(limit: usize, folds: &FoldIndex, at: &PlacedLine<'_>) -> bool
-    requires { IsPlaced at.now }
-    ensures { (labels : List LabelExtent) → AreAmong at.now folds.now labels →
-        result ≡ is_hidden limit (lines_of_bytes at.now) (map extent_view labels) (at.now.place + 1)
-        (line_at (lines_of_bytes at.now) (at.now.place + 1)) }
+// Returns whether the line after line `place` is hidden.
+fn is_next_hidden(limit: usize, lines: &FoldedLines<'_>, place: usize, line: &LineOfText) -> bool
+    requires { IsPlaced lines.now place line.now }
+    ensures { (labels : List LabelExtent) → AreAmong lines.now labels →
+        result ≡ is_hidden limit (lines_of_bytes lines.now) (map extent_view labels) (place + 1)
+        (line_at (lines_of_bytes lines.now) (place + 1)) }
 {
-    let after = at.line.end - at.start;
-    if after < at.bytes.len() {
-        let next = line_at(at.bytes, at.start, after);
-        return is_hidden(limit, folds, at.place + 1, &next);
+    let after = line.end - lines.start;
+    if after < lines.bytes.len() {
+        let next = line_at(lines.bytes, lines.start, after);
+        return is_hidden(limit, lines.folds, place + 1, &next);
     }
     false
 }
 
 // Returns whether the previous or the next line is hidden. `gap` says whether the previous line is left out, and so
 // hidden.
-fn is_beside_hidden(limit: usize, folds: &FoldIndex, at: &PlacedLine<'_>, gap: bool) -> bool
-    requires { IsPlaced at.now }
-    ensures { (labels : List LabelExtent) → AreAmong at.now folds.now labels →
-        gap ≡ was_left_out (Some limit) at.now (map extent_view labels) →
-        is_hidden limit (lines_of_bytes at.now) (map extent_view labels) at.now.place (line_of_text at.now.line)
-        ≡ true →
-        result ≡ is_beside_hidden limit (lines_of_bytes at.now) (map extent_view labels) at.now.place }
+fn is_beside_hidden(
+    limit: usize,
+    lines: &FoldedLines<'_>,
+    place: usize,
+    line: &LineOfText,
+    gap: bool,
+) -> bool
+    requires { IsPlaced lines.now place line.now }
+    ensures { (labels : List LabelExtent) → AreAmong lines.now labels →
+        gap ≡ was_left_out (Some limit) lines.now place (map extent_view labels) →
+        is_hidden limit (lines_of_bytes lines.now) (map extent_view labels) place (line_of_text line.now) ≡ true →
+        result ≡ is_beside_hidden limit (lines_of_bytes lines.now) (map extent_view labels) place }
 {
     if gap {
         return true;
     }
-    is_next_hidden(limit, folds, at)
+    is_next_hidden(limit, lines, place, line)
 }
 
 // Returns whether a line is left out if labels are folded to `limit` lines.
-fn is_left_out(limit: usize, folds: &FoldIndex, at: &PlacedLine<'_>, gap: bool) -> bool
-    requires { IsPlaced at.now }
-    ensures { (labels : List LabelExtent) → AreAmong at.now folds.now labels →
-        gap ≡ was_left_out (Some limit) at.now (map extent_view labels) →
-        result ≡ leaves_out (Some limit) (lines_of_bytes at.now) (map extent_view labels) at.now.place
-        (line_of_text at.now.line) }
+fn is_left_out(
+    limit: usize,
+    lines: &FoldedLines<'_>,
+    place: usize,
+    line: &LineOfText,
+    gap: bool,
+) -> bool
+    requires { IsPlaced lines.now place line.now }
+    ensures { (labels : List LabelExtent) → AreAmong lines.now labels →
+        gap ≡ was_left_out (Some limit) lines.now place (map extent_view labels) →
+        result ≡ leaves_out (Some limit) (lines_of_bytes lines.now) (map extent_view labels) place
+        (line_of_text line.now) }
 {
-    if is_hidden(limit, folds, at.place, &at.line) {
-        return is_beside_hidden(limit, folds, at, gap);
+    if is_hidden(limit, lines.folds, place, line) {
+        return is_beside_hidden(limit, lines, place, line, gap);
     }
     false
 }
 
 /// Returns whether a line is left out: it is hidden by folding to `limit` lines, and so is the line before or after it.
-/// `gap` says whether the previous line is left out.
-pub fn leaves_out(limit: Option<usize>, folds: &FoldIndex, at: &PlacedLine<'_>, gap: bool) -> bool
-    requires small { at.now.start + length at.now.bytes.now < 2 ^ 64 }
-    requires place { at.now.place + 1 < 2 ^ 64 }
-    requires low { at.now.start ≤ at.now.line.end }
-    requires there { IsThere at.now }
-    ensures { (labels : List LabelExtent) → AreAmong at.now folds.now labels →
-        gap ≡ was_left_out limit at.now (map extent_view labels) →
-        result ≡ leaves_out limit (lines_of_bytes at.now) (map extent_view labels) at.now.place
-        (line_of_text at.now.line) }
+/// `place` lines come before it in the snippet. `gap` says whether the previous line is left out.
+pub fn leaves_out(
+    limit: Option<usize>,
+    lines: &FoldedLines<'_>,
+    place: usize,
+    line: &LineOfText,
+    gap: bool,
+) -> bool
+    requires small { lines.now.start + length lines.now.bytes.now < 2 ^ 64 }
+    requires place { place + 1 < 2 ^ 64 }
+    requires low { lines.now.start ≤ line.now.end }
+    requires there { IsThere lines.now place line.now }
+    ensures { (labels : List LabelExtent) → AreAmong lines.now labels →
+        gap ≡ was_left_out limit lines.now place (map extent_view labels) →
+        result ≡ leaves_out limit (lines_of_bytes lines.now) (map extent_view labels) place (line_of_text line.now) }
 {
     match limit {
-        Some(limit) => is_left_out(limit, folds, at, gap),
+        Some(limit) => is_left_out(limit, lines, place, line, gap),
         None => false,
     }
 }

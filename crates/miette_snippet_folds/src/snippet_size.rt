@@ -11,7 +11,7 @@ ghost use Rattle.miette_snippet_folds.specs.views.Folding.{AreFoldsIn};
 use crate::fold_index::FoldIndex;
 use crate::folds::LineStart;
 use crate::gaps::next_line_start;
-use miette_labels::line_sweep::{enter_line, line_at, skip_lines};
+use miette_labels::line_sweep::{line_at, skip_lines};
 use miette_labels::placed::PlacedLabel;
 use miette_labels::sweep::Sweep;
 use miette_lines::find::FindLines;
@@ -127,7 +127,7 @@ pub fn size_of_snippet<'a>(
     let mut most: usize = 0;
     while at < bytes.len() {
         let line = line_at(bytes, start, at);
-        enter_line(labels, &line, sweep)?;
+        sweep.enter(labels, &line)?;
         most = sweep.running.len().max(most);
         sweep.leave(line.end);
         let next = if counts_rest(labels, sweep, folds, end, &line) {

@@ -1,7 +1,7 @@
 //! The top and bottom rows of a snippet's frame, and the row that replaces snippets if a label is out of bounds.
 
 ghost use Rattle.std.specs.Prelude.{◌≡◌, ◌++◌, ◌∷◌, [], IsTrue, nat_lt, chars, codes, decimal, option_copied};
-ghost use Rattle.std.specs.Prelude.{◌&&◌, ◌||◌, if◌then◌else◌, false, OnOk};
+ghost use Rattle.std.specs.Prelude.{◌&&◌, ◌||◌, if◌then◌else◌, false, length, OnOk};
 ghost use Rattle.std.specs.List.{list_all};
 ghost use Rattle.std.specs.Option.{option_map};
 ghost use Rattle.miette_style.specs.views.Printouts.{◌⊕◌};
@@ -12,6 +12,7 @@ ghost use Rattle.miette_snippet_rules.specs.views.SnippetSettings.{settings_of};
 ghost use Rattle.miette_snippet_frames.specs.steps.FrameParts.{corner_row};
 ghost use Rattle.miette_snippet_frames.specs.views.Places.{place_at};
 
+use itoa::Buffer;
 use miette_lines::sums::sum;
 use miette_protocol::protocol::LabeledSpan;
 use miette_snippet_rules::options::{LayoutOptions, SnippetSettings};
@@ -44,6 +45,14 @@ pub struct SnippetHeader<'a> {
     pub several: bool,
     /// Where the primary label begins, if there is one.
     pub place: Option<LineColumn>,
+}
+
+/// Returns how many decimal digits a line number has.
+pub fn digits(number: usize) -> usize
+    ensures { result ≡ length (decimal number) }
+{
+    let mut buffer = Buffer::new();
+    buffer.format(number).len()
 }
 
 // Prints a run of ASCII characters.

@@ -21,7 +21,7 @@ use Rattle.miette_snippet_rules.specs.rules.Frames.{other_start, number_start}
 use Rattle.miette_snippet_rules.specs.rules.SnippetLayout.{line_rows, before_each, line_underlines, text_of_cells}
 use Rattle.miette_snippet_laws.specs.laws.LineRows.{underline_glyph_at, underlines_end, IsConnected, AreUnderlined}
 use Rattle.miette_snippet_laws.specs.laws.LineRows.{ShowUnderlines, underlines_of_line}
-use Rattle.miette_snippet_laws.specs.laws.LineRows.{text_of_line, text_start, HasText}
+use Rattle.miette_snippet_laws.specs.laws.LineRows.{text_of_line, text_start, HasText, IsNumbered, number_codes}
 use Rattle.miette_lines.proofs.Cases.{by_cases}
 use Rattle.miette_snippet_laws.proofs.Apart.{marks_apart}
 use Rattle.miette_snippet_rules.proofs.CutColumns.{AreColumns, shown_apart}
@@ -277,4 +277,27 @@ line_begins s w columns labels line number cells pieces n room fits =
             number_start-columns s w number n fits,
             number_gutter-columns s n line columns (multi_line line labels) room,
           ),
+    )
+
+-- the number comes before the gutter
+
+pub number_start-codes : (s : SnippetSettings) (w number : ℕ) → glyphs_of (number_start s w number)
+    ≡ map (glyph_of s.width) (number_codes s.theme.characters.vbar w number)
+number_start-codes s w number =
+    let padded : List ℕ = replicate (w - length (decimal number)) 32 ++ decimal number in
+    ap (λ r. glyph_of s.width 32 ∷ r) (sym (map-append (glyph_of s.width) padded
+    (32 ∷ s.theme.characters.vbar ∷ 32 ∷ [])))
+
+pub line_numbered : (s : SnippetSettings) (w columns : ℕ) (labels : List DrawnLabel) (line : Line) (number : ℕ)
+    (cells : List Cell) (pieces : List Highlight) → IsNarrow s.width s.theme.characters → HasRoom labels line columns →
+    IsNumbered s w columns number (text_of_line s labels line cells pieces)
+    (line_rows (snippet_context s w columns labels (λ _. cells)) line number pieces)
+line_numbered s w columns labels line number cells pieces n room =
+    let start : Row = number_start s w number in
+    let gutter : Row = number_gutter s line columns (multi_line line labels) in
+    let text : Row = text_of_line s labels line cells pieces in (
+      glyphs_of gutter,
+      glyphs_of-append (start ++ gutter) text ∙ ap (λ r. r ++ glyphs_of text) (glyphs_of-append start gutter
+          ∙ ap (λ r. r ++ glyphs_of gutter) (number_start-codes s w number)),
+      number_gutter-columns s n line columns (multi_line line labels) room,
     )

@@ -56,11 +56,11 @@ rows_narrow s labels source line pieces limit is =
 
 -- ---- which lines are cut
 
-cut_some : (many limit : ℕ) (all : List ℕ) (cells : List Cell) → limit_of limit < cells_width 0 cells
+pub cut_some : (many limit : ℕ) (all : List ℕ) (cells : List Cell) → limit_of limit < cells_width 0 cells
     → cut_line many (Some limit) all cells ≡ Some (cut_to (limit_of limit) many all cells)
 cut_some many limit all cells lt = rw (lt-ltb (limit_of limit) (cells_width 0 cells) lt) refl
 
-some_not : (o : Option (List LinePart)) (ss : List LinePart) → o ≡ Some ss → o ≢ None
+pub some_not : (o : Option (List LinePart)) (ss : List LinePart) → o ≡ Some ss → o ≢ None
 some_not o ss some none = absurd (cc)
 
 pub wide_cut : (s : SnippetSettings) (labels : List DrawnLabel) (source : List ℕ) (line : Line) (limit : ℕ)
@@ -90,13 +90,13 @@ cut_limit many (Some n) all cells cut is =
 -- ---- lines are cut by their reach
 
 -- the cut of a line by which of its cells are near, with `many` dots for what is left out
-near_to : (limit many : ℕ) (all : List ℕ) (cells : List Cell)
+pub near_to : (limit many : ℕ) (all : List ℕ) (cells : List Cell)
     → cut_to limit many all cells
     ≡ with_short_parts many (line_parts (is_near_by limit many (reach_of limit many all cells) all) false cells)
 near_to limit many [] cells = refl
 near_to limit many (e ∷ es) cells = refl
 
-reach_is : (limit many : ℕ) (all : List ℕ) (cells : List Cell)
+pub reach_is : (limit many : ℕ) (all : List ℕ) (cells : List Cell)
     → IsReach limit many all cells (reach_of limit many all cells)
 reach_is limit many all cells =
     let columns : ℕ → ℕ = λ reach. text_columns many (cut_at many reach all cells) in
@@ -139,7 +139,7 @@ cut_by_reach s labels source line limit cut some is =
 
 -- ---- lines that fit
 
-cut_none : (many : ℕ) (limit : Option ℕ) (all : List ℕ) (cells : List Cell) → FitsLimit limit cells
+pub cut_none : (many : ℕ) (limit : Option ℕ) (all : List ℕ) (cells : List Cell) → FitsLimit limit cells
     → cut_line many limit all cells ≡ None
 cut_none many None all cells h = refl
 cut_none many (Some limit) all cells h = rw (le-ltb (limit_of limit) (cells_width 0 cells) h) refl

@@ -18,7 +18,7 @@ other_of false true h none = refl
 other_of false false h none = let wrong : true ≡ false = h in absurd (cc)
 
 -- a hidden line beside another one
-left_beside : (limit context : ℕ) (bytes : List ℕ) (labels : List Label) (k : ℕ)
+pub left_beside : (limit context : ℕ) (bytes : List ℕ) (labels : List Label) (k : ℕ)
     → N.is_hidden limit context bytes labels k ≡ true
     → (N.is_hidden limit context bytes labels (k - 1) || N.is_hidden limit context bytes labels (k + 1)) ≡ true
     → N.is_left_out (Some limit) context bytes labels k ≡ true

@@ -1,5 +1,7 @@
 pub mod Blocks
+pub mod BreakRows
 pub mod FarInside
+pub mod FoldedPairs
 pub mod FoldedRuns
 pub mod Inside
 pub mod LeftOutPairs

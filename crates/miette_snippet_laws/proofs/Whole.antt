@@ -20,7 +20,7 @@ use Rattle.miette_columns.specs.rules.Cells.{Cell, characters}
 use Rattle.miette_snippet_rules.proofs.CutColumns.{AreColumns, columns_from, shown_apart}
 use Rattle.miette_snippet_laws.proofs.Numerals.{decimal-mono}
 use Rattle.miette_snippet_laws.proofs.RowCounts.{line_count}
-use Rattle.miette_snippet_laws.proofs.Beneath.{HasRoom, line_shows, line_begins, all_room}
+use Rattle.miette_snippet_laws.proofs.Beneath.{HasRoom, line_shows, line_begins, line_numbered, all_room}
 use Rattle.miette_snippet_rules.specs.rules.SnippetSettings.{SnippetSettings}
 
 pub line_columns : (s : SnippetSettings) (source : List ℕ) (line : Line) → AreColumns 0 (cells_of s source line)
@@ -43,6 +43,7 @@ pub line_shown : (s : SnippetSettings) (w columns : ℕ) (labels : List DrawnLab
     length (decimal number) ≤ w →
     LineShows (snippet_context s w columns labels (cells_of s source)) line number pieces
 line_shown s w columns labels source line number pieces n room fits = record {
+  numbered = line_numbered s w columns labels line number (cells_of s source line) pieces n room;
   text = line_begins s w columns labels line number (cells_of s source line) pieces n room fits;
   marks = line_shows s w columns labels line number (cells_of s source line) pieces n room
       (line_columns s source line);

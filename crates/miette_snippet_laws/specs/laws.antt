@@ -1,5 +1,6 @@
 -- The statements of theorems.
 pub mod Belonging
+pub mod Breaks
 pub mod Folding
 pub mod Clean
 pub mod CutLetters
@@ -8,3 +9,4 @@ pub mod Ends
 pub mod LabelUnderlines
 pub mod LineRows
 pub mod PlainStyles
+pub mod Worked

@@ -10,7 +10,7 @@ ghost use Rattle.miette_style.specs.declared.style.Style.{Style};
 ghost use Rattle.miette_protocol.specs.views.Meaning.{Label};
 ghost use Rattle.miette_protocol.specs.rules.Reading.{Source};
 ghost use Rattle.miette_snippet_laws.specs.laws.Belonging.{HasOneGroup};
-ghost use Rattle.miette_snippet_laws.specs.laws.Folding.{EndsPass, FitsIn, IsFarInside, IsInside};
+ghost use Rattle.miette_snippet_laws.specs.laws.Folding.{EndsPass, FitsIn, IsFarInside, IsFoldedInAll, IsInside};
 ghost use Rattle.miette_labels.specs.rules.Answers.{Answers, AlwaysReads, NoneFails};
 ghost use Rattle.miette_labels.specs.rules.Around.{HaveContext, group_context, label_context};
 ghost use Rattle.miette_labels.specs.rules.Groups.{AreInBounds, in_order, groups_of, lines_of_groups};
@@ -81,6 +81,16 @@ pub fn left_out_lines_are_inside()
     ensures near { (limit : ℕ) (context : ℕ) (bytes : List ℕ) (labels : List Label) (k : ℕ) →
         is_left_out (Some limit) context bytes labels k ≡ true →
         AllByRecursion (λ label. IsFarInside (label_context context labels label) bytes k label.span) labels }
+{}
+
+/// Folding leaves lines out. Suppose two adjacent lines are in the context of labels. Suppose each of these labels has
+/// more lines than the limit, and the lines are further from its first and its last line than the lines shown around
+/// these. Then both lines are left out.
+pub fn folds_leave_lines_out()
+    ensures { (limit : ℕ) (context : ℕ) (bytes : List ℕ) (labels : List Label) (k : ℕ) →
+        IsFoldedInAll limit context bytes labels k → IsFoldedInAll limit context bytes labels (k + 1) →
+        (is_left_out (Some limit) context bytes labels k ≡ true)
+        × (is_left_out (Some limit) context bytes labels (k + 1) ≡ true) }
 {}
 
 /// If no label has more lines than the folding limit, the rows are those without folding.

@@ -6,6 +6,7 @@ ghost use Rattle.std.specs.Option.{option_map};
 ghost use Rattle.std.specs.List.{AllByRecursion};
 ghost use Rattle.miette_protocol.specs.views.Meaning.{Label};
 ghost use Rattle.miette_protocol.specs.rules.Reading.{Source, Contents};
+ghost use Rattle.miette_snippet_laws.specs.laws.Breaks.{HasBreak};
 ghost use Rattle.miette_snippet_laws.specs.laws.Clean.{AreCleanDrawings, IsCleanLabel, IsCleanRow, IsCleanSource};
 ghost use Rattle.miette_snippet_laws.specs.laws.Ends.{AreAfterShown, AreAfterText, EndsStandAfter, draws_ends};
 ghost use Rattle.miette_snippet_laws.specs.laws.Ends.{with_ends};
@@ -31,7 +32,7 @@ ghost use Rattle.miette_snippet_rules.specs.rules.LabelRows.{IsNarrow};
 ghost use Rattle.miette_snippet_rules.specs.rules.FoldedLabels.{LabelExtent};
 ghost use Rattle.miette_snippet_rules.specs.rules.SnippetSettings.{SnippetSettings, uncut};
 ghost use Rattle.miette_snippet_rules.specs.rules.SnippetLayout.{snippet_rows, body_rows, cells_of, cut_ends, line_cut};
-ghost use Rattle.miette_snippet_rules.specs.rules.SnippetLayout.{line_underlines, settings_around};
+ghost use Rattle.miette_snippet_rules.specs.rules.SnippetLayout.{SnippetContext, line_underlines, settings_around};
 ghost use Rattle.miette_snippet_laws.specs.laws.LineRows.{BodyShows, underlines_of_line, text_of_line};
 ghost use Rattle.miette_snippet_laws.specs.laws.CutLetters.{AreEndsShown, AreFirstShown};
 
@@ -172,7 +173,15 @@ pub fn ends_are_drawn()
         ≡ snippet_rows (with_ends false s) source labels answers }
 {}
 
-/// In the rows of a line, the text begins at a fixed column, and the underline row has each underline in its columns.
+/// One row replaces adjacent lines that are left out. It has three dots up to the end of the line numbers, the frame's
+/// bar, and after a space one bar for each label of several lines, in the label's style. Every other line has its rows.
+pub fn break_rows_have_bars()
+    ensures { (c : SnippetContext) (line : Line) (number : ℕ) (pieces : List Highlight) →
+        HasBreak c line number pieces }
+{}
+
+/// The first row of a line has its number, at the right of the numbers' columns, and its text at a fixed column, also
+/// on a line that is cut or that labels of several lines cover. The underline row has each underline in its columns.
 /// Each label text is joined to its own underline's pointer by a connector. Each line of a label text has one row.
 /// Besides these, there are only the row of the source line and that of the underlines.
 pub fn connectors_lead_to_texts()

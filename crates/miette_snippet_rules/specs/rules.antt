@@ -1,4 +1,4 @@
--- What users rely on. docs/RULES.md says the same in words.
+-- What users rely on. docs/REFERENCE.md says the same in words.
 pub mod LabelColumns
 pub mod CutLines
 pub mod Defaults

@@ -43,8 +43,7 @@ impl Default for LayoutOptions {
     }
 }
 
-/// What draws snippets by a layout: a handler, or the options that it is built from. Settings of the layout are set
-/// here, once for all of these.
+/// Setters of the layout, shared by handlers and by the options that build them.
 pub trait SetLayout: Sized {
     ghost use Rattle.miette_snippet_rules.specs.declared.options.LayoutOptions.{LayoutOptions};
 
@@ -76,10 +75,9 @@ pub trait SetLayout: Sized {
         })
     }
 
-    /// A label over more lines than these is folded: only the lines around its first and its last one are shown, and a
-    /// row of dots stands for those between them, where they are several. At least 1 is the caller's condition.
+    /// Folds labels that have more lines than this. Only the lines around the first and the last line of a folded label
+    /// are shown. A row of dots replaces two or more lines between them.
     fn label_lines(self, lines: usize) -> Self
-        requires { 1 ≤ lines }
         ensures { result ≡ laid_out self (record (layout_of self) { label_lines = Some lines }) }
     {
         let layout = self.layout();
@@ -89,8 +87,8 @@ pub trait SetLayout: Sized {
         })
     }
 
-    /// A line wider than `columns` is cut: it shows what stands around its labels, as much as fits into that width, and
-    /// dots in place of the rest. A limit below 8 counts as 8.
+    /// Cuts source lines that are wider than `columns`. A cut line shows the parts around its labels, as many as fit,
+    /// and dots in place of the rest. A limit below 8 counts as 8.
     fn line_columns(self, columns: usize) -> Self
         ensures { result ≡ laid_out self (record (layout_of self) { line_columns = Some columns }) }
     {

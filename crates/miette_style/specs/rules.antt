@@ -1,4 +1,4 @@
--- Definitions that contracts use. docs/RULES.md says them in words.
+-- Definitions that contracts use. docs/REFERENCE.md says them in words.
 pub mod Styles
 pub mod Codes
 pub mod Themes

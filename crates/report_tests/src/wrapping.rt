@@ -1,4 +1,4 @@
-//! Wrapped texts. `cases/job-separator.jsonl` has a help text in Japanese with both separators. A
+//! Wrapped texts. `cases/made/job-separator.jsonl` has a help text in Japanese with both separators. A
 //! clause of `push_if_fits` says which texts fit on one line.
 
 use crate::comparing::gives;

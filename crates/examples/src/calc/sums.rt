@@ -25,7 +25,7 @@ pub struct Fault {
 }
 
 impl Fault {
-    /// Returns the fault of the part at `start`, without the blanks around it.
+    /// Returns the error of the part at `start`, without the blanks around it.
     fn new(reason: Reason, start: usize, part: &str) -> Fault {
         let text = part.trim_start();
         Fault {

@@ -1,8 +1,8 @@
 -- The options of a user, each with its last value. An option without a value is left to the terminal. Layout, wrapping,
 -- causes and related reports have the handler's defaults if they weren't set. The type parameter is the highlighter.
 use Rattle.std.specs.Prelude.{ℕ, Bool, true, false, List, Option, None}
-use Rattle.miette_brief.specs.declared.form.Form.{Form}
-use Rattle.miette_brief.specs.declared.form.Form.TheVariants.{Gcc}
+use Rattle.miette_brief.specs.declared.form.BriefForm.{BriefForm}
+use Rattle.miette_brief.specs.declared.form.BriefForm.TheVariants.{Gcc}
 use Rattle.miette_snippet_rules.specs.rules.Defaults.{default_layout}
 use Rattle.miette_snippet_rules.specs.declared.options.LayoutOptions.{LayoutOptions}
 use Rattle.miette_style.specs.rules.Themes.{Theme}
@@ -13,7 +13,7 @@ use Rattle.miette.specs.declared.options.builder.RgbColors.TheVariants.{Never}
 
 pub record Options (H : Type 0) : Type 0 where
   pub brief : Bool
-  pub brief_form : Form
+  pub brief_form : BriefForm
   pub narrated : Option Bool
   pub graphical : Option Bool
   pub theme : Option Theme

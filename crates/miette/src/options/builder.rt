@@ -6,7 +6,7 @@ ghost use Rattle.miette.specs.rules.Options.{no_options};
 
 mod choice;
 
-use crate::handlers::Form;
+use crate::handlers::BriefForm;
 use miette_graphical_rules::settings::Wrapping;
 use miette_highlight::highlight::Highlighter;
 use miette_snippet_rules::options::{LayoutOptions, SetLayout};
@@ -41,7 +41,7 @@ pub fn rgb_colors_law()
 #[derive(Drop)]
 pub struct MietteHandlerOpts<H = Box<dyn Highlighter>> {
     force_brief: bool,
-    brief_form: Form,
+    brief_form: BriefForm,
     force_narrated: Option<bool>,
     force_graphical: Option<bool>,
     theme: Option<GraphicalTheme>,
@@ -98,7 +98,7 @@ impl<H> Default for MietteHandlerOpts<H> {
     fn default() -> Self {
         MietteHandlerOpts {
             force_brief: false,
-            brief_form: Form::Gcc,
+            brief_form: BriefForm::Gcc,
             force_narrated: None,
             force_graphical: None,
             theme: None,
@@ -268,7 +268,7 @@ impl<H: Highlighter> MietteHandlerOpts<H> {
     }
 
     /// Sets the format of brief reports. The default is that of GCC.
-    pub fn brief_form(mut self, form: Form) -> Self
+    pub fn brief_form(mut self, form: BriefForm) -> Self
         ensures { result ≡ record self { brief_form = form } }
     {
         self.brief_form = form;
@@ -319,8 +319,8 @@ impl<H: Highlighter> MietteHandlerOpts<H> {
         self
     }
 
-    /// Whether lines of sources are cut at the width: where no `line_columns` is set, a line whose text has more
-    /// columns than the width is cut in pictures.
+    /// Sets whether source lines are cut at the width. Without `line_columns`, graphical reports cut a line whose text
+    /// has more columns than the width.
     pub fn fit_lines(mut self, fit: bool) -> Self
         ensures { result ≡ record self { fit_lines = fit } }
     {

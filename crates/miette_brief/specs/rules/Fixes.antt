@@ -25,7 +25,7 @@ byte_line_column_at bytes at = record {
       + 1;
 }
 
--- ---- what fixes are told over
+-- ---- the source of a fix
 
 -- no source, one that could not be read, or the name and the bytes of one
 pub data BriefFixOrigin : Type 0 where
@@ -66,8 +66,8 @@ abbrev pub failed_rows : BriefLocation → List ℕ → List ℕ → List Report
 failed_rows at message reason = fix_row at message ∷ fix_failure_row at reason ∷ []
 
 abbrev pub fix_failure_reason : FixError → List ℕ
-fix_failure_reason OutOfBounds = codes "OutOfBounds"
-fix_failure_reason Overlap = codes "Overlap"
+fix_failure_reason (OutOfBounds edit) = codes "OutOfBounds"
+fix_failure_reason (Overlap first second) = codes "Overlap"
 fix_failure_reason Memory = codes "Memory"
 
 -- a fix with these edits by offset; it is at the first of them, or at `at` if there is none

@@ -9,8 +9,8 @@ pub use Rattle.miette_tree.specs.rules.Answers.{unlisted, listed, no_more, and_m
 pub use Rattle.miette_tree.specs.rules.Answers.{first_answers, later_answers}
 use Rattle.miette_tree.specs.rules.DiagnosticParts.{given_labels}
 use Rattle.miette_labels.specs.rules.Groups.{in_order}
-use Rattle.miette_brief.specs.declared.form.Form.{Form}
-use Rattle.miette_brief.specs.declared.form.Form.TheVariants.{Gcc, Github}
+use Rattle.miette_brief.specs.declared.form.BriefForm.{BriefForm}
+use Rattle.miette_brief.specs.declared.form.BriefForm.TheVariants.{Gcc, Github}
 use Rattle.miette_brief.specs.rules.Commands.{Command, commands_text}
 use Rattle.miette_brief.specs.rules.Fixes.{brief_fix_origin, brief_fixes_rows}
 use Rattle.miette_brief.specs.rules.Github.{command}
@@ -21,7 +21,7 @@ use Rattle.miette_brief.specs.rules.Locations.{label_location, diagnostic_locati
 -- settings of a handler: whether causes are printed, and the output format
 pub record BriefSettings : Type 0 where
   pub cause_chain : Bool
-  pub form : Form
+  pub form : BriefForm
 
 abbrev pub default_brief_settings : BriefSettings
 default_brief_settings = record { cause_chain = true; form = Gcc }
@@ -146,7 +146,7 @@ abbrev mutual
 
 -- ---- the text
 
-abbrev pub brief_text_in : Form → Bool → Option Source → Answers → Tree → List ℕ
+abbrev pub brief_text_in : BriefForm → Bool → Option Source → Answers → Tree → List ℕ
 brief_text_in Gcc chain inherited a t = brief_rows_text (report_rows chain inherited a t)
 brief_text_in Github chain inherited a t = commands_text (report_commands chain inherited a t)
 

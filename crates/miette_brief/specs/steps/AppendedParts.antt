@@ -9,8 +9,8 @@ use Rattle.miette_tree.specs.rules.DiagnosticParts.{given_labels}
 use Rattle.miette_tree.specs.rules.Reads.{MayMeet}
 use Rattle.miette_labels.specs.rules.Groups.{in_order}
 use Rattle.miette_brief.specs.rules.Rows.{BriefLocation, brief_rows_text}
-use Rattle.miette_brief.specs.declared.form.Form.{Form}
-use Rattle.miette_brief.specs.declared.form.Form.TheVariants.{Gcc, Github}
+use Rattle.miette_brief.specs.declared.form.BriefForm.{BriefForm}
+use Rattle.miette_brief.specs.declared.form.BriefForm.TheVariants.{Gcc, Github}
 use Rattle.miette_brief.specs.rules.Commands.{commands_text}
 use Rattle.miette_brief.specs.rules.Report.{Answers, BriefSettings, cause_answers, cause_rows_if, BriefReadAnswers}
 use Rattle.miette_brief.specs.rules.Report.{diagnostic_row, own_brief_answer, own_brief_rows, related_rows}
@@ -52,12 +52,12 @@ pub record AppendsBriefAdvice (at : BriefLocation) (source : Option Source) (m :
   pub appended : new ≡ old ++ brief_rows_text (brief_advice_rows at source fails m)
 
 -- a diagnostic with its causes, in an output format
-abbrev pub own_text : Form → Bool → Option Source → Answers → Diagnosis → Cause → List ℕ
+abbrev pub own_text : BriefForm → Bool → Option Source → Answers → Diagnosis → Cause → List ℕ
 own_text Gcc chain source a m c = brief_rows_text (own_brief_rows chain source a m c)
 own_text Github chain source a m c = commands_text (own_command chain source a m c ∷ [])
 
 -- related reports, in an output format
-abbrev pub related_text : Form → Bool → Option Source → AnswerTrees BriefReadAnswers → Trees → List ℕ
+abbrev pub related_text : BriefForm → Bool → Option Source → AnswerTrees BriefReadAnswers → Trees → List ℕ
 related_text Gcc chain inherited a ts = brief_rows_text (related_rows chain inherited a ts)
 related_text Github chain inherited a ts = commands_text (related_commands chain inherited a ts)
 

@@ -4,8 +4,8 @@ use Rattle.std.specs.Option.{option_copied}
 use Rattle.miette_protocol.specs.rules.Reading.{Source, Span}
 use Rattle.miette_positions.specs.declared.position.PositionEncoding.TheVariants.{Utf16}
 use Rattle.miette_positions.specs.rules.Regions.{region_of}
-use Rattle.miette_brief.specs.declared.form.Form.{Form}
-use Rattle.miette_brief.specs.declared.form.Form.TheVariants.{Gcc, Github}
+use Rattle.miette_brief.specs.declared.form.BriefForm.{BriefForm}
+use Rattle.miette_brief.specs.declared.form.BriefForm.TheVariants.{Gcc, Github}
 use Rattle.miette_brief.specs.declared.whole_source.WholeSource.{WholeSource}
 use Rattle.miette_brief.specs.declared.whole_source.WholeSource.TheVariants.{Nowhere, Unread, Read}
 use Rattle.miette_brief.specs.declared.whole_source.NamedPositions.{NamedPositions}
@@ -43,11 +43,11 @@ IsOwn (Some source) None = ⊥
 IsOwn (Some source) (Some it) = IsWholeSource (Some source) it
 
 -- the commands' format reads sources as a whole; GCC's format needn't
-abbrev pub IsWholeIn : Form → Option Source → WholeSource → Type 0
+abbrev pub IsWholeIn : BriefForm → Option Source → WholeSource → Type 0
 IsWholeIn Gcc source it = ⊤
 IsWholeIn Github source it = IsWholeSource source it
 
-abbrev pub IsOwnIn : Form → Option Source → Option WholeSource → Type 0
+abbrev pub IsOwnIn : BriefForm → Option Source → Option WholeSource → Type 0
 IsOwnIn Gcc source own = ⊤
 IsOwnIn Github source own = IsOwn source own
 

@@ -1,4 +1,4 @@
--- What a device's failure says about a call.
+-- What the failure of a reader or writer says about a call.
 use Rattle.std.specs.Prelude.{◌≡◌, ℕ, ◌<◌, ◌⊎◌, List, ◌++◌, length, Some, None, IsErr, Option, Result, Ok}
 
 -- a write that failed, or that wrote nothing of a nonempty buffer

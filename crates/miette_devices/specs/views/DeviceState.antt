@@ -1,4 +1,4 @@
--- What a device represents.
+-- What a `Device` represents.
 use Rattle.std.specs.Prelude.{Bool}
 
 -- the reader or writer, and whether one of its calls failed

@@ -7,7 +7,7 @@ use Rattle.miette_fix_rows.specs.rules.DiffFrames.{DiffLine, PairedLine, DiffPos
 use Rattle.miette_fix_rows.specs.rules.DiffFrames.{added_with, paired_line, removed_with}
 use Rattle.miette_fix_drawing.specs.declared.segments.Segment.{Segment}
 use Rattle.miette_fix_drawing.specs.declared.segments.PairedText.{PairedText}
-use Rattle.miette_fix_drawing.specs.declared.segments.SegmentLine.{SegmentLine}
+use Rattle.miette_fix_drawing.specs.declared.segments.DiffLine.{DiffLine as MadeLine}
 use Rattle.miette_fix_drawing.specs.declared.segments.DiffLineKind.{DiffLineKind}
 use Rattle.miette_fix_drawing.specs.declared.segments.DiffLineKind.TheVariants.{Kept, Removed, Added}
 
@@ -20,7 +20,7 @@ line_by Kept text other = kept text
 line_by Removed text other = removed text other
 line_by Added text other = added text other
 
-abbrev pub line_of_shown : SegmentLine → DiffLine
+abbrev pub line_of_shown : MadeLine → DiffLine
 line_of_shown line = line_by line.kind line.text.now (option_map paired_line_of line.other)
 
 -- lines of one kind, with their counterparts
@@ -46,7 +46,7 @@ abbrev pub lines_of_segments : List Segment → List DiffLine
 lines_of_segments list = flat_map lines_of_segment list
 
 -- adds a line in front, if there is one
-abbrev pub shown_before : Option SegmentLine → List DiffLine → List DiffLine
+abbrev pub shown_before : Option MadeLine → List DiffLine → List DiffLine
 shown_before None rest = []
 shown_before (Some line) rest = line_of_shown line ∷ rest
 
@@ -61,5 +61,5 @@ FitsBy Kept at size = at.old_offset + size < 2 ^ 64
 FitsBy Removed at size = at.old_offset + size < 2 ^ 64
 FitsBy Added at size = at.new_offset + size < 2 ^ 64
 
-abbrev pub LineFits : DiffPosition → SegmentLine → Type 0
+abbrev pub LineFits : DiffPosition → MadeLine → Type 0
 LineFits at line = FitsBy line.kind at (length line.text.now)

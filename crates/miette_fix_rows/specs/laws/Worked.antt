@@ -29,3 +29,12 @@ worked_rows bytes edits =
 -- two characters of two columns each and a space, on the first of two lines
 abbrev pub han : List ℕ
 han = 0xE6 ∷ 0xBC ∷ 0xA2 ∷ 0xE5 ∷ 0xAD ∷ 0x97 ∷ 32 ∷ 10 ∷ 98 ∷ 10 ∷ []
+
+-- the same with a limit on a line's columns
+abbrev pub cut_settings : ℕ → SnippetSettings
+cut_settings limit = record worked_settings { layout = record default_layout { line_columns = Some limit } }
+
+abbrev pub cut_rows : ℕ → List ℕ → List Replacement → List (List ℕ)
+cut_rows limit bytes edits =
+    map (λ row. map (λ glyph. glyph.code) (glyphs_of row))
+    (fix_rows (cut_settings limit) (named_source bytes) false edits)

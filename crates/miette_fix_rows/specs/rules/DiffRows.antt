@@ -189,8 +189,8 @@ refused_fix_row s name =
     ∷ plain_run s.width (codes "]") ∷ []
 
 abbrev pub error_name : FixError → List ℕ
-error_name OutOfBounds = codes "OutOfBounds"
-error_name Overlap = codes "Overlap"
+error_name (OutOfBounds edit) = codes "OutOfBounds"
+error_name (Overlap first second) = codes "Overlap"
 error_name Memory = codes "Memory"
 
 -- the frames of edits that can be applied

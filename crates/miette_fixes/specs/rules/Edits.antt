@@ -37,6 +37,10 @@ is_after edit other =
     nat_lt other.span.offset edit.span.offset
     || ((other.span.offset == edit.span.offset) && nat_lt other.span.len edit.span.len)
 
+-- whether two edits have the same span
+abbrev pub same_span : Replacement → Replacement → Bool
+same_span edit other = (edit.span.offset == other.span.offset) && (edit.span.len == other.span.len)
+
 -- two edits overlap if the one that sorts first ends after the other's offset
 abbrev pub overlap : Replacement → Replacement → Bool
 overlap edit next =

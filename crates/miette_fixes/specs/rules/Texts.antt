@@ -1,5 +1,5 @@
 -- The texts of errors and names.
-use Rattle.std.specs.Prelude.{ℕ, List, codes}
+use Rattle.std.specs.Prelude.{ℕ, List, ◌++◌, codes, decimal}
 use Rattle.miette_fixes.specs.declared.applicability.Applicability.{Applicability}
 use Rattle.miette_fixes.specs.declared.applicability.Applicability.TheVariants.{MachineApplicable, MaybeIncorrect}
 use Rattle.miette_fixes.specs.declared.applicability.Applicability.TheVariants.{HasPlaceholders, Unspecified}
@@ -15,6 +15,7 @@ applicability_name Unspecified = codes "unspecified"
 
 -- what is printed for a fix that can't be applied
 abbrev pub fix_error_text : FixError → List ℕ
-fix_error_text OutOfBounds = codes "an edit ends after the end of the source"
-fix_error_text Overlap = codes "two edits overlap"
+fix_error_text (OutOfBounds edit) = codes "edits[" ++ decimal edit ++ codes "] ends after the end of the source"
+fix_error_text (Overlap first second) =
+    codes "edits[" ++ (decimal first ++ (codes "] and edits[" ++ (decimal second ++ codes "] overlap")))
 fix_error_text Memory = codes "memory allocation failed"

@@ -1,5 +1,7 @@
 -- Passes over edits in order.
-use Rattle.std.specs.Prelude.{ℕ, List, [], ◌∷◌, Bool, true, false, ◌&&◌, ◌||◌, not, nat_lt}
+use Rattle.std.specs.Prelude.{List, [], ◌∷◌, Bool, true, ◌&&◌, not, nat_lt, Option, Some, None, if◌then◌else◌}
+use Rattle.miette_fixes.specs.declared.error.FixError.{FixError}
+use Rattle.miette_fixes.specs.rules.Applying.{overlap_error}
 use Rattle.miette_fixes.specs.rules.Edits.{Replacement, end_of, is_after}
 
 -- no edit sorts after the next one
@@ -11,7 +13,13 @@ abbrev pub ascends : List Replacement → Bool
 ascends [] = true
 ascends (edit ∷ edits) = ascends_after edit edits
 
--- whether an edit begins before an offset, or before the end of the previous edit
-abbrev pub crosses_from : ℕ → List Replacement → Bool
-crosses_from at [] = false
-crosses_from at (edit ∷ edits) = nat_lt edit.span.offset at || crosses_from (end_of edit) edits
+-- the error for the first edit that ends after the next one begins
+abbrev pub crossing_after : List Replacement → Replacement → List Replacement → Option FixError
+crossing_after edits edit [] = None
+crossing_after edits edit (next ∷ sorted) =
+    if nat_lt next.span.offset (end_of edit) then Some (overlap_error edits edit next)
+    else crossing_after edits next sorted
+
+abbrev pub crossing : List Replacement → List Replacement → Option FixError
+crossing edits [] = None
+crossing edits (edit ∷ sorted) = crossing_after edits edit sorted

@@ -1,4 +1,4 @@
--- Values that a text may denote.
+-- Values that a text may represent.
 use Rattle.std.specs.Prelude.{IsUtf8, List, [], ◌∷◌, ⊤}
 use Rattle.miette_json.specs.rules.Json.{Json}
 use Rattle.miette_json.specs.rules.Denotes.{Token, structural, text, whole, tokens_then}

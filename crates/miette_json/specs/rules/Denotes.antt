@@ -1,4 +1,4 @@
--- RFC 8259 as a relation between bytes and values. A text denotes a value if it is UTF-8 and consists of the value's
+-- RFC 8259 as a relation between bytes and values. A text represents a value if it is UTF-8 and consists of the value's
 -- tokens, with white space before, between and after them.
 use Rattle.std.specs.Prelude.{IsUtf8, ◌≡◌, ◌⊎◌, ◌≢◌, ℕ, ◌+◌, ◌-◌, ◌*◌, ◌<◌, ◌≤◌, List, [], ◌∷◌, ◌++◌, ⊤, cond, ◌||◌}
 use Rattle.std.specs.Prelude.{◌==◌}
@@ -45,7 +45,7 @@ pub data StringPart : Type 0 where
   unit : (a b c d : ℕ) → StringPart
   pair : (a b c d e f g h : ℕ) → StringPart
 
--- the character that `\` and this letter denote, or 0 if there is no such escape
+-- the character that `\` and this letter represent, or 0 if there is no such escape
 abbrev pub short_for : ℕ → ℕ
 short_for x =
     cond ((x == 34) || ((x == 92) || (x == 47))) x
@@ -76,7 +76,7 @@ string_part_text (short letter) rest = 92 ∷ letter ∷ rest
 string_part_text (unit a b c d) rest = 92 ∷ 117 ∷ a ∷ b ∷ c ∷ d ∷ rest
 string_part_text (pair a b c d e f g h) rest = 92 ∷ 117 ∷ a ∷ b ∷ c ∷ d ∷ 92 ∷ 117 ∷ e ∷ f ∷ g ∷ h ∷ rest
 
--- the bytes that a part denotes
+-- the bytes that a part represents
 abbrev pub part_value : StringPart → List ℕ
 part_value (plain x) = x ∷ []
 part_value (short letter) = short_for letter ∷ []
@@ -171,6 +171,6 @@ AreJsonTokens (t ∷ ts) bytes = (rest : List ℕ) × Next t bytes rest × AreJs
 abbrev pub HasTokensOf : List ℕ → Json → Type 0
 HasTokensOf bytes v = AreJsonTokens (tokens_then v []) bytes
 
--- the text denotes the value: it is UTF-8, and its tokens are those of the value
+-- the text represents the value: it is UTF-8, and its tokens are those of the value
 abbrev pub Denotes : List ℕ → Json → Type 0
 Denotes bytes v = IsUtf8 bytes × HasTokensOf bytes v

@@ -11,7 +11,7 @@ abbrev pub value_text : Tree → List ℕ
 value_text t = json_text (value_of t)
 
 -- The text spells a value that the report may have. If the sources of its file names always read, that is the report's
--- one value. The text denotes that value and no other.
+-- one value. The text represents that value and no other.
 pub record IsJsonOf (t : Tree) (text : List ℕ) : Type 0 where
   pub value : Json
   pub of_tree : IsValueOf t value

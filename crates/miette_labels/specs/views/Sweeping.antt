@@ -3,14 +3,9 @@ use Rattle.std.specs.Prelude.{ℕ, ◌<◌, ◌≤◌, ◌≡◌, List, length, 
 use Rattle.std.specs.Prelude.{slice_index_or}
 use Rattle.std.specs.List.{filter}
 use Rattle.miette_labels.specs.declared.placed.PlacedLabel.{PlacedLabel}
-use Rattle.miette_labels.specs.declared.sweep.LineBounds.{LineBounds}
 use Rattle.miette_lines.specs.rules.Lines.{Line}
 use Rattle.miette_labels.specs.views.ProgramLabels.{no_label, drawn_of}
 use Rattle.miette_labels.specs.rules.Labels.{reach, is_one_line, is_multi_line}
-
--- a line with these bounds; where its text ends doesn't matter
-abbrev pub line_of_bounds : LineBounds → Line
-line_of_bounds b = record { start = b.start; text_end = b.after; end = b.after }
 
 -- whether a label continues past an offset
 abbrev pub passes : ℕ → PlacedLabel → Bool

@@ -63,7 +63,7 @@ actions_in width None region = []
 actions_in width (Some document) None = []
 actions_in width (Some document) (Some region) = actions width document.uri document.text region
 
--- ---- what a client is told to change
+-- ---- what a client is asked to change
 
 -- the range of an edit covers exactly the bytes that the edit replaces
 abbrev pub HasItsPart : List ℕ → Replacement → Type 0

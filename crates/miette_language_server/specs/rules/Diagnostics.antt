@@ -51,7 +51,7 @@ diagnostic_value uri source c = by_fixes c.fixes (plain_value source c) (fixable
 abbrev pub diagnostics : ℕ → List ℕ → List ℕ → List Data
 diagnostics width uri text = map (diagnostic_value uri (utf16_positions text)) (coded_findings text width)
 
--- ---- as the client is told
+-- ---- as the client gets them
 
 abbrev pub version_members : Option ℤ → Members
 version_members None = no_members

@@ -1,7 +1,6 @@
 -- What a line's own rows show.
 use Rattle.std.specs.Prelude.{List, ◌++◌, map, false}
 use Rattle.miette_snippet_frames.specs.declared.line_context.LineContext.{LineContext}
-use Rattle.miette_layout.specs.declared.shown_line.ShownLine.{ShownLine}
 use Rattle.miette_style.specs.rules.Rows.{Row}
 use Rattle.miette_labels.specs.rules.Labels.{DrawnLabel}
 use Rattle.miette_labels.specs.views.ProgramLabels.{drawn_of}
@@ -13,18 +12,18 @@ use Rattle.miette_lines.specs.views.Walking.{line_of_text}
 use Rattle.miette_snippet_frames.specs.views.LineContexts.{settings, multi_labels}
 
 -- the cells of the line's text
-abbrev pub shown_cells : LineContext → ShownLine → List Cell
-shown_cells context shown =
+abbrev pub shown_cells : LineContext → List Cell
+shown_cells context =
     cells_from width_of context.frame.settings.layout.now.tab_width false context.line.start 0
-    (characters shown.text.now)
+    (characters context.text.now)
 
 -- the one-line labels, with their texts
-abbrev pub labels_alone : LineContext → ShownLine → List DrawnLabel
-labels_alone context shown = map drawn_of shown.one.now
+abbrev pub labels_alone : LineContext → List DrawnLabel
+labels_alone context = map drawn_of context.one.now
 
 -- the number row of a line, with its shown text
-abbrev pub number_row : LineContext → ShownLine → Row → Row
-number_row context shown text =
-    number_start (settings context) context.frame.number_width shown.number
+abbrev pub number_row : LineContext → Row → Row
+number_row context text =
+    number_start (settings context) context.frame.number_width context.number
     ++ number_gutter (settings context) (line_of_text context.line) context.gutter
     (multi_labels context) ++ text

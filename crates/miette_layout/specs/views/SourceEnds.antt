@@ -1,4 +1,4 @@
--- What a read at the largest offset of labels tells about the end of the source.
+-- What a read at the largest offset of labels says about the end of the source.
 use Rattle.std.specs.Prelude.{ℕ, ◌≡◌, max, List, [], ◌∷◌, length, Bool, true, false, not, ◌&&◌, ◌==◌, nat_lt, unwrap_or}
 use Rattle.miette_protocol.specs.views.Meaning.{Label}
 use Rattle.miette_protocol.specs.rules.Reading.{Source}
@@ -15,7 +15,7 @@ last_offset (label ∷ labels) = max label.span.offset (last_offset labels)
 abbrev pub asks_at : ℕ → Label → Bool
 asks_at offset label = is_at_end offset label && nat_lt 0 (unwrap_or label.context 1)
 
--- If the read succeeds, it tells whether a nonempty source ends at an offset.
+-- If the read succeeds, it says whether a nonempty source ends at an offset.
 pub record TellsEnd (source : Source) (offset : ℕ) (ends : Bool) : Type 0 where
   pub fails : Bool
   pub always : source.always_reads ≡ true → fails ≡ false

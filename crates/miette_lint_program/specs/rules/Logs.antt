@@ -1,4 +1,4 @@
--- The reports of what is found, one for each finding, and the log of them.
+-- The reports of the findings, one each, and their log.
 use Rattle.std.specs.Prelude.{ℕ, List, [], ◌∷◌, Some, None, map, unwrap_or}
 use Rattle.miette_protocol.specs.views.Diagnostic.{message_alone}
 use Rattle.miette_protocol.specs.views.Meaning.{Meaning}

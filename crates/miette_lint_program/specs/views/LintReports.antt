@@ -4,7 +4,7 @@ use Rattle.std.specs.Prelude.{⊤, encode_utf8_all, if◌then◌else◌, string_
 use Rattle.miette_lines.specs.rules.Lists.{is_nil}
 use Rattle.miette_protocol.specs.views.Diagnostic.{message_alone}
 use Rattle.miette_tree.specs.rules.Tree.{Tree, Trees, more_trees, no_trees, with_fix}
-use Rattle.miette_brief.specs.declared.form.Form.TheVariants.{Github}
+use Rattle.miette_brief.specs.declared.form.BriefForm.TheVariants.{Github}
 use Rattle.miette_brief.specs.rules.Report as rows
 use Rattle.miette_protocol.specs.views.Meaning.{Label, Meaning}
 use Rattle.miette_protocol.specs.declared.protocol.Severity.TheVariants.{Warning}
@@ -44,22 +44,22 @@ label_of it = it.label
 
 -- ---- what is found in a source, as a report
 
--- the picture of a report, whose lines are cut at so many columns
+-- the graphical report, with source lines cut at this many columns
 abbrev pub picture : ℕ → Tree → List ℕ
 picture width t = encode_utf8_all (report_text whole_drawing (draw_settings (Some width)) t unlisted)
 
--- brief rows of a report
+-- the brief report
 abbrev pub rows_text : Tree → List ℕ
 rows_text t = rows.brief rows.default_brief_settings t rows.unlisted
 
--- a text, where anything is found
+-- a text, if there are findings
 abbrev pub where_found : List Label → List ℕ → List ℕ
 where_found [] text = []
 where_found (l ∷ ls) text = text
 
--- The report on a source in which this is found, in this form: of one warning with all labels, a picture, brief rows,
--- or a picture with one fix of all that is proposed; of a warning for each finding, commands, or a log. With a fixed
--- text goes a picture of what is left. Where nothing is found only a log has a text.
+-- The report of these findings, in this form. The graphical and the brief report are those of one warning with all
+-- labels; `--diff` adds one fix of all proposed edits. Commands and logs have a warning for each finding. `--fix` has a
+-- graphical report of the remaining findings. If nothing was found, only a log has a text.
 abbrev pub report_in : Written → List ℕ → ℕ → List ℕ → List Label → List ℕ
 report_in graphical name width source found = where_found found (picture width (over_input name (warning found) source))
 report_in brief name width source found = where_found found (rows_text (over_input name (warning found) source))
@@ -85,32 +85,32 @@ is_fix _ = false
 abbrev pub source_of : Check → List ℕ → List ℕ
 source_of it input = if is_fix it.output then fixed_text input else input
 
--- what is written: the report on the input, or its fixed text
+-- the output: the report on the input, or its fixed text
 abbrev pub text_of : Check → List ℕ → List ℕ
 text_of it input = if is_fix it.output then fixed_text input else report_on it input
 
--- whether nothing is found
+-- whether nothing was found
 abbrev pub is_clean : Check → List ℕ → Bool
 is_clean it input = is_nil (findings_of (source_of it input) it.width)
 
--- What was found: nothing; something, which was written; or something in the fixed text, with the report on that.
+-- What was found: nothing, findings whose report was written, or findings in the fixed text, with their report.
 abbrev pub IsVerdict : Verdict → Check → List ℕ → Type 0
 IsVerdict Clean it input = is_clean it input ≡ true
 IsVerdict Found it input = is_clean it input ≡ false
 IsVerdict (RemainingFindings text) it input =
     (is_clean it input ≡ false) × (string_bytes text ≡ report_on it (fixed_text input))
 
--- only of a fixed text there is something left
+-- findings remain only in a fixed text
 abbrev pub IsVerdictIn : Written → Verdict → Type 0
 IsVerdictIn output Clean = ⊤
 IsVerdictIn output Found = is_fix output ≡ false
 IsVerdictIn output (RemainingFindings text) = is_fix output ≡ true
 
--- the status of a check: 0 where nothing is found
+-- the exit code of a check: 0 if nothing was found
 abbrev pub check_status : Check → List ℕ → ℕ
 check_status it input = if is_clean it input then 0 else 1
 
--- the status of what `lint` is asked for
+-- the exit code of a request
 abbrev pub request_status : Request → List ℕ → ℕ
 request_status (check it) input = check_status it input
 request_status (serve width) input = (served width input).status

@@ -1,4 +1,4 @@
--- What `lint` is asked for, as the code has it.
+-- The request of `lint`, as the code keeps it.
 use Rattle.miette_lint_program.specs.declared.lint_request.LintCheck.{LintCheck}
 use Rattle.miette_lint_program.specs.declared.lint_request.LintOutput.{LintOutput}
 use Rattle.miette_lint_program.specs.declared.lint_request.LintOutput.TheVariants as outputs

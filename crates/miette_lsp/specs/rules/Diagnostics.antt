@@ -43,7 +43,7 @@ abbrev pub primary_area : Option SarifLocation → Option SarifRegion
 primary_area None = None
 primary_area (Some m) = place_area m.place
 
--- ---- what is told of a finding
+-- ---- what is written for a finding
 
 -- 1 for errors, 2 for warnings, 3 for advice, by the level of a SARIF result
 abbrev pub severity : List ℕ → ℕ

@@ -7,7 +7,7 @@ use Rattle.miette_sarif.specs.rules.Findings.{Finding}
 use Rattle.miette_sarif.specs.rules.FindingList.{AreFindingsOf, read_findings}
 use Rattle.miette_lsp.specs.rules.Documents.{documents}
 
--- The text spells the documents of the findings of the reports, for some answers of their sources. It denotes that
+-- The text spells the documents of the findings of the reports, for some answers of their sources. It represents that
 -- value and no other.
 pub record IsLspOf (tool : List ℕ) (ts : Trees) (text : List ℕ) : Type 0 where
   pub findings : List Finding

@@ -1,12 +1,7 @@
 -- The lists of the code, as the helper definitions represent them.
-use Rattle.std.specs.Prelude.{map}
 use Rattle.miette_sarif.specs.views.Findings.{texts_of}
-use Rattle.miette_sarif.specs.views.Values.{values_of}
 use Rattle.miette_lsp.specs.declared.documents.DocumentLists.{DocumentLists}
 use Rattle.miette_lsp.specs.steps.Putting.{Lists}
 
 abbrev pub document_lists_of : DocumentLists → Lists
-document_lists_of it = record {
-  uris = texts_of it.uris.keys;
-  lists = map (λ list. values_of list.items) it.lists.items;
-}
+document_lists_of it = record { uris = texts_of it.uris.keys; lists = it.lists.items }

@@ -88,8 +88,8 @@ abbrev pub failure_row : List ℕ → List ℕ
 failure_row reason = row (codes "    failed to apply: " ++ reason)
 
 abbrev pub reason_text : FixError → List ℕ
-reason_text OutOfBounds = codes "OutOfBounds"
-reason_text Overlap = codes "Overlap"
+reason_text (OutOfBounds edit) = codes "OutOfBounds"
+reason_text (Overlap first second) = codes "Overlap"
 reason_text Memory = codes "Memory"
 
 -- a line for each edit by offset, or the reason why they can't be applied

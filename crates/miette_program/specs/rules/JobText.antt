@@ -1,4 +1,4 @@
--- The text of a job, by what was asked for, and by the handler that gives it.
+-- The text that `job` writes, by its arguments and by the handler that they choose.
 use Rattle.std.specs.Prelude.{◌≡◌, ℕ, Bool, List, ◌++◌, Option, None, true, false, encode_utf8_all}
 use Rattle.miette.specs.rules.Choice.{IsChosen, is_graphical}
 use Rattle.miette.specs.rules.Options.{Options}
@@ -27,9 +27,9 @@ use Rattle.miette_program.specs.declared.arguments.Choice.{Choice}
 use Rattle.miette_program.specs.declared.arguments.Choice.TheVariants.{Build, Json, Debug}
 use Rattle.miette_program.specs.rules.LanguageRules.{TokensFollow}
 
--- A text that a handler gives for a tree whose sources always read: a picture, by answers that its highlighter gave by
--- calls that happen, one alone where no highlighter or a blank one is set; a narrated or brief text only where every
--- label that is told is accepted.
+-- A text that a handler renders for a tree whose sources always read. A graphical report depends on what its
+-- highlighter returned, so without a highlighter, or with one that never highlights, there is one such text. A narrated
+-- or brief report exists only if every label that it prints is in bounds.
 abbrev pub IsBuiltText : {H : Type 0} → (H → Bool) → (Option H → List Call → Type 0) → MietteHandler H → Tree → List ℕ
     → Type 0
 IsBuiltText is_blank happen (Graphical it) t text =
@@ -39,7 +39,7 @@ IsBuiltText is_blank happen (Narrated it) t text = (report_in_bounds t ≡ true)
     × (text ≡ narrated.narration it t narrated.unlisted)
 IsBuiltText is_blank happen (Brief it) t text = (report_in_bounds t ≡ true) × (text ≡ brief.brief it t brief.unlisted)
 
--- The same by what was asked for. A highlighter cuts the lines of a picture into their tokens, by its rules.
+-- The same, by the arguments. The highlighter splits source lines into tokens by the rules of its language.
 abbrev pub IsJobText : (LanguageHighlighter → Bool) → Choice → Options LanguageHighlighter → Terminal → Tree → List ℕ
     → Type 0
 IsJobText is_blank Build options terminal t text =
@@ -54,13 +54,13 @@ IsTelling choice options terminal = (choice ≡ Build) × (is_graphical options 
 
 -- ---- the handler of a job, what it gives, and what it keeps
 
--- this handler is asked for
+-- the arguments choose this handler
 abbrev pub IsAsked : {H : Type 0} → Choice → Options H → Terminal → JobHandler H → Type 0
 IsAsked c o t chosen.Json = c ≡ Json
 IsAsked c o t chosen.Debug = c ≡ Debug
 IsAsked c o t (chosen.Built it) = (c ≡ Build) × IsChosen o t it
 
--- its highlighter, where reports are pictures and one is set
+-- its highlighter, if reports are graphical and it has one
 abbrev pub highlighter_of : {H : Type 0} → JobHandler H → Option H
 highlighter_of chosen.Json = None
 highlighter_of chosen.Debug = None
@@ -73,13 +73,13 @@ abbrev pub HappenLater : {H : Type 0} → (H → List Call → Type 0) → Optio
 HappenLater {H} may_follow highlighter calls =
     (earlier : List Call) × (after : Option H) × AreCallsOn may_follow highlighter after (earlier ++ calls)
 
--- A text that it gives for a tree whose sources always read, at first or later.
+-- A text that it renders for a tree whose sources always read, in the first call or a later one.
 abbrev pub IsGiven : {H : Type 0} → (H → Bool) → (H → List Call → Type 0) → JobHandler H → Tree → List ℕ → Type 0
 IsGiven is_blank may_follow chosen.Json t text = text ≡ json_text (value_of t)
 IsGiven is_blank may_follow chosen.Debug t text = IsDebugText t text
 IsGiven is_blank may_follow (chosen.Built it) t text = IsBuiltText is_blank (HappenLater may_follow) it t text
 
--- only a narrated or brief report is refused, for a label that isn't accepted
+-- only a narrated or brief report is refused, because of a label out of bounds
 abbrev pub JobMayRefuse : {H : Type 0} → JobHandler H → Tree → Type 0
 JobMayRefuse chosen.Json t = ⊥
 JobMayRefuse chosen.Debug t = ⊥
@@ -87,7 +87,7 @@ JobMayRefuse (chosen.Built (Graphical it)) t = ⊥
 JobMayRefuse (chosen.Built (Narrated it)) t = report_in_bounds t ≡ false
 JobMayRefuse (chosen.Built (Brief it)) t = report_in_bounds t ≡ false
 
--- The handler stays; of one that is built what a handler keeps does.
+-- Rendering doesn't change the handler. Of a built handler, only the highlighter's state may change.
 abbrev pub JobHandlerStays : {H : Type 0} → (H → Bool) → JobHandler H → JobHandler H → Type 0
 JobHandlerStays is_blank chosen.Json new = new ≡ chosen.Json
 JobHandlerStays is_blank chosen.Debug new = new ≡ chosen.Debug
@@ -95,7 +95,7 @@ JobHandlerStays is_blank (chosen.Built old) (chosen.Built new) = HandlerKeeps is
 JobHandlerStays is_blank (chosen.Built old) chosen.Json = ⊥
 JobHandlerStays is_blank (chosen.Built old) chosen.Debug = ⊥
 
--- calls brought its highlighter from its state in one to that in the other
+-- calls led from the highlighter's state in one handler to its state in the other
 pub record IsLed {H : Type 0} (may_follow : H → List Call → Type 0) (old new : JobHandler H) : Type 0 where
   pub calls : List Call
   pub happened : AreCallsOn may_follow (highlighter_of old) (highlighter_of new) calls

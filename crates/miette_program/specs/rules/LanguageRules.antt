@@ -13,7 +13,7 @@ language_rules Toml = toml_rules
 language_rules Json = json_rules
 language_rules Rust = rust_rules
 
--- its language, its rules, and what the previous line left open
+-- its language, its rules, and the part that the previous line left open
 pub record Highlighting : Type 0 where
   pub language : Language
   pub rules : List RuleText

@@ -1,4 +1,4 @@
--- What the words of `job` and `bench` ask for: a table from words to the handler, its options and the terminal.
+-- The arguments of `job` and `bench`: a table from arguments to the handler, its options and the terminal.
 use Rattle.std.specs.Prelude.{◌≡◌, ◌==◌, ℕ, Bool, true, false, ◌&&◌, List, [], ◌∷◌, length, Option, Some, None}
 use Rattle.std.specs.Prelude.{if◌then◌else◌, nat_lt, ◌^◌, codes, bytes_eq, string_bytes}
 use Rattle.std.specs.Option.{option_map, option_map_or, option_and_then}
@@ -11,7 +11,7 @@ use Rattle.miette_text.specs.declared.options.WordSeparator.TheVariants.{AsciiSp
 use Rattle.miette_text.specs.declared.options.WordSplitter.{WordSplitter}
 use Rattle.miette_text.specs.declared.options.WordSplitter.TheVariants.{HyphenSplitter, NoHyphenation}
 use Rattle.miette.specs.rules.Options.{Options, no_options}
-use Rattle.miette_brief.specs.declared.form.Form.TheVariants.{Gcc, Github}
+use Rattle.miette_brief.specs.declared.form.BriefForm.TheVariants.{Gcc, Github}
 use Rattle.miette.specs.declared.options.builder.RgbColors.{RgbColors}
 use Rattle.miette.specs.declared.options.builder.RgbColors.TheVariants.{Always, Preferred, Never}
 use Rattle.miette_program.specs.declared.language.Language.{Language}
@@ -19,14 +19,14 @@ use Rattle.miette_program.specs.declared.language.Language.TheVariants as langua
 use Rattle.miette_program.specs.declared.language.LanguageHighlighter.{LanguageHighlighter}
 use Rattle.miette_program.specs.declared.arguments.Choice.{Choice}
 use Rattle.miette_program.specs.declared.arguments.Choice.TheVariants.{Build, Json, Debug}
-use Rattle.miette_devices.specs.declared.output.Output.{Output}
-use Rattle.miette_devices.specs.declared.output.Output.TheVariants as output
-use Rattle.miette_devices.specs.rules.Outputs.{output_named}
+use Rattle.miette_devices.specs.declared.output_form.OutputForm.{OutputForm}
+use Rattle.miette_devices.specs.declared.output_form.OutputForm.TheVariants as output
+use Rattle.miette_devices.specs.rules.OutputForms.{form_named}
 use Rattle.miette_program.specs.rules.LanguageRules.{Highlighting, highlighting_of, language_highlighting}
 
 -- ---- what may be asked for
 
--- what the text goes to, its texts as bytes
+-- the terminal, with its texts as bytes
 pub record TerminalFacts : Type 0 where
   pub width : Option ℕ
   pub color : Option Bool
@@ -49,16 +49,16 @@ terminal_facts_of t = record {
   no_color = option_map string_bytes t.no_color;
 }
 
--- the handler, its options with what their highlighter is beside them, and what the terminal is and has
+-- the handler, its options, their highlighter, and the terminal
 pub record JobRequest : Type 0 where
   pub choice : Choice
   pub options : Options LanguageHighlighter
   pub highlighting : Option Highlighting
   pub facts : TerminalFacts
 
--- where nothing is asked for
-abbrev pub nothing_asked : JobRequest
-nothing_asked = record {
+-- without any argument
+abbrev pub no_arguments : JobRequest
+no_arguments = record {
   choice = Build;
   options = no_options;
   highlighting = None;
@@ -94,8 +94,8 @@ knows r facts = Some (record r { facts = facts })
 
 -- ---- the table: what is asked for with one word more, and nothing where there is no such word
 
--- a word without a value: a form of the report; a log is none
-abbrev pub with_form : Output → JobRequest → Option JobRequest
+-- an argument without a value: a form of the report, except a log
+abbrev pub with_form : OutputForm → JobRequest → Option JobRequest
 with_form output.Graphical r = asks r (record r.options { graphical = Some true })
 with_form output.Narrated r = asks r (record r.options { narrated = Some true })
 with_form output.Brief r = asks r (record r.options { brief = true; brief_form = Gcc })
@@ -105,7 +105,7 @@ with_form output.Debug r = Some (record r { choice = Debug })
 with_form output.Sarif r = None
 with_form output.Lsp r = None
 
--- a word whose value is a number from 1
+-- an argument with a positive number
 abbrev pub with_count : List ℕ → ℕ → JobRequest → Option JobRequest
 with_count word n r =
     let o = r.options in
@@ -116,7 +116,7 @@ with_count word n r =
     else (if bytes_eq word (codes "--line-columns")
     then asks r (record o { layout = record o.layout { line_columns = Some n } }) else None)))
 
--- a word whose value is a number
+-- an argument with a number
 abbrev pub with_number : List ℕ → ℕ → JobRequest → Option JobRequest
 with_number word n r =
     let o = r.options in
@@ -125,18 +125,18 @@ with_number word n r =
     else (if bytes_eq word (codes "--term-width") then knows r (record r.facts { width = Some n })
     else with_count word n r))
 
--- where words are cut: at hyphens, or nowhere
+-- where words are split: at hyphens, or nowhere
 abbrev pub splitter : Bool → WordSplitter
 splitter true = HyphenSplitter
 splitter false = NoHyphenation
 
--- a word whose value is `yes` or `no`, and which speaks of the terminal
+-- an argument about the terminal with `yes` or `no`
 abbrev pub with_terminal : List ℕ → Bool → JobRequest → Option JobRequest
 with_terminal word on r =
     if bytes_eq word (codes "--term-unicode") then knows r (record r.facts { unicode = on })
     else (if bytes_eq word (codes "--term-links") then knows r (record r.facts { hyperlinks = on }) else None)
 
--- a word whose value is `yes` or `no`
+-- an argument with `yes` or `no`
 abbrev pub with_answer : List ℕ → Bool → JobRequest → Option JobRequest
 with_answer word on r =
     let o = r.options in
@@ -178,7 +178,7 @@ color_named name =
     else (if bytes_eq name (codes "ansi") then Some (Some false)
     else (if bytes_eq name (codes "rgb") then Some (Some true) else None))
 
--- how the words of texts are told apart
+-- how texts are split into words
 abbrev pub separator_named : List ℕ → Option WordSeparator
 separator_named name =
     if bytes_eq name (codes "ascii") then Some AsciiSpace
@@ -190,7 +190,7 @@ language_named name =
     else (if bytes_eq name (codes "json") then Some language.Json
     else (if bytes_eq name (codes "rust") then Some language.Rust else None))
 
--- a word whose value is a name
+-- an argument with a name
 abbrev pub with_name : List ℕ → List ℕ → JobRequest → Option JobRequest
 with_name word name r =
     let o = r.options in
@@ -206,52 +206,53 @@ with_name word name r =
     then option_and_then (λ color. knows r (record r.facts { color = color })) (color_named name)
     else None))))
 
--- the number that a word writes: one digit or more and nothing else, below 2 ^ 64
+-- a number is one or more digits and nothing else, and is below 2 ^ 64
 abbrev pub read_number : List ℕ → Option ℕ
 read_number word =
     if (nat_lt 0 (length word) && all_ascii_digits word) && nat_lt (digits_value 10 word) (2 ^ 64)
     then Some (digits_value 10 word) else None
 
--- a word whose value is a number, `yes`, `no` or a name
+-- an argument with a number, `yes`, `no` or a name
 abbrev pub with_read : List ℕ → List ℕ → JobRequest → Option JobRequest
 with_read word value r =
     option_map_or (λ n. with_number word n r) (read_number value)
     (if bytes_eq value (codes "yes") then with_answer word true r
     else (if bytes_eq value (codes "no") then with_answer word false r else with_name word value r))
 
--- a word with the word after it as its value: of two words that is any text
+-- an argument and its value; for two arguments the value is any text
 abbrev pub with_value : List ℕ → List ℕ → JobRequest → Option JobRequest
 with_value word value r =
     if bytes_eq word (codes "--footer") then asks r (record r.options { footer = Some value })
     else (if bytes_eq word (codes "--no-graphics") then knows r (record r.facts { no_graphics = Some value })
     else with_read word value r)
 
--- ---- what all words ask for
+-- ---- all arguments
 
--- one word after another; nothing where some word asks for nothing that there is
+-- one argument after another; `None` if one of them is wrong
 abbrev mutual
   pub with_words : List (List ℕ) → JobRequest → Option JobRequest
   with_words [] r = Some r
   with_words (word ∷ words) r =
-      option_map_or (λ form. option_and_then (with_words words) (with_form form r)) (output_named word)
+      option_map_or (λ form. option_and_then (with_words words) (with_form form r)) (form_named word)
       (with_words_after word words r)
 
   pub with_words_after : List ℕ → List (List ℕ) → JobRequest → Option JobRequest
   with_words_after word [] r = None
   with_words_after word (value ∷ words) r = option_and_then (with_words words) (with_value word value r)
 
-abbrev pub asked_by : List (List ℕ) → Option JobRequest
-asked_by words = with_words words nothing_asked
+abbrev pub parsed_arguments : List (List ℕ) → Option JobRequest
+parsed_arguments words = with_words words no_arguments
 
--- the handler that they choose: that of the last of `--json` and `--debug` which is no value, or the one that is built
-abbrev pub chosen_by : List (List ℕ) → Option Choice
-chosen_by words = option_map (λ r. r.choice) (asked_by words)
+-- the handler that they choose: JSON or debug by the last `--json` or `--debug` that isn't a value, otherwise the built
+-- one
+abbrev pub handler_choice : List (List ℕ) → Option Choice
+handler_choice words = option_map (λ r. r.choice) (parsed_arguments words)
 
--- these settings are what the words ask for by the table
-abbrev pub AreWanted : List (List ℕ) → Choice → Options LanguageHighlighter → Terminal → Type 0
-AreWanted words choice options terminal = asked_by words ≡ Some (request_of choice options terminal)
+-- these settings are those of the arguments, by the table
+abbrev pub AreParsed : List (List ℕ) → Choice → Options LanguageHighlighter → Terminal → Type 0
+AreParsed words choice options terminal = parsed_arguments words ≡ Some (request_of choice options terminal)
 
--- this holds of handler, options and terminal as the words ask for them
+-- this holds for the handler, the options and the terminal of the arguments
 abbrev pub ForAsked : List (List ℕ) → (Choice → Options LanguageHighlighter → Terminal → Type 0) → Type 0
 ForAsked words holds = (choice : Choice) × (options : Options LanguageHighlighter) × (terminal : Terminal)
-    × AreWanted words choice options terminal × holds choice options terminal
+    × AreParsed words choice options terminal × holds choice options terminal

@@ -18,7 +18,7 @@ abbrev pub listed : Items → List Data
 listed no_items = []
 listed (item d ds) = d ∷ listed ds
 
--- the items of a list; nothing of what is none
+-- the items of a list; none for any other value
 abbrev pub list_in : Data → Option (List Data)
 list_in d = option_map listed (as_array d)
 
@@ -28,7 +28,7 @@ has_text key d = is_some (member_text key d)
 abbrev pub has_list : List ℕ → Data → Bool
 has_list key d = is_some (option_and_then as_array (get key d))
 
--- the items of a list; what is no list has none
+-- the items of a list; any other value has no items
 abbrev pub array_items : Option Items → List Data
 array_items None = []
 array_items (Some ds) = listed ds

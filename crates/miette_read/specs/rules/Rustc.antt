@@ -164,7 +164,7 @@ abbrev pub holds_span : Data → Data → Bool
 holds_span outer inner =
     bytes_eq (file_name outer) (file_name inner) && range_holds (span_range outer) (span_range inner)
 
--- ---- what is told
+-- ---- what is said
 
 -- The annotation of a span with these lines before its label.
 abbrev pub span_annotation : Build → List (List ℕ) → Bool → Data → Annotation

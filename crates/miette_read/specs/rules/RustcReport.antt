@@ -22,7 +22,7 @@ use Rattle.miette_read.specs.rules.AnnotationLabels.{file_range, label_lists, wi
 
 -- ---- which row is a message
 
--- A word is there, and it isn't this one.
+-- The member is a text other than this one.
 abbrev pub is_other_word : List ℕ → Option (List ℕ) → Bool
 is_other_word word None = false
 is_other_word word (Some found) = not (bytes_eq found word)
@@ -196,7 +196,7 @@ maybe_tree (Some t) = t ∷ []
 abbrev pub rustc_trees : (List ℕ → Option Source) → Data → Option (List Tree)
 rustc_trees files d = option_map maybe_tree (rustc_tree files d)
 
--- cargo tells a reason, rustc a type of message, and older ones a list of places and one of notes
+-- cargo writes a reason, rustc a type of message, and older versions a list of spans and a list of notes
 abbrev pub is_rustc_row : Data → Bool
 is_rustc_row d = has_text (codes "reason") d
     || (has_text (codes "$message_type") d || (has_list (codes "spans") d && has_list (codes "children") d))

@@ -86,7 +86,7 @@ abbrev pub caret_location : GccContext → Data → ToolLocation
 caret_location g l =
     location_between g.files 1 (end_at g.origin (codes "start") l) (end_at g.origin (codes "finish") l)
 
--- ---- what is told
+-- ---- what is said
 
 -- The annotation of a location. A note's first location has the note's message. The diagnostic's own locations have
 -- their labels only.

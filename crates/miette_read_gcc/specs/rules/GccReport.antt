@@ -119,10 +119,10 @@ diagnostic_tree files d = context_report (gcc_context_of files d) d
 abbrev pub gcc_trees : (List ℕ → Option Source) → Data → Option (List Tree)
 gcc_trees files d = list_trees list_in diagnostic_tree files d
 
--- it tells the kind and a list of places of each diagnostic
+-- each diagnostic has its kind and a list of locations
 abbrev pub is_gcc_item : Data → Bool
 is_gcc_item d = has_text (codes "kind") d && has_list (codes "locations") d
 
--- an array of such alone, also an empty one
+-- an array of only such diagnostics, or an empty one
 abbrev pub is_gcc_array : Data → Bool
 is_gcc_array d = unwrap_or (option_map (list_all is_gcc_item) (list_in d)) false

@@ -143,7 +143,7 @@ region_location g name region = record {
   column = start_column region;
 }
 
--- ---- what is told
+-- ---- what is said
 
 abbrev pub unlocated_text : Option (List ℕ) → Bool → Annotation
 unlocated_text row own = record { rows = maybe_row row; place = None; primary = false; own = own }

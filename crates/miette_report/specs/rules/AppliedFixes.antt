@@ -59,7 +59,7 @@ Fixes all bytes holds = IsUtf8 bytes × ((t : Tree) × (tree_of_bytes bytes ≡ 
 
 -- ---- by the words
 
--- `--fix` asks for the fixes that may be applied without a look, `--fix=all` for all
+-- `--fix` applies the machine-applicable fixes, `--fix=all` all fixes
 abbrev pub fixing_of : List (List ℕ) → Option Bool
 fixing_of [] = None
 fixing_of (word ∷ []) =

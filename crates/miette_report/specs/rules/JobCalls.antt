@@ -3,7 +3,7 @@ use Rattle.std.specs.Prelude.{◌≡◌, ◌⊎◌, ℕ, ◌<◌, Bool, List, �
 use Rattle.std.specs.Prelude.{codes, decimal, length}
 use Rattle.miette_report.specs.rules.Job.{IsDescription, IsNoDescription, IsRefused, Writes}
 use Rattle.miette_program.specs.rules.JobText.{IsTelling}
-use Rattle.miette_program.specs.rules.OptionWords.{asked_by, ForAsked}
+use Rattle.miette_program.specs.rules.OptionWords.{parsed_arguments, ForAsked}
 use Rattle.miette_devices.specs.rules.Words.{IsReadAs}
 use Rattle.miette_devices.specs.declared.fault.ProgramError.{ProgramError}
 use Rattle.miette_devices.specs.declared.fault.ProgramError.TheVariants.{Usage, Memory, Description, Refused}
@@ -29,7 +29,7 @@ pub record AreBenchWords (words : List (List ℕ)) (times : ℕ) (options : List
 -- the first argument is no number, or the others are not those of `job`
 abbrev pub IsNoBenchCall : List (List ℕ) → Type 0
 IsNoBenchCall words = (times : ℕ) (options : List (List ℕ)) → AreBenchWords words times options
-    → asked_by options ≡ None
+    → parsed_arguments options ≡ None
 
 -- The property holds for the output of `bench`: the length of the text in decimal and a line feed, or 0 if nothing is
 -- rendered.

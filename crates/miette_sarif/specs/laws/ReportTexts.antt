@@ -43,7 +43,7 @@ abbrev pub rules_in : Json → List Json
 rules_in log = flat_map (λ run. list_at (codes "rules") (value_at (codes "driver") (value_at (codes "tool") run)))
     (list_at (codes "runs") log)
 
--- ---- what a result tells
+-- ---- what a result says
 
 -- an empty code counts as none
 abbrev pub TellsCode : Json → List ℕ → Type 0

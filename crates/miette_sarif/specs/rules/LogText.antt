@@ -7,7 +7,7 @@ use Rattle.miette_sarif.specs.rules.Findings.{Finding}
 use Rattle.miette_sarif.specs.rules.FindingList.{AreFindingsOf, read_findings}
 use Rattle.miette_sarif.specs.rules.Log.{ToolName, log}
 
--- The text spells the log of the reports' findings, for some answers of their sources. It denotes that value and no
+-- The text spells the log of the reports' findings, for some answers of their sources. It represents that value and no
 -- other.
 pub record IsLogOf (t : ToolName) (ts : Trees) (text : List ℕ) : Type 0 where
   pub findings : List Finding

@@ -3,7 +3,7 @@ use Rattle.std.specs.Prelude.{◌≡◌, ℕ, List, [], ◌∷◌, Option, Some,
 use Rattle.std.specs.Prelude.{option_and_then, true, false, ◌==◌, not, length}
 use Rattle.std.specs.Option.{option_map, option_map_or}
 use Rattle.miette_lsp.specs.rules.LogWords.{LogRequest, logging_of}
-use Rattle.miette_program.specs.rules.OptionWords.{asked_by}
+use Rattle.miette_program.specs.rules.OptionWords.{parsed_arguments}
 use Rattle.miette_show.specs.declared.words.Format.{Format}
 use Rattle.miette_show.specs.declared.words.Format.TheVariants.{Auto}
 pub use Rattle.miette_show.specs.rules.ValueKinds.{format_named}
@@ -99,7 +99,7 @@ requested_by words = option_map request_of (asked_for words)
 -- The arguments in front are wrong, or the options of `job` after them.
 abbrev pub IsWrong : Option ShowRequest → Type 0
 IsWrong None = Unit
-IsWrong (Some (draw from options)) = asked_by options ≡ None
+IsWrong (Some (draw from options)) = parsed_arguments options ≡ None
 IsWrong (Some (log from asked)) = ⊥
 IsWrong (Some (fix broken)) = ⊥
 

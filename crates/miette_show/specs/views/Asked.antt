@@ -10,7 +10,7 @@ use Rattle.miette.specs.rules.Detection.{IsDetected}
 use Rattle.miette_program.specs.declared.arguments.Arguments.{Arguments}
 use Rattle.miette_program.specs.declared.language.LanguageHighlighter.{LanguageHighlighter}
 use Rattle.miette_program.specs.rules.JobText.{IsJobText}
-use Rattle.miette_program.specs.rules.OptionWords.{AreWanted}
+use Rattle.miette_program.specs.rules.OptionWords.{AreParsed}
 use Rattle.miette_protocol.specs.rules.Reading.{Source}
 use Rattle.miette_style.specs.declared.theme.Terminal.{Terminal}
 use Rattle.miette_show.specs.rules.LogCalls.{needs_places}
@@ -40,7 +40,7 @@ front_of it = record {
 -- These are the settings of options of `job` on a terminal that is detected from such variables.
 abbrev pub AreSettings : (Variables → Type 0) → List (List ℕ) → Arguments → Type 0
 AreSettings told options it = (v : Variables) × (t : Terminal) × told v × IsDetected v Stdout t
-    × AreWanted (terminal_words t ++ options) it.choice it.options it.terminal
+    × AreParsed (terminal_words t ++ options) it.choice it.options it.terminal
 
 -- The program's request is this one.
 abbrev pub IsRequest : (Variables → Type 0) → Option ShowRequest → code.ShowRequest → Type 0

@@ -1,6 +1,6 @@
 -- What the rows of a line show at their columns, and when a connector leads to a label text.
 use Rattle.std.specs.Prelude.{ℕ, ◌+◌, ◌<◌, ◌≡◌, ◌⊎◌, List, [], ◌∷◌, map, Some, ◌&&◌, if◌then◌else◌, nat_lt, nat_le}
-use Rattle.std.specs.Prelude.{drop, length}
+use Rattle.std.specs.Prelude.{◌-◌, ◌++◌, decimal, drop, length, replicate}
 use Rattle.std.specs.List.{AllByRecursion}
 use Rattle.miette_style.specs.rules.Rows.{Glyph, Row, glyphs_of, glyph_columns, glyph_of, code_at, Begins}
 use Rattle.miette_lines.specs.rules.Lines.{Line}
@@ -88,6 +88,18 @@ abbrev pub HasText : ℕ → Row → List Row → Type 0
 HasText start text [] = ⊥
 HasText start text (row ∷ rows) = Begins (glyphs_of row) start (glyphs_of text)
 
+-- what comes before the gutter of a number row: a space, the number at the right of `w` columns, and a bar
+abbrev pub number_codes : ℕ → ℕ → ℕ → List ℕ
+number_codes bar w number = 32 ∷ (replicate (w - length (decimal number)) 32 ++ decimal number ++ 32 ∷ bar ∷ 32 ∷ [])
+
+-- The first row has the line's number, a gutter of `columns` columns, and the text.
+abbrev pub IsNumbered : SnippetSettings → ℕ → ℕ → ℕ → Row → List Row → Type 0
+IsNumbered s w columns number text [] = ⊥
+IsNumbered s w columns number text (row ∷ rows) =
+    (gutter : List Glyph)
+    × (glyphs_of row ≡ map (glyph_of s.width) (number_codes s.theme.characters.vbar w number) ++ gutter ++ glyphs_of text)
+    × (glyph_columns gutter ≡ columns)
+
 -- the number of rows of label texts: one for each line of text
 abbrev pub count_text_rows : List DrawnLabel → ℕ
 count_text_rows [] = 0
@@ -104,9 +116,11 @@ abbrev pub many_rows : Line → List DrawnLabel → ℕ
 many_rows line labels =
     1 + rows_with_marks (one_line line labels) + count_text_rows (closing_labels line (multi_line line labels))
 
--- The rows of a line: its text begins at a fixed column, and connectors lead from its underlines to the label texts.
--- Each line of a label text has one row, and there are no other rows.
+-- The rows of a line: its number comes first, its text begins at a fixed column, and connectors lead from its
+-- underlines to the label texts. Each line of a label text has one row, and there are no other rows.
 pub record LineShows (c : SnippetContext) (line : Line) (number : ℕ) (pieces : List Highlight) : Type 0 where
+  pub numbered : IsNumbered c.settings c.number_width c.gutter number
+      (text_of_line c.settings c.labels line (c.cells line) pieces) (line_rows c line number pieces)
   pub text : HasText (text_start c.number_width c.gutter) (text_of_line c.settings c.labels line (c.cells line) pieces)
       (line_rows c line number pieces)
   pub marks : ShowUnderlines c.settings (text_start c.number_width c.gutter)

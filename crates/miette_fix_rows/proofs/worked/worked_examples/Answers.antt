@@ -64,3 +64,7 @@ returns-clause-overlapping c = refl
 pub returns-clause-a_pair_of_terminators : goal.returns-clause-a_pair_of_terminators
 unfolding ends_line line_of line_start line_end column_of pieces_from digits chars
 returns-clause-a_pair_of_terminators c = refl
+
+pub returns-clause-cut_lines : goal.returns-clause-cut_lines
+unfolding ends_line line_of line_start line_end column_of pieces_from digits chars
+returns-clause-cut_lines c = refl

@@ -1,4 +1,4 @@
-use Rattle.std.proofs.Common.{[], subst, sym}
+use Rattle.std.proofs.Common.{[], rules, subst, sym}
 use Rattle.miette_snippet_rules.specs.rules.Highlighting.{follows, leaves_plain}
 use Rattle.miette_tree.specs.views.Handler.{AppendsOne}
 use Rattle.miette_tree.specs.views.Report.{tree_of}
@@ -11,15 +11,13 @@ pub returns-clause-ok : goal.returns-clause-ok
 returns-clause-ok g c =
     let may = g.H.Highlighter.may_follow in
     let is_blank = g.H.Highlighter.is_blank in
-    let s = handler_settings c.args.settings.now in
-    let tree = tree_of g.D.Diagnostic.meaning g.S.SourceCode.source c.args.report.now in
     let was = c.args.highlighter.now in
-    let after = c.push_report-printed.new.painter.highlighter in
-    let printed = c.push_report-printed.new.painter.out in
+    let after = c.push_report-printed.new.painter.highlighter.now in
+    let tree = tree_of g.D.Diagnostic.meaning g.S.SourceCode.source c.args.report.now in
+    let s = handler_settings c.args.settings.now in
     let by = printing s (leaves_plain is_blank was) (follows may was) (follows may after) in
+    let printed = c.push_report-printed.new.painter.out in
     let drawn : AppendsOne (IsOutermost tree by) [] printed =
-    subst (λ h. AppendsOne (IsOutermost tree (printing s (leaves_plain is_blank h) (follows may h) (follows may after)))
-    [] printed) c.take.ensures.value
-    (subst (λ o. AppendsOne (IsOutermost tree (printing s (leaves_plain is_blank c.take.result)
-    (follows may c.take.result) (follows may after))) o printed) c.for_text.ensures c.in_ok-printed.ensures.ok) in
-    subst (λ x. IsOutermost tree by x) (sym drawn.appended) drawn.is_given
+    subst (λ o. AppendsOne (IsOutermost tree by) o printed) c.for_text.ensures c.in_ok-printed.ensures.ok in
+    subst (λ h. IsOutermost tree (printing s (leaves_plain is_blank was) (follows may was) (follows may h)) printed)
+    {x = after} (search rules) (subst (λ x. IsOutermost tree by x) (sym drawn.appended) drawn.is_given)

@@ -30,7 +30,7 @@ use Rattle.miette_graphical.proofs.report.+report.Goals as goal
 use Rattle.miette_graphical_rules.specs.steps.PrintedParts.{printed_inner, printed_one}
 
 pub push_causes-loop-next-init : goal.push_causes-loop-next-init
-push_causes-loop-next-init g t c = (all_remain _ _ _ _, (refl, refl))
+push_causes-loop-next-init g t c = (all_remain _ _ _ _, (refl, refl, refl))
 
 pub push_causes-push_one_cause-requires : goal.push_causes-push_one_cause-requires
 push_causes-push_one_cause-requires g t c =
@@ -73,8 +73,8 @@ push_causes-returns-clause-ok g t c =
     let now = c.loop-next.painter in
     let new = c.push_cause_texts.new.painter in
     let s = settings_of old in
-    let blank = leaves_plain is_blank old.highlighter in
-    let was : List Call → Type 0 = follows may now.highlighter in
+    let blank = leaves_plain is_blank old.highlighter.now in
+    let was : List Call → Type 0 = follows may now.highlighter.now in
     let outer = c.args.outer in
     let inherited = opt_ref_source g.S.SourceCode.source c.args.inherited in
     let all = cause_of (tree_of g.D.Diagnostic.meaning g.S.SourceCode.source c.args.report.now) in
@@ -124,13 +124,13 @@ inner_text-returns-clause-ok g t c =
     let is_blank = g.H.Highlighter.is_blank in
     let may = g.H.Highlighter.may_follow in
     let old = c.args.painter.now in
-    let after = c.inner_runs-text.new.painter.highlighter in
+    let after = c.inner_runs-text.new.painter.highlighter.now in
     let s = settings_of old in
     let source = opt_ref_source g.S.SourceCode.source c.args.source in
     let value = tree_of g.D.Diagnostic.meaning g.S.SourceCode.source c.args.report.now in
     IfOk-weaker c.inner_runs-text.result _ _ (λ r h.
-    subst (λ w. IsInner source value (printing (record s { width = w }) (leaves_plain is_blank old.highlighter)
-    (follows may old.highlighter) (follows may after)) (spell r)) c.in_ok-width.ensures
+    subst (λ w. IsInner source value (printing (record s { width = w }) (leaves_plain is_blank old.highlighter.now)
+    (follows may old.highlighter.now) (follows may after)) (spell r)) c.in_ok-width.ensures
     (h (c.replace-out.ensures.after ∙ c.for_runs.ensures))) c.inner_runs-text.ensures.ok
 
 -- the width is the outer one again
@@ -138,6 +138,7 @@ pub inner_text-returns-clause-keeps : goal.inner_text-returns-clause-keeps
 inner_text-returns-clause-keeps g t c = (
   ap {A = GraphicalSettings} (λ s. record s { width = c.args.painter.now.width }) c.inner_runs-text.ensures.keeps.0,
   c.inner_runs-text.ensures.keeps.1,
+  c.inner_runs-text.ensures.keeps.2,
 )
 
 pub inner_runs-returns-clause-ok : goal.inner_runs-returns-clause-ok
@@ -152,7 +153,7 @@ inner_runs-returns-clause-ok g t c = λ n.
     inner_whole (printing_of is_blank may old new) source value old.out
     (old.out ++ print (header (settings_of old) (head value))) told.out new.out
     (spell c.in_ok-runs_without_leading.field-0) n refl c.in_ok-push_header_and_message.ensures.text
-    (paints_after is_blank may (IsBodyAndRelated source value) old old told new (refl, refl)
+    (paints_after is_blank may (IsBodyAndRelated source value) old old told new (refl, refl, refl)
     c.push_header_and_message.ensures.stays
     c.in_ok-push_body_and_related.ensures.ok) (c.in_ok-runs_without_leading.ensures
     ∙ ap trim_leading_feeds c.replace-text.ensures.value)
@@ -241,7 +242,7 @@ push_nested-returns-clause-ok g t c =
     })
 
 pub push_related-loop-rest-init : goal.push_related-loop-rest-init
-push_related-loop-rest-init g t c = (all_remain _ _ _ _, (refl, refl))
+push_related-loop-rest-init g t c = (all_remain _ _ _ _, (refl, refl, refl))
 
 pub push_related-push_one_related-requires : goal.push_related-push_one_related-requires
 push_related-push_one_related-requires g t c =
@@ -314,5 +315,5 @@ push_related-returns-clause-ok g t c =
     let rest = c.loop-rest.rest.now in
     all_printed is_blank may (related_under outer inherited) old now now (trees (map value c.args.reports.now))
     (trees (map value rest)) c.loop-rest.invariant (refl, refl)
-    (no_related_after (settings_of old) (leaves_plain is_blank old.highlighter) (follows may now.highlighter) outer
+    (no_related_after (settings_of old) (leaves_plain is_blank old.highlighter.now) (follows may now.highlighter.now) outer
     inherited value rest now.out c.in_default.len_below)

@@ -14,8 +14,8 @@ use Rattle.miette_graphical.proofs.sources.push_label_rows.Goals as goal
 pub returns-in_err-page-clause-refused : goal.returns-in_err-page-clause-refused
 returns-in_err-page-clause-refused g c = λ h.
     let u = settings_of c.args.painter.now in
-    let s = settings_with u c.args.themed.now in
-    let was = c.args.painter.now.highlighter in
+    let s = settings_with u c.args.drawn_with.now in
+    let was = c.args.painter.now.highlighter.now in
     let blank = leaves_plain g.H.Highlighter.is_blank was in
     let source = ref_source g.S.SourceCode.source c.args.source in
     let happen = AreCallsOn g.H.Highlighter.may_follow was c.snippets.new.highlighter in
@@ -27,8 +27,8 @@ returns-in_err-page-clause-refused g c = λ h.
 pub returns-clause-ok : goal.returns-clause-ok
 returns-clause-ok g c =
     let u = settings_of c.args.painter.now in
-    let s = settings_with u c.args.themed.now in
-    let was = c.args.painter.now.highlighter in
+    let s = settings_with u c.args.drawn_with.now in
+    let was = c.args.painter.now.highlighter.now in
     let blank = leaves_plain g.H.Highlighter.is_blank was in
     let source = ref_source g.S.SourceCode.source c.args.source in
     let happen = AreCallsOn g.H.Highlighter.may_follow was c.snippets.new.highlighter in

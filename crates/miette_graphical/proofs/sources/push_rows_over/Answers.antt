@@ -12,9 +12,9 @@ pub returns-in-empty-clause-ok : goal.returns-in-empty-clause-ok
 returns-in-empty-clause-ok g c =
     let old = c.args.painter.now in
     let by = printing_of g.H.Highlighter.is_blank g.H.Highlighter.may_follow old old in
-    let s = settings_with (settings_of old) c.args.themed.now in
+    let s = settings_with (settings_of old) c.args.drawn_with.now in
     let source = ref_source g.S.SourceCode.source c.args.source in
     let labels = c.args.labels.now in
     nothing_after (IsSourceDrawn s (labelled (Some source) labels) by) old.out
-    (drawn_unlabelled by.settings s by.blank (follows g.H.Highlighter.may_follow old.highlighter) source labels
+    (drawn_unlabelled by.settings s by.blank (follows g.H.Highlighter.may_follow old.highlighter.now) source labels
     (empty_list labels c.in-empty.len_below))

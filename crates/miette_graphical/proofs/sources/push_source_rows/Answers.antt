@@ -11,8 +11,8 @@ pub returns-in-None-clause-ok : goal.returns-in-None-clause-ok
 returns-in-None-clause-ok g c =
     let old = c.args.painter.now in
     let by = printing_of g.H.Highlighter.is_blank g.H.Highlighter.may_follow old old in
-    let s = settings_with (settings_of old) c.args.themed.now in
+    let s = settings_with (settings_of old) c.args.drawn_with.now in
     let labels = c.args.labels.now in
     nothing_after (IsSourceDrawn s (labelled (opt_ref_source g.S.SourceCode.source c.args.source) labels) by) old.out
     (subst (λ o. IsSourceDrawn s (labelled (opt_ref_source g.S.SourceCode.source o) labels) by []) (sym c.in-None.is)
-    (drawn_nowhere by.settings s by.blank (follows g.H.Highlighter.may_follow old.highlighter) labels))
+    (drawn_nowhere by.settings s by.blank (follows g.H.Highlighter.may_follow old.highlighter.now) labels))

@@ -8,5 +8,5 @@ pub returns : goal.returns
 returns c =
     let fixes = c.args.fixes.now in
     on_ok_weaker c.push_fix_items.result (some_fixes fixes _ _ _
-    (eqb-false (length fixes) 0 (sym c.is_empty.ensures ∙ c.if-is_empty.false)) c.in_ok-push_list_key.ensures)
+    (eqb-false (length fixes) 0 (sym c.is_empty.ensures ∙ c.if-is_empty.false)) c.in_ok-key.ensures)
     c.push_fix_items.ensures

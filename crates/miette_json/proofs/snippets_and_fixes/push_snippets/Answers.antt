@@ -9,5 +9,5 @@ pub returns : goal.returns
 returns g c =
     let sections = c.args.sections.now in
     on_ok_weaker c.push_sections.result (some_snippets (section_of g.S.SourceCode.source) sections _ _ _
-    (eqb-false (length sections) 0 (sym c.is_empty.ensures ∙ c.if-is_empty.false)) c.in_ok-push_list_key.ensures)
+    (eqb-false (length sections) 0 (sym c.is_empty.ensures ∙ c.if-is_empty.false)) c.in_ok-key.ensures)
     c.push_sections.ensures

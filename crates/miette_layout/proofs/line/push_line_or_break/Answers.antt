@@ -38,11 +38,10 @@ cut_by context cells ms = option_map (map measure) (cut_line (dots_width (settin
 pub push_underline_rows-requires : goal.push_underline_rows-requires
 push_underline_rows-requires g c =
     let context = c.args.context.now in
-    let shown = c.args.shown.now in
-    let cells : List Cell = shown_cells context shown in
-    let own : List Underline = marks (text_of_cells cells context.line.text_end) (labels_alone context shown) in
+    let cells : List Cell = shown_cells context in
+    let own : List Underline = marks (text_of_cells cells context.line.text_end) (labels_alone context) in
     let o : Option (List LinePart) = line_cut (settings context) (line_of_text context.line) cells
-    (labels_alone context shown) (multi_labels context) in
+    (labels_alone context) (multi_labels context) in
     let made : option_map (λ v. v.items) c.in_ok-cut.cut ≡ option_map (map measure) o =
     c.in_ok-cut.ensures ∙ ap (λ ms. cut_by context cells (map underline_of ms)) c.deref.ensures.value
     ∙ ap (cut_by context cells) c.in_ok-whole.ensures.marks in
@@ -53,14 +52,13 @@ push_underline_rows-requires g c =
 pub returns : goal.returns
 returns g c =
     let context = c.args.context.now in
-    let shown = c.args.shown.now in
-    let cells : List Cell = shown_cells context shown in
-    let pieces : List Highlight = map highlight_of shown.pieces.now in
-    let own : List Underline = marks (text_of_cells cells context.line.text_end) (labels_alone context shown) in
+    let cells : List Cell = shown_cells context in
+    let pieces : List Highlight = map highlight_of context.pieces.now in
+    let own : List Underline = marks (text_of_cells cells context.line.text_end) (labels_alone context) in
     let many : ℕ = dots_width (settings context).theme.characters in
     let o : Option (List LinePart) = line_cut (settings context) (line_of_text context.line) cells
-    (labels_alone context shown) (multi_labels context) in
-    let kept : shown.left_out ≡ false = search rules in
+    (labels_alone context) (multi_labels context) in
+    let kept : c.args.left_out ≡ false = search rules in
     let drawn : List Underline → List Row = λ ms. before_each (before_underlines context)
     (underline_rows (settings context) ms) in
     let made : option_map (λ v. v.items) c.in_ok-cut.cut ≡ option_map (map measure) o =
@@ -70,24 +68,24 @@ returns g c =
     ≡ shown_runs (dots (settings context).theme) o pieces cells =
     ap (λ x. made_runs (dots (settings context).theme) x pieces cells) made
     ∙ shown_made (dots (settings context).theme) many (settings context).layout.line_columns
-    (cut_ends (line_of_text context.line) cells (labels_alone context shown) (multi_labels context)) cells pieces in
+    (cut_ends (line_of_text context.line) cells (labels_alone context) (multi_labels context)) cells pieces in
     let moved : map underline_of c.in_ok-marks.marks.items ≡ row_underlines many o own = c.in_ok-marks.ensures o made
     ∙ ap (row_underlines c.dots_width-dots.result o) c.in_ok-whole.ensures.marks
     ∙ ap (λ n. row_underlines n o own) c.dots_width-dots.ensures in
     on_ok_weaker c.push_end_texts.result (λ h.
-    line_put (number_row context shown (shown_runs (dots (settings context).theme) o pieces cells))
+    line_put (number_row context (shown_runs (dots (settings context).theme) o pieces cells))
     (drawn (row_underlines many o own))
     (before_each (other_start (settings context) context.frame.number_width)
     (closing_rows (settings context) (line_of_text context.line) context.gutter
     (multi_labels context) (closing_labels (line_of_text context.line) (multi_labels context))))
     c.args.page.now c.push_number_row.new.page c.push_underline_rows.new.page c.push_end_texts.new.page
-    (c.in_ok-push_number_row.ensures ∙ ap (λ runs. c.args.page.now ⊕ rows_tokens (number_row context shown runs ∷ []))
+    (c.in_ok-push_number_row.ensures ∙ ap (λ runs. c.args.page.now ⊕ rows_tokens (number_row context runs ∷ []))
     text)
     (c.in_ok-push_underline_rows.ensures ∙ ap (λ ms. c.push_number_row.new.page
     ⊕ rows_tokens (drawn (map underline_of ms))) c.deref-2.ensures.value
     ∙ ap (λ ms. c.push_number_row.new.page ⊕ rows_tokens (drawn ms)) moved)
     h
-    ∙ ap (λ out. c.args.page.now ⊕ rows_tokens (line_or_break_of shown.gap out
+    ∙ ap (λ out. c.args.page.now ⊕ rows_tokens (line_or_break_of c.args.gap out
     (line_in (settings context) context.frame.number_width context.gutter (line_of_text context.line)
     (multi_labels context))
-    (line_shown shown.number (labels_alone context shown) cells pieces))) (sym kept)) c.push_end_texts.ensures
+    (line_shown context.number (labels_alone context) cells pieces))) (sym kept)) c.push_end_texts.ensures

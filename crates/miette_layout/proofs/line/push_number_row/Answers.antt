@@ -16,11 +16,11 @@ pub returns : goal.returns
 returns g c =
     let context = c.args.context.now in
     on_ok_weaker c.end_row.result (λ h.
-    number_row_put (number_start (settings context) context.frame.number_width c.args.shown.now.number)
+    number_row_put (number_start (settings context) context.frame.number_width context.number)
     (number_gutter (settings context) (line_of_text context.line) context.gutter
     (multi_labels context))
     (made_runs (dots (settings context).theme) (option_map (λ made. made.items) c.args.cut.now)
-    (map highlight_of c.args.shown.now.pieces.now) (text_cells c.args.text.now))
+    (map highlight_of context.pieces.now) (text_cells c.args.text.now))
     c.args.page.now c.push_number_start.new.page c.push_gutter.new.page c.push_shown_text.new.page
     c.end_row.new.self
     c.in_ok-push_number_start.ensures c.in_ok-push_gutter.ensures c.in_ok-push_shown_text.ensures

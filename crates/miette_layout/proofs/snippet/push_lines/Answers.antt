@@ -53,8 +53,8 @@ loop-at-init g c =
       stays = refl;
     }
 
-pub enter_line-requires-clause-at : goal.enter_line-requires-clause-at
-enter_line-requires-clause-at g c =
+pub enter-requires-clause-at : goal.enter-requires-clause-at
+enter-requires-clause-at g c =
     subst (λ (n : ℕ). IsAt c.args.labels.now n c.loop-at.sweep.next c.loop-at.sweep.running.items)
     (sym c.line_at-line.ensures.from) c.loop-at.invariant.state
 
@@ -84,13 +84,9 @@ leaves_out-left_out-requires-clause-there g c =
 pub skip_lines-requires-clause-at : goal.skip_lines-requires-clause-at
 skip_lines-requires-clause-at g c =
     rw c.leave.ensures.next
-    (left_at c.args.labels.now (record {
-      start = c.line_at-line.result.start;
-      after =
-          c.line_at-line.result.end;
-    }) c.enter_line.new.sweep.next c.enter_line.new.sweep.running.items
+    (left_at c.args.labels.now (line_of_text c.line_at-line.result) c.enter.new.self.next c.enter.new.self.running.items
     c.leave.new.self.running.items
-    c.requires.sorted c.line_at-line.ensures.some c.in_ok-enter_line.ensures.on c.leave.ensures.running)
+    c.requires.sorted c.line_at-line.ensures.some c.in_ok-enter.ensures.on c.leave.ensures.running)
 
 pub overflow_sub-at : goal.overflow_sub-at
 overflow_sub-at g c =
@@ -161,8 +157,8 @@ loop-at-preserved g c =
     c.loop-at.at c.in_ok-number.number c.line_at-line.result
     c.deref-in-loop-at.result.now c.deref.result.now (map highlight_of c.deref-in-loop-at-2.result.now)
     c.args.page.now c.loop-at.page c.push_line_or_break.new.page lined leaves c.line_at-line.ensures.parted low
-    (c.deref-in-loop-at.ensures.value ∙ c.in_ok-enter_line.ensures.alone)
-    (c.deref.ensures.value ∙ c.in_ok-enter_line.ensures.on.multi) own
+    (c.deref-in-loop-at.ensures.value ∙ c.in_ok-enter.ensures.alone)
+    (c.deref.ensures.value ∙ c.in_ok-enter.ensures.on.multi) own
     (call_for was now text c.deref-in-loop-at-2.result.now c.in_ok-pieces.pieces.items
     c.deref-in-loop-at-2.ensures.value c.in_ok-pieces.ensures.calls)
     c.in_ok-push_line_or_break.ensures in

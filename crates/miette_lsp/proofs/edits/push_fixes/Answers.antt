@@ -1,20 +1,19 @@
-use Rattle.std.proofs.Common.{◌+◌, ap, drop, map}
+use Rattle.std.proofs.Common.{ap, map, ◌∙◌}
+use Rattle.std.proofs.lemmas.Result.{on_ok_weaker}
+use Rattle.miette_json.specs.rules.Writing.{closed, opened}
+use Rattle.miette_lsp.specs.rules.Diagnostics.{lsp_fix_value}
+use Rattle.miette_sarif.proofs.Pieces.{fixes_listed}
+use Rattle.miette_sarif.specs.steps.Members.{with_texts}
 use Rattle.miette_sarif.specs.views.Artifacts.{artifacts_view}
 use Rattle.miette_sarif.specs.views.Findings.{applicable_fix_of, texts_of}
-use Rattle.miette_sarif.specs.views.Values.{json_of, values_of}
-use Rattle.miette_sarif.proofs.Gathers.{next_in}
-use Rattle.miette_sarif.proofs.Keys.{first_added}
-use Rattle.miette_lsp.specs.rules.Diagnostics.{lsp_fix_value}
 use Rattle.miette_lsp.proofs.edits.push_fixes.Goals as goal
 
-pub loop-fix-preserved : goal.loop-fix-preserved
-loop-fix-preserved c =
-    let l = c.loop-fix in
-    let value = lsp_fix_value (artifacts_view c.args.artifacts.now).untitled in
-    first_added (values_of l.list.items) (values_of c.push_unique_value.new.list.items) (texts_of l.spelled.keys)
-    (texts_of c.push_unique_value.new.spelled.keys) (json_of c.in_ok-value.value) _
-    (map value (map applicable_fix_of (drop l.fix-index c.args.fixes.now)))
-    (map value (map applicable_fix_of (drop (l.fix-index + 1) c.args.fixes.now))) _
-    c.in_ok-push_unique_value.ensures.values c.in_ok-push_unique_value.ensures.texts c.in_ok-value.ensures
-    (ap (map value) (next_in applicable_fix_of c.args.fixes.now l.fix-index c.fix-item.result c.loop-fix-test.true
-    c.fix-item.is)) l.invariant
+pub returns : goal.returns
+returns c =
+    let untitled = (artifacts_view c.args.artifacts.now).untitled in
+    let all = map (lsp_fix_value untitled) (map applicable_fix_of c.args.fixes.now) in
+    let start = opened 91 c.args.json.now in
+    on_ok_weaker c.push_texts.result (λ put. put
+    ∙ ap (λ ts. closed 93 (with_texts (texts_of ts) start)) c.as_slice.ensures.keys
+    ∙ ap (closed 93) (fixes_listed (texts_of c.insert_fixes.new.texts.keys) (texts_of c.new-texts.result.keys) all start
+    (ap texts_of c.new-texts.ensures.empty) c.in_ok-insert_fixes.ensures)) c.push_texts.ensures

@@ -9,9 +9,9 @@ pub returns : goal.returns
 returns g c =
     let words = map string_bytes c.args.words.now in
     let end = subst (λ d. IsJobEnd (IsNoBenchCall words) (drop 1 words) (g.R.Read.remaining d)
-    c.run_from_arguments-work.result)
-    c.new-reader.ensures.inner c.run_from_arguments-work.ensures.end in
+    c.run_bench-work.result)
+    c.new-reader.ensures.inner c.run_bench-work.ensures.end in
     record {
-      status = job-status (status_of Bench) (λ f. refl) _ _ _ c.run_from_arguments-work.result _ end
+      status = job-status (status_of Bench) (λ f. refl) _ _ _ c.run_bench-work.result _ end
           c.finish.ensures;
     }

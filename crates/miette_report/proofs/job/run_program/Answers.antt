@@ -1,6 +1,6 @@
 use Rattle.std.proofs.Common.{◌≡◌, Some, map, rules, string_bytes, subst}
 use Rattle.std.specs.Io.KnownBytes.{Appends}
-use Rattle.miette_program.specs.steps.AskedWords.{asked_of}
+use Rattle.miette_program.specs.steps.ParsedArguments.{parsed_of}
 use Rattle.miette_report.specs.rules.Requests.{IsProgramStatus, report, requested_by}
 use Rattle.miette_report.proofs.RequestSteps.{report-status, words-failed}
 use Rattle.miette_report.proofs.job.run_program.Goals as goal
@@ -9,7 +9,7 @@ pub returns-in-Ok-Report : goal.returns-in-Ok-Report
 returns-in-Ok-Report g c =
     let words = map string_bytes c.args.words.now in
     let it = c.in-Ok-Report.settings in
-    let asked : requested_by words ≡ Some (report (asked_of it)) = search rules in
+    let asked : requested_by words ≡ Some (report (parsed_of it)) = search rules in
     record {
       status = subst (λ d. IsProgramStatus words (g.R.Read.remaining d) c.finish.result) c.new-reader.ensures.inner
           (report-status _ words it _

@@ -1,21 +1,18 @@
-use Rattle.std.proofs.Common.{ap, string_bytes, sym, ◌++◌, ◌∙◌}
+use Rattle.std.proofs.Common.{ap, codes, sym, ◌∙◌}
 use Rattle.std.proofs.lemmas.Result.{on_ok_weaker}
-use Rattle.std.specs.Prelude.{codes, option_map}
-use Rattle.std.specs.Option.{option_copied}
-use Rattle.json.specs.Print.{escape_byte}
+use Rattle.std.specs.Option.{option_copied, option_map}
 use Rattle.miette_json.specs.rules.Json.{string}
-use Rattle.miette_sarif.specs.rules.Objects.{optional_text_pairs, pair}
+use Rattle.miette_json.specs.rules.Writing.{with_key, with_value}
+use Rattle.miette_sarif.specs.rules.Objects.{optional_text_pairs}
 use Rattle.miette_sarif.specs.rules.Uris.{address_uri}
-use Rattle.miette_sarif.specs.steps.Members.{further}
-use Rattle.miette_sarif.proofs.Growing.{text_put}
+use Rattle.miette_sarif.specs.steps.Members.{with_pairs}
 use Rattle.miette_sarif.proofs.log.push_information.Goals as goal
 
 pub returns-in_ok-uri-in-Some : goal.returns-in_ok-uri-in-Some
-unfolding escape_byte
 returns-in_ok-uri-in-Some c =
-    let old = string_bytes c.args.out.now in
-    on_ok_weaker c.push_string.result (λ put. text_put (codes "informationUri") c.as_str.result.now old _ put
-    ∙ ap (λ t. old ++ further (pair (codes "informationUri") (string t)))
+    let old = c.args.json.now in
+    on_ok_weaker c.string_member.result (λ put. put
+    ∙ ap (λ t. with_value (string t) (with_key (codes "informationUri") old))
     (c.as_str.ensures.value ∙ c.in_ok-uri-in-Some.ensures)
-    ∙ ap (λ o. old ++ further (optional_text_pairs (codes "informationUri") (option_map address_uri (option_copied o))))
-    (sym c.in-Some.is)) c.push_string.ensures
+    ∙ ap (λ o. with_pairs (optional_text_pairs (codes "informationUri") (option_map address_uri (option_copied o))) old)
+    (sym c.in-Some.is)) c.string_member.ensures

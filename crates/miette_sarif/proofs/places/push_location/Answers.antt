@@ -1,25 +1,18 @@
-use Rattle.std.proofs.Common.{ap, string_bytes, sym, ◌++◌, ◌∙◌}
+use Rattle.std.proofs.Common.{ap, ◌++◌, ◌∙◌}
 use Rattle.std.proofs.lemmas.Result.{on_ok_weaker}
-use Rattle.std.specs.Option.{option_map}
-use Rattle.miette_json.specs.rules.Json.{json_text}
-use Rattle.miette_sarif.specs.rules.Objects.{object_of}
+use Rattle.miette_json.specs.rules.Writing.{closed}
+use Rattle.miette_sarif.proofs.Pieces.{located_put}
 use Rattle.miette_sarif.specs.rules.Places.{place_pairs, text_pairs}
+use Rattle.miette_sarif.specs.steps.Members.{with_pairs}
 use Rattle.miette_sarif.specs.views.Artifacts.{artifacts_view}
-use Rattle.miette_sarif.specs.views.Findings.{place_of}
+use Rattle.miette_sarif.specs.views.Findings.{mark_of}
 use Rattle.miette_sarif.proofs.places.push_location.Goals as goal
 
-pub returns-in-Some : goal.returns-in-Some
-returns-in-Some c =
+pub returns : goal.returns
+returns c =
     let a = artifacts_view c.args.artifacts.now in
-    let text = c.args.mark.now.text.now in
-    on_ok_weaker c.push_placed.result (λ put. put ∙ ap (λ o. string_bytes c.args.out.now
-    ++ json_text (object_of (place_pairs a (option_map place_of o) ++ text_pairs text))) (sym c.in-Some.is))
-    c.push_placed.ensures
-
-pub returns-in-None : goal.returns-in-None
-returns-in-None c =
-    let a = artifacts_view c.args.artifacts.now in
-    let text = c.args.mark.now.text.now in
-    on_ok_weaker c.push_unplaced.result (λ put. put ∙ ap (λ o. string_bytes c.args.out.now
-    ++ json_text (object_of (place_pairs a (option_map place_of o) ++ text_pairs text))) (sym c.in-None.is))
-    c.push_unplaced.ensures
+    let m = mark_of c.args.mark.now in
+    on_ok_weaker c.end_object.result (λ put. located_put a m _ _ _ _ c.in_ok-push_further_place.ensures
+    c.in_ok-push_further_text.ensures put
+    ∙ ap (λ p. closed 125 (with_pairs (place_pairs a m.place ++ text_pairs m.text) p)) c.in_ok-begin_object.ensures)
+    c.end_object.ensures

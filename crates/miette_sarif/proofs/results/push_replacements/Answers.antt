@@ -1,28 +1,28 @@
-use Rattle.std.proofs.Common.{◌+◌, ap, arith, drop, map, string_bytes}
+use Rattle.std.proofs.Common.{ap, arith, drop, map, ◌+◌}
 use Rattle.std.proofs.lemmas.Result.{on_ok_weaker}
+use Rattle.miette_json.proofs.WrittenSteps.{item_put, list_put}
+use Rattle.miette_sarif.proofs.Gathers.{next_in, none_in}
 use Rattle.miette_sarif.specs.rules.Objects.{items_of}
 use Rattle.miette_sarif.specs.rules.Results.{replacement}
 use Rattle.miette_sarif.specs.views.Findings.{replacement_value_of}
-use Rattle.miette_sarif.proofs.Gathers.{next_in, none_in}
-use Rattle.miette_sarif.proofs.Growing.{item_put, items_end}
 use Rattle.miette_sarif.proofs.results.push_replacements.Goals as goal
 
 pub loop-item-preserved : goal.loop-item-preserved
 loop-item-preserved c =
     let l = c.loop-item in
     let list = c.args.list.now in
-    item_put l.first (items_of (map replacement (map replacement_value_of (drop l.item-index list))))
+    item_put (items_of (map replacement (map replacement_value_of (drop l.item-index list))))
     (items_of (map replacement (map replacement_value_of (drop (l.item-index + 1) list))))
-    (replacement (replacement_value_of c.item-item.result)) (string_bytes l.out) (string_bytes c.push_comma.new.out)
-    (string_bytes c.push_replacement.new.out) _
+    (replacement (replacement_value_of c.item-item.result)) l.json c.push_replacement.new.json _
     (ap (λ rs. items_of (map replacement rs)) (next_in replacement_value_of list l.item-index c.item-item.result
-    c.loop-item-test.true c.item-item.is)) c.in_ok-push_comma.ensures c.in_ok-push_replacement.ensures l.invariant
+    c.loop-item-test.true c.item-item.is)) c.in_ok-push_replacement.ensures l.invariant
 
 pub returns : goal.returns
 returns c =
     let l = c.loop-item in
     let list = c.args.list.now in
-    on_ok_weaker c.push_plain.result (λ put. items_end l.first (items_of (map replacement
-    (map replacement_value_of (drop l.item-index list)))) (string_bytes l.out) _ _
-    (ap (λ rs. items_of (map replacement rs))
-    (none_in replacement_value_of list l.item-index (omega arith))) put l.invariant) c.push_plain.ensures
+    on_ok_weaker c.end_list.result (list_put (items_of (map replacement
+    (map replacement_value_of (drop l.item-index list))))
+    (items_of (map replacement (map replacement_value_of list))) c.args.json.now l.json _
+    (ap (λ rs. items_of (map replacement rs)) (none_in replacement_value_of list l.item-index (omega arith)))
+    l.invariant) c.end_list.ensures

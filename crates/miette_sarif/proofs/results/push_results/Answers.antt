@@ -1,12 +1,12 @@
-use Rattle.std.proofs.Common.{◌+◌, ap, arith, drop, string_bytes}
+use Rattle.std.proofs.Common.{ap, arith, drop, ◌+◌}
 use Rattle.std.proofs.lemmas.Result.{on_ok_weaker}
+use Rattle.miette_json.proofs.WrittenSteps.{item_put, list_put}
+use Rattle.miette_sarif.proofs.Gathers.{next_in, none_in}
 use Rattle.miette_sarif.specs.rules.Objects.{items_of}
 use Rattle.miette_sarif.specs.rules.Results.{result_of, results}
 use Rattle.miette_sarif.specs.views.Artifacts.{artifacts_view}
 use Rattle.miette_sarif.specs.views.Findings.{finding_of, sarif_findings_of}
 use Rattle.miette_sarif.specs.views.Rules.{rules_view}
-use Rattle.miette_sarif.proofs.Gathers.{next_in, none_in}
-use Rattle.miette_sarif.proofs.Growing.{item_put, items_end}
 use Rattle.miette_sarif.proofs.results.push_results.Goals as goal
 
 pub loop-finding-preserved : goal.loop-finding-preserved
@@ -15,12 +15,11 @@ loop-finding-preserved c =
     let r = rules_view c.args.rules.now in
     let a = artifacts_view c.args.artifacts.now in
     let found = c.args.findings.now in
-    item_put l.first (items_of (results r a (sarif_findings_of (drop l.finding-index found))))
+    item_put (items_of (results r a (sarif_findings_of (drop l.finding-index found))))
     (items_of (results r a (sarif_findings_of (drop (l.finding-index + 1) found))))
-    (result_of r a (finding_of c.finding-item.result)) (string_bytes l.out) (string_bytes c.push_comma.new.out)
-    (string_bytes c.push_result.new.out) _
+    (result_of r a (finding_of c.finding-item.result)) l.json c.push_result.new.json _
     (ap (λ fs. items_of (results r a fs)) (next_in finding_of found l.finding-index c.finding-item.result
-    c.loop-finding-test.true c.finding-item.is)) c.in_ok-push_comma.ensures c.in_ok-push_result.ensures l.invariant
+    c.loop-finding-test.true c.finding-item.is)) c.in_ok-push_result.ensures l.invariant
 
 pub returns : goal.returns
 returns c =
@@ -28,6 +27,6 @@ returns c =
     let r = rules_view c.args.rules.now in
     let a = artifacts_view c.args.artifacts.now in
     let found = c.args.findings.now in
-    on_ok_weaker c.push_plain.result (λ put. items_end l.first (items_of (results r a
-    (sarif_findings_of (drop l.finding-index found)))) (string_bytes l.out) _ _ (ap (λ fs. items_of (results r a fs))
-    (none_in finding_of found l.finding-index (omega arith))) put l.invariant) c.push_plain.ensures
+    on_ok_weaker c.end_list.result (list_put (items_of (results r a (sarif_findings_of (drop l.finding-index found))))
+    (items_of (results r a (sarif_findings_of found))) c.args.json.now l.json _ (ap (λ fs. items_of (results r a fs))
+    (none_in finding_of found l.finding-index (omega arith))) l.invariant) c.end_list.ensures

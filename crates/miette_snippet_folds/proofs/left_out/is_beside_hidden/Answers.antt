@@ -7,12 +7,12 @@ use Rattle.miette_snippet_folds.proofs.left_out.is_beside_hidden.Goals as goal
 
 pub returns-then-gap : goal.returns-then-gap
 returns-then-gap c = λ labels among before own.
-    let it = c.args.at.now in
-    beside_before c.args.limit (lines_of_bytes it) _ (map extent_view labels) it.place (line_of_text it.line) c.args.gap
+    let it = c.args.lines.now in
+    beside_before c.args.limit (lines_of_bytes it) _ (map extent_view labels) c.args.place (line_of_text c.args.line.now) c.args.gap
     c.requires.there before own c.if-gap.true
 
 pub returns : goal.returns
 returns c = λ labels among before own.
-    let it = c.args.at.now in
-    beside_after c.args.limit (lines_of_bytes it) _ (map extent_view labels) it.place (line_of_text it.line) c.args.gap
+    let it = c.args.lines.now in
+    beside_after c.args.limit (lines_of_bytes it) _ (map extent_view labels) c.args.place (line_of_text c.args.line.now) c.args.gap
     c.is_next_hidden.result c.requires.there before own c.if-gap.false (c.is_next_hidden.ensures labels among)

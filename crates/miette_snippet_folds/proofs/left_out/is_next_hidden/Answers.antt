@@ -7,17 +7,17 @@ use Rattle.miette_snippet_rules.proofs.NeverHidden.{none_hidden}
 use Rattle.miette_snippet_folds.proofs.HiddenLines.{next_is, none_is}
 use Rattle.miette_snippet_folds.proofs.left_out.is_next_hidden.Goals as goal
 
-pub returns-then-after-at : goal.returns-then-after-at
-returns-then-after-at c = λ labels among.
-    let it = c.args.at.now in
+pub returns-then-after-lines : goal.returns-then-after-lines
+returns-then-after-lines c = λ labels among.
+    let it = c.args.lines.now in
     c.is_hidden.ensures it.start it.bytes.now labels among
-    ∙ ap (is_hidden c.args.limit (lines_of_bytes it) (map extent_view labels) (it.place + 1))
-    (sym (next_is it.start it.bytes.now it.place (line_of_text it.line) (line_of_text c.line_at-next.result) _
+    ∙ ap (is_hidden c.args.limit (lines_of_bytes it) (map extent_view labels) (c.args.place + 1))
+    (sym (next_is it.start it.bytes.now c.args.place (line_of_text c.args.line.now) (line_of_text c.line_at-next.result) _
     c.requires.low c.requires.there c.line_at-next.ensures.parted))
 
 pub returns : goal.returns
 returns c = λ labels among.
-    let it = c.args.at.now in
-    sym (ap (is_hidden c.args.limit (lines_of_bytes it) (map extent_view labels) (it.place + 1))
-    (none_is it.start it.bytes.now it.place (line_of_text it.line) c.if-after-at.false c.requires.there)
-    ∙ none_hidden c.args.limit (lines_of_bytes it) (map extent_view labels) (it.place + 1))
+    let it = c.args.lines.now in
+    sym (ap (is_hidden c.args.limit (lines_of_bytes it) (map extent_view labels) (c.args.place + 1))
+    (none_is it.start it.bytes.now c.args.place (line_of_text c.args.line.now) c.if-after-lines.false c.requires.there)
+    ∙ none_hidden c.args.limit (lines_of_bytes it) (map extent_view labels) (c.args.place + 1))

@@ -13,8 +13,8 @@ pub loop-at-init : goal.loop-at-init
 loop-at-init c = counted_first c.args.labels.now c.args.start c.args.bytes.now c.args.sweep.now.next
     c.args.sweep.now.running.items c.requires.at
 
-pub enter_line-requires-clause-at : goal.enter_line-requires-clause-at
-enter_line-requires-clause-at c =
+pub enter-requires-clause-at : goal.enter-requires-clause-at
+enter-requires-clause-at c =
     subst (λ (n : ℕ). IsAt c.args.labels.now n c.loop-at.sweep.next c.loop-at.sweep.running.items)
     (sym c.line_at-line.ensures.from) c.loop-at.invariant.state
 
@@ -28,9 +28,9 @@ next_counted-next-requires c =
 pub skip_lines-requires-clause-at : goal.skip_lines-requires-clause-at
 skip_lines-requires-clause-at c =
     rw c.leave.ensures.next
-    (left_at c.args.labels.now (record { start = c.line_at-line.result.start; after = c.line_at-line.result.end })
-    c.enter_line.new.sweep.next c.enter_line.new.sweep.running.items c.leave.new.self.running.items
-    c.requires.sorted c.line_at-line.ensures.some c.in_ok-enter_line.ensures.on c.leave.ensures.running)
+    (left_at c.args.labels.now (line_of_text c.line_at-line.result)
+    c.enter.new.self.next c.enter.new.self.running.items c.leave.new.self.running.items
+    c.requires.sorted c.line_at-line.ensures.some c.in_ok-enter.ensures.on c.leave.ensures.running)
 
 pub counted_end-next-requires-clause-place : goal.counted_end-next-requires-clause-place
 counted_end-next-requires-clause-place c =
@@ -47,10 +47,10 @@ loop-at-preserved c =
       | then-counts_rest w ↦
           counted_rest c.args.labels.now c.args.start c.args.bytes.now c.loop-at.at c.loop-at.place c.loop-at.most _
           c.loop-at.sweep.next c.skip_lines.new.sweep.next
-          c.loop-at.sweep.running.items c.enter_line.new.sweep.running.items c.skip_lines.new.sweep.running.items
-          c.line_at-line.result c.enter_line.new.sweep.next c.if-counts_rest.next
+          c.loop-at.sweep.running.items c.enter.new.self.running.items c.skip_lines.new.sweep.running.items
+          c.line_at-line.result c.enter.new.self.next c.if-counts_rest.next
           c.requires.sorted c.loop-at.invariant c.line_at-line.ensures.parted (omega (arith, from, some)) some
-          c.line_at-line.ensures.to c.in_ok-enter_line.ensures.on (search rules)
+          c.line_at-line.ensures.to c.in_ok-enter.ensures.on (search rules)
           (ap (λ n. begins_before c.args.labels.now n (c.args.start + length c.args.bytes.now))
           (sym c.leave.ensures.next) ∙ w.if-counts_rest.ensures refl)
           (ap (λ (x : LineStart). x.offset) w.next-is ∙ w.counted_end-next.ensures.offset)
@@ -59,11 +59,11 @@ loop-at-preserved c =
       | else-counts_rest w ↦
           counted_more c.args.labels.now c.args.start c.args.bytes.now c.args.folds.now c.loop-at.at c.loop-at.place
           c.loop-at.most _ c.loop-at.sweep.next c.skip_lines.new.sweep.next
-          c.loop-at.sweep.running.items c.enter_line.new.sweep.running.items c.skip_lines.new.sweep.running.items
-          c.line_at-line.result c.enter_line.new.sweep.next (some_go_on c.leave.new.self.running.items)
+          c.loop-at.sweep.running.items c.enter.new.self.running.items c.skip_lines.new.sweep.running.items
+          c.line_at-line.result c.enter.new.self.next (some_go_on c.leave.new.self.running.items)
           c.if-counts_rest.next
           c.requires.sorted c.requires.folds c.loop-at.invariant c.line_at-line.ensures.parted
-          (omega (arith, from, some)) some c.line_at-line.ensures.to c.in_ok-enter_line.ensures.on (search rules)
+          (omega (arith, from, some)) some c.line_at-line.ensures.to c.in_ok-enter.ensures.on (search rules)
           (w.next-is ∙ w.next_counted-next.ensures ∙ ap (λ n. next_counted c.args.labels.now n
           (some_go_on c.leave.new.self.running.items) c.args.folds.now c.loop-at.place
           (line_of_text c.line_at-line.result))

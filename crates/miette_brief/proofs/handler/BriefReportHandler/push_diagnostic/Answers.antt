@@ -4,8 +4,8 @@ use Rattle.std.proofs.lemmas.Result.{on_ok_weaker}
 use Rattle.miette_tree.specs.rules.Tree.{cause_of, head}
 use Rattle.miette_tree.specs.views.Owned.{ref_source}
 use Rattle.miette_tree.specs.views.Report.{tree_of}
-use Rattle.miette_brief.specs.declared.form.Form.{Form}
-use Rattle.miette_brief.specs.declared.form.Form.TheVariants.{Gcc, Github}
+use Rattle.miette_brief.specs.declared.form.BriefForm.{BriefForm}
+use Rattle.miette_brief.specs.declared.form.BriefForm.TheVariants.{Gcc, Github}
 use Rattle.miette_brief.specs.rules.Report.{BriefSettings}
 use Rattle.miette_brief.specs.steps.AppendedParts.{AppendsBriefDiagnostic}
 use Rattle.miette_brief.specs.steps.WholeSources.{IsWholeIn}
@@ -15,7 +15,7 @@ use Rattle.miette_brief.proofs.handler.BriefReportHandler.push_diagnostic.Goals 
 pub push_command-requires : goal.push_command-requires
 push_command-requires g c =
     let source = option_map (ref_source g.S.SourceCode.source) c.args.source in
-    subst (λ (f : Form). IsWholeIn f source c.args.whole.now) (sym c.form.ensures ∙ c.in-Github.is) c.requires
+    subst (λ (f : BriefForm). IsWholeIn f source c.args.whole.now) (sym c.form.ensures ∙ c.in-Github.is) c.requires
 
 pub returns-in-Gcc-clause-text : goal.returns-in-Gcc-clause-text
 returns-in-Gcc-clause-text g c =
